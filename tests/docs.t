@@ -16,6 +16,7 @@
 #   has at most 180 lines, ARCHITECTURE at most 6,000 words.
 # - docs/PROVED.md has at most 2,800 words and names each law; tools/reference.pl prints each public
 #   function that tests/data/refused names.
+# - The table of calls without a path in man/pua.1 is that of tools/trace.pl.
 # - Help, usage lines, the manual pages and README have the same options, of the program and of each
 #   tool.
 #
@@ -82,6 +83,7 @@ SKIP: {
     test_claim();
     test_proved();
 }
+test_asked();
 test_options();
 test_tools();
 done_testing();
@@ -230,6 +232,21 @@ sub test_stories {
 }
 
 # ---- Manual pages
+
+# Tests that a manual page has the calls without a path, each in the row of its promises, as
+# tools/trace.pl goes by them.
+sub test_asked {
+    my ($table) = content('man/pua.1') =~ /^\.Bl -column "inet\|unix\S* "calls".*\n((?:.*\n)*?)\.El\n/m;
+    my (%shown, $asks);
+    for (split /\n/, defined $table ? $table : '') {
+        $asks = $1 if s/^\.It Cm (\S+) Ta //;
+        $shown{$_} = $asks for map { /^(\w+)/ } split /, */;
+    }
+    require "$TOP/tools/lib/Pua/Calls.pm";
+    no warnings 'once';
+    is_deeply(\%shown, { %Pua::Calls::ASKS }, 'man/pua.1 has the calls without a path');
+    return;
+}
 
 # Runs the examples of manual pages, in a folder with the listing and the script that man/pua.1
 # shows.

@@ -98,6 +98,7 @@ sub is_left_out {
     return 1 if @words && $words[0] =~ /\A(?:why|tight|how)\z/;
     my $is_ever = grep { $_ eq '--ever' } @words;
     return 1 if $is_ever && (text($entry, 'state') =~ /^exec /m || grep { /\A(?:all|\d+(?:,\d+)+)\z/ } @words);
+    return 1 if ($entry->{status} || 0) != 2 && grep { /\A\d+(?:,\d+)+\z/ } @words;
     return ($entry->{status} || 0) != 2 && grep { /\A--(?:table|why|how)/ || $is_ever && /\A--rules/ } @words;
 }
 

@@ -26,6 +26,9 @@ my ($WORLDS, $SEED) = (60, 11);
 $WORLDS = $ARGV[1] if @ARGV > 1;
 $SEED   = $ARGV[2] if @ARGV > 2;
 
+# What calls without a path ask for, by OpenBSD's rules.
+my @USES = qw(inet id unix stdio proc rpath inet|unix id|settime|rpath proc|wpath);
+
 # Of so few words all that can be left out is tried.
 my $FEW = 6;
 
@@ -92,10 +95,13 @@ sub fault_of_reach {
     return '';
 }
 
-# Whether a state is another one but for promises and letters, of which it has none more.
+# Whether a state is another one but for promises, letters and what promises open, of which it has none more.
 sub fault_of_state {
     my ($given, $left) = @_;
-    my ($before, $after) = map { [map { [split / /] } @{ $_->{state} }] } $given, $left;
+    my %given = map { $_ => 1 } @{ $given->{state} };
+    my ($opening) = grep { /\Aopening / && !$given{$_} } @{ $left->{state} };
+    return $opening if defined $opening;
+    my ($before, $after) = map { [map { [split / /] } grep { !/\Aopening / } @{ $_->{state} }] } $given, $left;
     return 'another state' if @$before != @$after;
     for my $index (0 .. $#$after) {
         my ($old, $new) = ($before->[$index], $after->[$index]);
@@ -173,6 +179,17 @@ sub is_right {
     return;
 }
 
+# A script with calls without a path between its lines.
+sub with_uses {
+    my @lines = split /^/, $_[0] or return '';
+    for (0 .. $worlds->number(3)) {
+        my $place = $worlds->number(scalar @lines);
+        my ($asker) = $worlds->pick(@lines) =~ /\A([0-9]+)/;
+        splice @lines, $place, 0, "$asker uses " . $worlds->pick(@USES) . "\n";
+    }
+    return join '', @lines;
+}
+
 for my $example (sort grep { -d } glob "$Bin/../examples/*") {
     my @given = split /\n/, content("$example/script"), -1;
     my ($name) = $example =~ m{([^/]*)\z};
@@ -183,7 +200,8 @@ for my $number (1 .. $WORLDS) {
     $worlds->by($number % 3 == 2 ? 'openbsd' : 'profile');
     my %how = $number % 3 == 1 ? () : $number % 3 == 2 ? (rules => 'openbsd') : (table => $worlds->table);
     my $text = $number % 5 ? $worlds->script({ lines => 2 + $worlds->number(8) }) : $worlds->moving_script;
-    my $has_one_set = !$how{table} && $text !~ /^\S+\s+f?chown\s/m;
+    $text = with_uses($text) if $how{rules};
+    my $has_one_set = !$how{table} && $text !~ /^\S+\s+f?chown\s|^\S+ uses \S*\|/m;
     is_right("world $number", Tight->new($PROGRAM, $listing, %how), $has_one_set, lines_in($text));
 }
 note "$count{words} words, of which $count{left} are left; $count{lines} lines of objects, $count{fewer} fewer after";

@@ -20,7 +20,9 @@
 #     -k             writes connect, bind, mknod (mkfifo too), chown, create-rw (an open with
 #                    O_RDWR and O_CREAT), and fchmod and fchown by a descriptor that was opened for
 #                    reading, as lines of their own, which `pua` knows as calls by `--rules openbsd`
-#                    alone.
+#                    alone; and, for a process that has pledged, a line `uses` for what its calls
+#                    without a path ask for, such as accept, setuid, kill and flock: one for the
+#                    same promises since its last pledge or exec.
 #     -l             keeps what ld.so opens for a program.
 #     -o FILE        writes into FILE what each process still had open at its end, or at the end
 #                    of the trace, though it was opened before the last pledge or lock of the
@@ -65,8 +67,8 @@ BEGIN {
     unshift @INC, map { ($here || './') . $_ } '../share/pua/perl', 'lib';
 }
 use Getopt::Long qw(:config posix_default no_ignore_case bundling);
-use Pua::Calls qw(%ABOUT %BITS %CALLS %FLAGS_AT %FROM %FURTHER $HERE %LIKE @MODES %NEEDS
-    %NEIGHBOURS %OPENINGS descriptor flags flags_of_open is_null opens promises);
+use Pua::Calls qw(%ABOUT %ASKS %BITS %CALLS %FLAGS_AT %FROM %FURTHER $HERE %LIKE @MODES %NEEDS
+    %NEIGHBOURS %OPENINGS asks descriptor domain_of flags flags_of_open is_null opens promises);
 use Pua::Help qw(help_of);
 use Pua::Kdump;
 use Pua::Process qw($START moved plain tidy);
@@ -82,7 +84,8 @@ my $MOST_PATH      = 1023;      # bytes in a path
 # What is followed, though it is no line: what each of these calls does to its process, if it
 # succeeds.
 my %FOLLOWED = (
-    (map { $_ => sub { $_[0]->opens($_[1]{value}) } } qw(socket accept accept4 kqueue kqueue1)),
+    (map { $_ => sub { $_[0]->opens($_[1]{value}) } } qw(kqueue kqueue1)),
+    (map { $_ => \&follow_socket } qw(socket accept accept4)),
     close     => sub { $_[0]->closes($_[2]) if defined $_[2] },
     closefrom => sub { $_[0]->closes_from($_[2]) if defined $_[2] },
     dup       => sub { $_[0]->opens($_[1]{value}, $_[0]->file($_[2])) },
@@ -319,7 +322,7 @@ sub path_fields {
     my ($call) = @_;
     $call->{as} = "f$call->{as}" if $further && is_by_reading($call);
     my ($name, $as) = @$call{qw(name as)};
-    if ($as =~ /\A(?:connect|bind)\z/ && !@{ $call->{paths} } && !defined $call->{texts}{socket}) {
+    if (is_pathless($call)) {
         return if !refused($call);    # it is about no path
         return leave_out($call,
             "$name, which pua lacks without a path, and which ended its process");
@@ -384,12 +387,29 @@ sub fields {
     return (own_word($call) || $as, @paths);
 }
 
+# What is accepted at a socket is of its domain.
+sub follow_socket {
+    my ($has, $call, $number) = @_;
+    my $domain = $call->{name} eq 'socket' ? domain_of($call) : domain_at($has, $number);
+    $has->opens($call->{value});
+    $has->{domains}{ $call->{value} } = $domain if defined $domain && defined $call->{value};
+    return;
+}
+
+# The domain of the socket of this number; undef where it isn't known.
+sub domain_at {
+    my ($has, $number) = @_;
+    return defined $number ? $has->{domains}{$number} : undef;
+}
+
 sub follow_copy {
     my ($has, $call, $number) = @_;
     my $copy = descriptor($call, 1);
     return if !defined $copy || !defined $number || $copy == $number;
     my $flags = $call->{name} eq 'dup3' ? flags($call->{arguments}[2]) || 0 : 0;
     $has->opens($copy, $has->file($number), $flags & $BITS{O_CLOEXEC});
+    my $domain = domain_at($has, $number);
+    $has->{domains}{$copy} = $domain if defined $domain;
     return;
 }
 
@@ -501,16 +521,40 @@ sub take_end {
     return;
 }
 
-# Takes a call that is no line.
+# Takes what a call without a path asks for, if the process has pledged: once, and each time that it
+# is refused. Answers whether the script has a line for it.
+sub take_asked {
+    my ($call, $asks) = @_;
+    my $has = $call->{process}{has};
+    return 0 unless $has->{promises} && is_told($has);
+    my $is_refused = refused($call);
+    return 1 if !$is_refused && $has->{asked}{$asks}++;
+    my $answer = $is_refused ? $call->{answer} : 'ok';
+    push @entries, { %$call, fields => ['uses', $asks], answer => $answer, call => $call };
+    return 1;
+}
+
+# Whether a call that may have a path has none.
+sub is_pathless {
+    my ($call) = @_;
+    return $call->{as} =~ /\A(?:connect|bind)\z/ && !@{ $call->{paths} }
+        && !defined $call->{texts}{socket};
+}
+
+# Takes a call that is no line, but for what it asks for.
 sub take_other {
     my ($call) = @_;
     my ($name, $answer, $has) = ($call->{name}, $call->{answer}, $call->{process}{has});
     return unless defined $answer;
+    my $domain = domain_at($has, descriptor($call, 0));
+    my $asks = $further ? asks($call, $call->{process}{pid}, $domain) : undef;
+    my $is_told = defined $asks && take_asked($call, $asks);
+    return if $is_told && $answer eq 'killed';
     return leave_out($call, "$name, which pua lacks, and which ended its process")
         if $answer eq 'killed';
     if (my $follow = $FOLLOWED{$name}) {
         $follow->($has, $call, descriptor($call, 0)) if $answer eq 'ok';
-    } else {
+    } elsif (!$ASKS{$name}) {
         leave_out($call, "$name, which pua lacks", path($call->{paths}[0]));
     }
     return;
@@ -550,7 +594,7 @@ sub take {
         leave_out($call, 'what comes after the end of its process');
     } elsif ($call->{name} =~ /\A(?:exit|signal)\z/) {
         take_end($call);
-    } elsif ($call->{as}) {
+    } elsif ($call->{as} && !($further && is_pathless($call))) {
         take_line($call);
     } else {
         take_other($call);
@@ -691,7 +735,7 @@ if (@ARGV) {
     open $in, '<', $ARGV[0] or fail(spelled($ARGV[0]) . ": $!");
 }
 binmode $in;
-my %wanted = map { $_ => 1 } keys %CALLS, keys %FOLLOWED;
+my %wanted = map { $_ => 1 } keys %CALLS, keys %FOLLOWED, $further ? keys %ASKS : ();
 my $trace = Pua::Kdump->new($in, sub { note($MATTERS, @_) }, \%wanted);
 if (!eval { $trace->read_all; 1 }) {
     chomp(my $fault = $@);

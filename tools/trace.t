@@ -948,6 +948,77 @@ gives('relative paths', <<'END');
 line 1: may be wrong: relative paths, which are taken from the root: where the first process began is not known (-d) (4 in all)
 END
 
+# What calls without a path ask for: once since the last pledge, and each time that it is refused.
+my $ASKING = <<'END';
+7 setuid(0x3e8) = 0
+7 CALL  pledge(0x4f2a1c80,0)
+7 STRU  promise="stdio inet id proc flock settime error"
+7 RET   pledge 0
+7 socket(AF_INET6,0x1<SOCK_STREAM>,0) = 3
+7 socketpair(AF_UNIX,0x1<SOCK_STREAM>,0,0x1c60) = 0
+7 listen(3,128) = 0
+7 listen(9,128) = 0
+7 accept(3,0x1c60,0x1d60) = 4
+7 getpeername(4,0x1c60,0x1d60) = 0
+7 accept(3,0x1c60,0x1d60) = 5
+7 kill(7,SIGUSR1) = 0
+7 kill(0,SIGUSR1) = 0
+7 kill(9,SIGUSR1) = -1 errno 3 No such process
+7 fcntl(3,F_GETFL) = 2
+7 fcntl(3,F_SETLKW,0x1c60) = 0
+7 setuid(0x3e8) = -1 errno 1 Operation not permitted
+7 CALL  connect(3,0x1c60,16)
+7 STRU  struct sockaddr { AF_INET, 127.0.0.1:515 }
+7 RET   connect 0
+7 fork() = 8
+8 accept(3,0x1c60,0x1d60) = 6
+8 CALL  pledge(0x4f2a1c80,0)
+8 STRU  promise="stdio error"
+8 RET   pledge 0
+8 CALL  accept(3,0x1c60,0x1d60)
+8 PLDG  accept, "inet", errno 78 Function not implemented
+8 RET   accept -1 errno 78 Function not implemented
+8 CALL  accept(3,0x1c60,0x1d60)
+8 PLDG  accept, "inet", errno 78 Function not implemented
+8 RET   accept -1 errno 78 Function not implemented
+7 CALL  pledge(0x4f2a1c80,0)
+7 STRU  promise="stdio inet"
+7 RET   pledge 0
+7 accept(3,0x1c60,0x1d60) = 7
+7 CALL  ioctl(3,TIOCSTI,0x1c60)
+7 PLDG  ioctl, "tty", errno 1 Operation not permitted
+7 PSIG  SIGABRT SIG_DFL
+END
+my $ASKED = <<'END';
+1 pledge stdio,inet,id,proc,flock,settime,error - : ok
+1 uses inet|dns : ok
+1 uses inet : ok
+1 uses inet|unix : ok
+1 uses proc : ok
+1 uses flock : ok
+1 uses id : ok
+1 fork 2 : ok
+2 uses inet : ok
+2 pledge stdio,error - : ok
+2 uses inet : ENOSYS
+2 uses inet : ENOSYS
+1 pledge stdio,inet - : ok
+1 uses inet : ok
+1 uses tty : killed
+END
+{
+    put('trace', kdump($ASKING));
+    unlink 'answers';
+    my ($status, $out, $err) = trace('-kvx', '-e', 'answers');
+    my $number = 0;
+    is($out, $ASKED =~ s/ : \S+$//gmr, 'what is asked for: the script');
+    is(content('answers'), $ASKED =~ s/^.* : (\S+)$/++$number . " $1"/gmer, 'what is asked for: the answers');
+    is(said_of_lines($err), '', 'what is asked for: the reports');
+    is($status, 0, 'what is asked for: the status');
+    is(system("$PUA run --rules openbsd tree out | diff answers - > ran"), 0, 'what is asked for: pua answers so')
+        if defined $PUA;
+}
+
 # Traces of whole daemons. Each file NAME-RUN.expected has the words of a run over NAME.kdump, and, apart from
 # each other by `--`, the script with its answers, the reports, and what is held.
 for my $file (glob "$Bin/../tests/data/traces/*.expected") {

@@ -70,6 +70,8 @@ sub answers {
 sub pieces {
     my ($self, @lines) = @_;
     my @answers = map { (split)[1] } split /\n/, $self->answers(@lines);
+    my @used = map { split /\|/ } map { / uses (\S+)/ ? $1 : () } @lines;
+    local $self->{asked} = { %{ $self->{asked} }, map { $_ => 1 } @used };
     my @pieces;
     for my $index (grep { $answers[$_] eq 'ok' } 0 .. $#answers) {
         push @pieces, map { [$index, @$_] } $self->_pieces_of($lines[$index]);
@@ -89,7 +91,7 @@ sub _pieces_of {
     return (map({ ['promises', $_] } $self->_asked_in($first)), map { ['execpromises', $_] } $self->_asked_in($second));
 }
 
-# The keywords of a list that some call needs.
+# The keywords of a list that some call needs, or some line without a path.
 sub _asked_in {
     my ($self, $list) = @_;
     my %in = map { $_ => 1 } split /,/, $list;

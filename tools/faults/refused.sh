@@ -97,6 +97,7 @@ sweep 'an audit of many lines' 0 audit --limit 6 tree none
 sweep 'an audit of further names' 0 audit --limit 2 --process 2 twice links
 sweep 'objects' 0 objects tree one
 sweep 'objects of another process' 0 objects --process 2 twice links
+sweep 'objects of two processes' 0 objects --process 2,1 twice links
 sweep 'objects of all processes' 0 objects --process all tree forks
 sweep 'objects, and places that are gone' 0 objects tree gone
 sweep 'for ever' 0 objects --ever tree one
@@ -130,6 +131,7 @@ sweep 'a further name of no node' 1 run lost none
 sweep 'a list with an empty word' 1 run tree list
 sweep 'a tightened list with an empty word' 1 tight tree list
 sweep 'a process that can still unveil' 1 objects --ever tree none
+sweep 'no such list' 1 objects --ever --why tree none
 sweep 'a table by which nothing stays' 1 objects --ever --table stays tree one
 sweep 'no such process' 1 audit --limit 1 --process 9 tree none
 sweep 'no such pair' 1 audit --limit 3 --after stat:/nope tree one

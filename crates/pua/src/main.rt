@@ -17,8 +17,8 @@ fn main(rt: HostRuntime) -> ExitCode {
     })
 }
 
-/// Runs the program over the machine's files, and answers the status. The error is that a growth was
-/// refused before the words were read.
+/// Runs the program over the machine's files, and answers the status. The error is that a growth
+/// was refused before the words were read.
 fn answered(rt: &HostRuntime) -> Result<u8, AllocError> {
     let Some(args) = words_given(rt)? else {
         let _ = eprintln!(rt; "{}", UsageLine::Program.text());

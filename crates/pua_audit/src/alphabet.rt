@@ -6,8 +6,8 @@ use std::alloc::{AllocError, Global};
 use std::collections::BTreeSet;
 use std::marker::Model;
 
-/// The letters of an audit, each a name or `..`, in the order of their bytes. Contracts see the bytes
-/// of each.
+/// The letters of an audit, each a name or `..`, in the order of their bytes. Contracts see the
+/// bytes of each.
 #[derive(Drop)]
 pub(crate) struct Alphabet {
     letters: Vec<Component>,
@@ -73,8 +73,8 @@ fn named(alloc: Global, names: &[&Name]) -> Result<Vec<Component>, OutOfMemory>
 }
 
 impl Alphabet {
-    /// The names in a tree's rows, `..` and the candidates: distinct, in the order of their bytes. The
-    /// only error is that a growth was refused.
+    /// The names in a tree's rows, `..` and the candidates: distinct, in the order of their bytes.
+    /// The only error is that a growth was refused.
     pub(crate) fn of(
         alloc: Global,
         rows: &[LentRow<'_>],

@@ -29,8 +29,8 @@ use pua_policy::Process;
 use std::alloc::Global;
 use std::marker::Model;
 
-/// What a process is allowed in a tree, line by line in order. Contracts see what was asked, and the
-/// pairs that are still to come.
+/// What a process is allowed in a tree, line by line in order. Contracts see what was asked, and
+/// the pairs that are still to come.
 #[derive(Drop)]
 pub struct Audit {
     pairs: Pairs,
@@ -58,10 +58,10 @@ impl Model for Audit {
 
 impl Audit {
     /// Begins the audit of a process over the tree of a probe: by paths from this base, of at most
-    /// `limit` letters, each a name of the tree's rows, `..` or a candidate; from its first line, or
-    /// from the one after the pair that a text `CALL:PATH` names. What a call needs, the table says, and
-    /// which calls there are.
-    /// The process and the table are copied, so what becomes of them later changes nothing.
+    /// `limit` letters, each a name of the tree's rows, `..` or a candidate; from its first line,
+    /// or from the one after the pair that a text `CALL:PATH` names. What a call needs, the table
+    /// says, and which calls there are. The process and the table are copied, so what becomes of
+    /// them later changes nothing.
     ///
     /// The errors come in the order of `AuditFault`'s page, but that `OutOfMemory` comes wherever a
     /// growth was refused. The resume text is judged also where nothing is allowed at all. No
@@ -112,16 +112,16 @@ impl Audit {
         Ok(Audit { pairs })
     }
 
-    /// How many states are live: those to which words lead, and from which words with an allowed call
-    /// go on.
+    /// How many states are live: those to which words lead, and from which words with an allowed
+    /// call go on.
     pub fn table_len(&self) -> usize
         ensures { result ≡ self.now.live }
     {
         self.pairs.live
     }
 
-    /// How many letters were read so far from the tables that the audit made when it began. It stays
-    /// at its greatest value once there.
+    /// How many letters were read so far from the tables that the audit made when it began. It
+    /// stays at its greatest value once there.
     pub fn reads(&self) -> u64
         ensures { result ≡ self.now.reads }
     {
@@ -129,9 +129,9 @@ impl Audit {
     }
 
     /// Lends the next line, in the order of the reach: None where no pair is left. The tree is the
-    /// one with which the audit began, and it is asked nothing: no look is added to the probe's. With
-    /// a limit L and A letters at most 2 (L + 1) (A + 1) letters are read for it. It is given no
-    /// allocator, and answers no error.
+    /// one with which the audit began, and it is asked nothing: no look is added to the probe's.
+    /// With a limit L and A letters at most 2 (L + 1) (A + 1) letters are read for it. It is given
+    /// no allocator, and answers no error.
     pub fn next_line<'t, P: Probe<'t>>(&mut self, probe: &mut P) -> Option<Line<'_>>
         requires { P.tree probe.old ≡ self.old.tree }
         ensures* rest { sem 𝓛 (LendsLine self.entry result) }
@@ -146,9 +146,9 @@ impl Audit {
         Some(Line { path, call, plain })
     }
 
-    /// Lends the next line, with all that come after it by the same path, in the order of the reach:
-    /// None where no pair is left. Otherwise it is as `next_line`, and either goes on behind what the
-    /// other lent: this lends what `next_line` left of a path.
+    /// Lends the next line, with all that come after it by the same path, in the order of the
+    /// reach: None where no pair is left. Otherwise it is as `next_line`, and either goes on behind
+    /// what the other lent: this lends what `next_line` left of a path.
     pub fn next_lines<'t, P: Probe<'t>>(&mut self, probe: &mut P) -> Option<PathLines<'_>>
         requires { P.tree probe.old ≡ self.old.tree }
         ensures* rest { sem 𝓛 (LendsLines self.entry result) }

@@ -31,8 +31,8 @@ pub(crate) struct Checked {
     pub(crate) after: Option<Resumption>,
 }
 
-/// What an audit begins with, by the rows of its tree, its table, base, candidates, limit and resume
-/// text, or the first fault; `OutOfMemory` comes wherever a growth was refused.
+/// What an audit begins with, by the rows of its tree, its table, base, candidates, limit and
+/// resume text, or the first fault; `OutOfMemory` comes wherever a growth was refused.
 pub(crate) fn check<'t, P: Probe<'t>>(
     alloc: Global,
     probe: &P,

@@ -5,8 +5,8 @@ use pua_tree::{LentName, Name, OutOfMemory, are_plain};
 use std::alloc::Global;
 use std::marker::Model;
 
-/// A letter: a name, or `..`. It takes no more memory than its bytes, so that many of them lie close
-/// to each other. Contracts see its bytes.
+/// A letter: a name, or `..`. It takes no more memory than its bytes, so that many of them lie
+/// close to each other. Contracts see its bytes.
 #[derive(Drop)]
 pub(crate) struct Component {
     bytes: Vec<u8>,
@@ -39,7 +39,7 @@ ghost use Rattle.pua_audit.specs.Judge.{is_letter};
 ghost use Rattle.pua_audit.specs.Spots.{IsNamed};
 
 impl Component {
-    /// The letter that a name is. The error is that its memory was refused.
+    /// The letter that a name is. The only error is that a growth was refused.
     pub(crate) fn named(alloc: Global, name: &Name) -> Result<Component, OutOfMemory>
         ensures letter { IfOk result (λ letter. letter ≡ name.now) }
         ensures known { IfOk result (λ letter. IsTrue (is_letter letter)) }
@@ -47,7 +47,7 @@ impl Component {
         Component::new(alloc, name.bytes())
     }
 
-    /// The letter `..`. The error is that its memory was refused.
+    /// The letter `..`. The only error is that a growth was refused.
     pub(crate) fn dots(alloc: Global) -> Result<Component, OutOfMemory>
         ensures { IfOk result (λ letter. letter ≡ codes "..") }
     {

@@ -19,7 +19,8 @@ pub enum AuditFault {
     TooManyNames,
     /// The place, from 1, of the first candidate that is not spelled as a name.
     BadCandidate(u32),
-    /// The text to resume after names no pair of a word within the limit and a call that the table has.
+    /// The text to resume after names no pair of a word within the limit and a call that the table
+    /// has.
     BadResume,
     /// A growth of memory was refused.
     OutOfMemory,

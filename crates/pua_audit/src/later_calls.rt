@@ -5,8 +5,8 @@ use pua_calls::Call;
 use pua_steps::CallSet;
 use std::marker::Model;
 
-/// The calls of lines that come after another one with the same path, in the order of their numbers.
-/// Contracts see a number with a bit for each, as `PathLines` has it.
+/// The calls of lines that come after another one with the same path, in the order of their
+/// numbers. Contracts see a number with a bit for each, as `PathLines` has it.
 #[derive(Clone, Copy)]
 pub struct LaterCalls {
     pub(crate) numbers: CallSet,

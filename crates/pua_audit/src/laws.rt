@@ -42,26 +42,27 @@ pub fn walk_laws()
 {}
 
 /// The list of the live states has just the states that are live, each once. So what
-/// `Audit::table_len` answers is the number of live states. They are at most 33 N (L + 1), over a tree
-/// with N nodes and for words of at most L letters: each is a directory, a number of links from 0 to
-/// 32, and a number of letters from 0 to L.
+/// `Audit::table_len` answers is the number of live states. They are at most 33 N (L + 1), over a
+/// tree with N nodes and for words of at most L letters: each is a directory, a number of links
+/// from 0 to 32, and a number of letters from 0 to L.
 #[tactic(auto, using(crate::proofs::Unique::live_states_live, crate::proofs::FewStates::few_states))]
 pub fn live_law()
     ensures exact { LiveStatesLive }
     ensures few { LiveStatesFew }
 {}
 
-/// A text names a pair to resume after exactly where it is the text of that pair: the name of a call
-/// that the table has, a colon, and the printed path of a word over the alphabet within the limit.
+/// A text names a pair to resume after exactly where it is the text of that pair: the name of a
+/// call that the table has, a colon, and the printed path of a word over the alphabet within the
+/// limit.
 pub fn resume_text_law()
     ensures { ResumeTextsName }
 {}
 
-/// The pairs of a graph of steps that stands for what is asked of a tree and a process are those that
-/// are allowed letter by letter, and the live states are as many as its own. A letter that is followed
-/// once, with no link used before it, tells all that such a graph has of it after any number of links.
-/// A set of calls, a bit for each, lists the calls whose bits it has. The graph of a table stands for
-/// a judge where each row tells the letters of its directory.
+/// The pairs of a graph of steps that stands for what is asked of a tree and a process are those
+/// that are allowed letter by letter, and the live states are as many as its own. A letter that is
+/// followed once, with no link used before it, tells all that such a graph has of it after any
+/// number of links. A set of calls, a bit for each, lists the calls whose bits it has. The graph of
+/// a table stands for a judge where each row tells the letters of its directory.
 pub fn graph_laws()
     ensures reach { GraphsReach }
     ensures entries { EntriesStand }

@@ -22,8 +22,8 @@ use pua_steps::Walk;
 use pua_tree::{LentRow, OutOfMemory};
 use std::alloc::Global;
 
-/// The pairs that are still to come, by a walk that asks the tree nothing. It takes no memory beyond
-/// what was reserved at its beginning.
+/// The pairs that are still to come, by a walk that asks the tree nothing. It takes no memory
+/// beyond what was reserved at its beginning.
 #[derive(Drop)]
 pub(crate) struct Pairs {
     pub(crate) terms: Terms,
@@ -35,8 +35,8 @@ pub(crate) struct Pairs {
 }
 
 impl Pairs {
-    /// All pairs of the reach, or those that come after one. Where the process has ended, or its base
-    /// was removed, there is none. The error is that a growth was refused.
+    /// All pairs of the reach, or those that come after one. Where the process has ended, or its
+    /// base was removed, there is none. The only error is that a growth was refused.
     pub(crate) fn begin<'t, P: Probe<'t>>(
         alloc: Global,
         probe: &mut P,
@@ -70,7 +70,8 @@ impl Pairs {
         })
     }
 
-    /// The call of the next line: the path is then that of the walk's word. None where no pair is left.
+    /// The call of the next line: the path is then that of the walk's word. None where no pair is
+    /// left.
     pub(crate) fn next_call(&mut self) -> Option<Call>
         requires ready { AreReady self.old }
         ensures ready { AreReady self.new }
@@ -93,8 +94,8 @@ impl Pairs {
         Some(call_at(call))
     }
 
-    /// The calls of the walk's word that come after the one that was given last: a bit for each, the
-    /// first at bit 0.
+    /// The calls of the walk's word that come after the one that was given last: a bit for each,
+    /// the first at bit 0.
     pub(crate) fn later_calls(&mut self) -> u32
         ensures ready { AreReady self.old → AreReady self.new }
         ensures terms { self.new.terms ≡ self.old.terms }

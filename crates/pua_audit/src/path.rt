@@ -12,8 +12,8 @@ use crate::base::Base;
 use crate::component::Component;
 use std::alloc::{AllocError, Global};
 
-/// The path of a word: each letter after a slash. Within what was reserved at its beginning it takes
-/// no memory.
+/// The path of a word: each letter after a slash. Within what was reserved at its beginning it
+/// takes no memory.
 #[derive(Drop)]
 pub(crate) struct WordPath {
     pub(crate) bytes: Vec<u8>,
@@ -24,8 +24,8 @@ pub(crate) struct WordPath {
 }
 
 impl WordPath {
-    /// The path of the empty word, with room for so many letters, and for so many bytes. The error is
-    /// that a growth was refused.
+    /// The path of the empty word, with room for so many letters, and for so many bytes. The only
+    /// error is that a growth was refused.
     pub(crate) fn new(alloc: Global, letters: usize, bytes: usize) -> Result<WordPath, AllocError>
         ensures path { IfOk result (λ path. IsPathOf [] path) }
         ensures bytes { IfOk result (λ path. bytes ≤ vec_capacity path.bytes) }
@@ -57,8 +57,8 @@ impl WordPath {
         self.plain = self.plain.min(letters);
     }
 
-    /// Puts a letter at the end. The error is that a growth was refused; none is where there is room for
-    /// the letter.
+    /// Puts a letter at the end. The only error is that a growth was refused; none is where there
+    /// is room for the letter.
     pub(crate) fn add(&mut self, letter: &Component) -> Result<(), AllocError>
         ensures path { IfOk result (λ _. (word : Word) → IsPathOf word self.old →
             IsPathOf (word ++ letter.now ∷ []) self.new) }
@@ -76,8 +76,8 @@ impl WordPath {
         Ok(())
     }
 
-    /// How many letters at the front have only bytes that stand for themselves, with one letter more at
-    /// the end.
+    /// How many letters at the front have only bytes that stand for themselves, with one letter
+    /// more at the end.
     fn plain_with(&self, letter: &Component) -> usize
         ensures { (word : Word) → IsPathOf word self.now →
             result ≡ plain_front (word ++ letter.now ∷ []) }

@@ -25,10 +25,9 @@ pub(crate) struct Resumption {
     pub(crate) call: Call,
 }
 
-/// The pair that a text names: a call that this table has, and a path that begins at this base and has
-/// at most so many letters.
-/// The errors are `BadResume` where it names none, and `OutOfMemory` where the growth for the
-/// word was refused.
+/// The pair that a text names: a call that this table has, and a path that begins at this base and
+/// has at most so many letters. The errors are `BadResume` where it names none, and `OutOfMemory`
+/// where the growth for the word was refused.
 pub(crate) fn read_pair(
     alloc: Global,
     table: &CallTable,

@@ -29,7 +29,8 @@ use std::alloc::Global;
 
 impl Terms {
     /// The table of steps of all directories to which words from a living directory lead. That
-    /// directory has the first place, and its cover is given. The error is that a growth was refused.
+    /// directory has the first place, and its cover is given. The only error is that a growth was
+    /// refused.
     #[tactic(auto, using(crate::proofs::Moves::all_at_index))]
     pub(crate) fn table<'t, P: Probe<'t>>(
         &self,

@@ -526,8 +526,8 @@ impl Call {
         Some(Promises::of(set))
     }
 
-    /// Those that it needs by OpenBSD's rules, and those by which it is allowed there too, if there are
-    /// such.
+    /// Those that it needs by OpenBSD's rules, and those by which it is allowed there too, if there
+    /// are such.
     pub(crate) fn openbsd(self) -> (Promises, Option<Promises>)
         ensures { (about self).openbsd ≡ result.0 ∷ listed result.1 }
     {
@@ -584,16 +584,16 @@ impl Call {
         self.facts().effect
     }
 
-    /// Whether a file can come to be a program by it: a kernel starts what was written, once its mode
-    /// lets it.
+    /// Whether a file can come to be a program by it: a kernel starts what was written, once its
+    /// mode lets it.
     pub fn turns(self) -> bool
         ensures { result ≡ (about self).turns }
     {
         self.facts().turns
     }
 
-    /// The call of this name that there is by rules, if there is one: this project's own have the first
-    /// fourteen, OpenBSD's have all.
+    /// The call of this name that there is by rules, if there is one: this project's own have the
+    /// first fourteen, OpenBSD's have all.
     pub fn read_by(rules: Rules, word: &[u8]) -> Option<Call>
         ensures { result ≡ call_named_by rules word.now }
     {

@@ -8,7 +8,8 @@ use pua_tree::Kind;
 /// What a call does where it is allowed.
 #[derive(Clone, Copy)]
 pub enum Effect {
-    /// It changes nothing that is kept here: neither names, nor kinds of nodes, nor what a process is.
+    /// It changes nothing that is kept here: neither names, nor kinds of nodes, nor what a process
+    /// is.
     Looks,
     /// It makes a node of this kind, where nothing has the name.
     Makes(Kind),

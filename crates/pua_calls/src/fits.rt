@@ -90,8 +90,8 @@ macro_rules! none_standing {
 }
 
 impl Fits {
-    /// What is wrong with a node of this kind, wherever it stands. What is wrong with removing a directory
-    /// rests on the way to it, which isn't asked here: something has the name.
+    /// What is wrong with a node of this kind, wherever it stands. What is wrong with removing a
+    /// directory rests on the way to it, which isn't asked here: something has the name.
     pub fn on(&self, kind: Kind) -> Option<Misfit>
         ensures { result ≡ fits_on self.now kind }
     {

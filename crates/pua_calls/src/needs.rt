@@ -7,8 +7,8 @@ ghost use Rattle.pua_calls.specs.Calls.{last_of, ending_of};
 use crate::call::{Call, Need};
 use pua_path::Ending;
 
-/// What a call needs, by the standard table (this profile); of a call that has no set of promises there
-/// the first set of those of which it needs one by OpenBSD's.
+/// What a call needs, by the standard table (this profile); of a call that has no set of promises
+/// there the first set of those of which it needs one by OpenBSD's.
 pub fn need(call: Call) -> Need
     ensures promises { IsTrue (is_known standard_table call) →
         (rule_of standard_table call).alternatives ≡ result.promises ∷ [] }

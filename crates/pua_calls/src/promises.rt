@@ -398,8 +398,8 @@ impl Promises {
         }
     }
 
-    /// The keywords of these, each once, in the order of all keywords. The only error is that the
-    /// memory for the list is refused.
+    /// The keywords of these, each once, in the order of all keywords. The only error is that a
+    /// growth was refused.
     pub fn names(self, alloc: Global) -> Result<Vec<&'static str>, OutOfMemory>
         ensures { IfOk result (λ names. map (λ name. name.now) names.items ≡ keywords_of self) }
     {
@@ -437,7 +437,8 @@ fn promise(word: &[u8]) -> Option<Promises>
     Some(Promises { keywords })
 }
 
-/// The bit of one keyword. Those from the first with its letter on are looked through before the others.
+/// The bit of one keyword. Those from the first with its letter on are looked through before the
+/// others.
 fn keyword(word: &[u8]) -> Option<Keywords>
     ensures { option_map (λ a. a.0) result ≡ promise_of word.now }
 {
@@ -448,7 +449,8 @@ fn keyword(word: &[u8]) -> Option<Keywords>
     }
 }
 
-/// The index of the first keyword that begins with the letter that a word begins with, if there is one.
+/// The index of the first keyword that begins with the letter that a word begins with, if there is
+/// one.
 fn first_of_letter(word: &[u8]) -> usize
     ensures { result ≤ 36 }
 {

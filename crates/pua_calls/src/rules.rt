@@ -65,8 +65,8 @@ impl Rules {
         self.about().has_openings
     }
 
-    /// The rules of this word, which are the standard ones where there is no word, and where it names
-    /// none.
+    /// The rules of this word, which are the standard ones where there is no word, and where it
+    /// names none.
     pub fn named(word: Option<&str>) -> Rules
         ensures { result ≡ rules_named (option_map (λ s. s.now) word.entry) }
     {

@@ -45,10 +45,10 @@ impl Model for RuleRow {
 }
 
 /// What each of the calls needs, what rename and link need, which have two paths, and what an exec
-/// leaves of execpromises. A call that has no set of promises is never allowed. It is kept inline, so
-/// that a copy takes no memory. Contracts see a list of rules, in the order of the calls' numbers,
-/// those of rename and link, and that of execpromises. No alternative names `error`: a process can
-/// gain that promise, and no other.
+/// leaves of execpromises. A call that has no set of promises is never allowed. It is kept inline,
+/// so that a copy takes no memory. Contracts see a list of rules, in the order of the calls'
+/// numbers, those of rename and link, and that of execpromises. No alternative names `error`: a
+/// process can gain that promise, and no other.
 #[derive(Clone, Copy)]
 pub struct CallTable {
     rows: [RuleRow; Call::COUNT],
@@ -151,9 +151,9 @@ impl RuleRow {
 }
 
 impl CallTable {
-    /// This project's own table: each of the first fourteen calls needs what `needs::need` answers, the
-    /// others are never allowed, both names of rename and of link need cpath and `c`, of a link itself,
-    /// and an exec unsets execpromises (this profile).
+    /// This project's own table: each of the first fourteen calls needs what `needs::need` answers,
+    /// the others are never allowed, both names of rename and of link need cpath and `c`, of a link
+    /// itself, and an exec unsets execpromises (this profile).
     pub fn standard() -> CallTable
         ensures { result ≡ standard_table }
     {
@@ -166,10 +166,10 @@ impl CallTable {
     }
 
     /// The rules of OpenBSD's kernel, as its manual pages and its sources are known; no kernel was
-    /// tried. They are the standard ones but for these. chmod needs rpath beside fattr. connect needs
-    /// unix and `w`, bind unix and `c`, mknod dpath and `c`; chown needs `w`, and rpath with chown or
-    /// with fattr. The old name of rename needs rpath and cpath, `r` and `c`; that of link rpath and `r`
-    /// alone, of what a link leads to. Execpromises stay after an exec.
+    /// tried. They are the standard ones but for these. chmod needs rpath beside fattr. connect
+    /// needs unix and `w`, bind unix and `c`, mknod dpath and `c`; chown needs `w`, and rpath with
+    /// chown or with fattr. The old name of rename needs rpath and cpath, `r` and `c`; that of link
+    /// rpath and `r` alone, of what a link leads to. Execpromises stay after an exec.
     pub fn openbsd() -> CallTable
         ensures { result ≡ openbsd_table }
     {

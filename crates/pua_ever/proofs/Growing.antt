@@ -6,7 +6,7 @@ use Rattle.pua_ever.proofs.Common.{None≢Some, is_link_kind, Followed, resoluti
 use Rattle.pua_ever.proofs.Common.{is_kept, ProcessState, may_any, working_dir, IsMissing, cover, cover_fault, covered_verdict, or_fault}
 use Rattle.pua_ever.proofs.Common.{object_fault, allowed_unless, if_promised, is_allowed, Call, Asked, most_processes, World, Fails, Copies}
 use Rattle.pua_ever.proofs.Common.{change_effect, kept_at, apply, tree_left, Action, OnPath, Symlink, Rename, Link, Pledge, Unveil, Lock}
-use Rattle.pua_ever.proofs.Common.{Fork, Exit, has_c, Change, CopyAs, change_by, IsDecided, by_going, covers_descend, named_within_text}
+use Rattle.pua_ever.proofs.Common.{Fork, Exit, Uses, has_c, Change, CopyAs, change_by, IsDecided, by_going, covers_descend, named_within_text}
 use Rattle.pua_ever.proofs.Common.{row_cover, is_yes, can_link, can_move, may_rename, New, NewDir, NewFile, NewLink, EditsNeedC, List, FoundFits}
 use Rattle.std.proofs.Common.{not}
 use Rattle.std.specs.Prelude.{length}
@@ -262,6 +262,7 @@ module _ (table : CallTable) (needs : EditsNeedC table) (t : Tree) (h : ProcessS
   grows_by Lock c d = subst Grows (sym d.1) tt
   grows_by (Fork new) c d = subst Grows (sym d.1) tt
   grows_by Exit c d = subst Grows (sym d) tt
+  grows_by (Uses sets) c d = subst Grows (sym d.1) tt
 
 grown_made : (table : CallTable) (needs : EditsNeedC table) (w : World) (h : ProcessState) (well : WellFormed w.tree) (c : Change) →
     Grows table needs w.tree h well c → Grown table w.tree h (tree_left w.tree (change_effect w h c))

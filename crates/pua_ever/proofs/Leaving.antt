@@ -3,7 +3,7 @@
 use Rattle.pua_ever.proofs.Common.{◌≡◌, ℕ, List, Bool, true, false, cond, refl, sym, subst, ◌∙◌}
 use Rattle.pua_ever.proofs.Common.{Option, Some, None, Result, Ok, Err, ◌||◌, is_some, nat_le, length, same_Some, None≢Some, EAGAIN}
 use Rattle.pua_ever.proofs.Common.{Tree, CallTable, rule_of, ProcessState, may_any, state_after, World, kept_at, Change, change_effect}
-use Rattle.pua_ever.proofs.Common.{CopyAs, Copies, Fails, IsDecided, Action, OnPath, Symlink, Rename, Link, Pledge, Unveil, Lock, Fork, Exit}
+use Rattle.pua_ever.proofs.Common.{CopyAs, Copies, Fails, IsDecided, Action, OnPath, Symlink, Rename, Link, Pledge, Unveil, Lock, Fork, Exit, Uses}
 use Rattle.pua_ever.proofs.Common.{most_processes, found_put}
 use Rattle.std.specs.Prelude.{nat_eq}
 use Rattle.pua_tree.specs.Edits.{add, cut, shift, tie}
@@ -50,6 +50,7 @@ module _ (table : CallTable) (w : World) (h : ProcessState) (P : ProcessState �
   left_so Lock k c d = subst Left (sym d.1) (k.more Locked refl)
   left_so (Fork new) k c d = subst Left (sym d.1) tt
   left_so Exit k c d = subst Left (sym d) (k.more Ended refl)
+  left_so (Uses sets) k c d = subst Left (sym d.1) tt
 
   by_edited : P h → (r : Result (ℕ × Tree) TreeFault) → P (state_left h (edit_effect h r))
   by_edited so (Ok result) = so

@@ -1,17 +1,26 @@
 -- Rows of the list that holds longest: whether one has exec, and what is let through.
 use Rattle.pua_ever.proofs.Common.{◌≡◌, ℕ, Bool, true, false, ◌||◌, ◌&&◌, ◌<◌, ◌≤◌, List, [], ◌∷◌, ◌++◌, length, cond, refl, sym, ap, subst, ◌∙◌}
 use Rattle.pua_ever.proofs.Common.{arith, inl, inr, false≢true, filter, list_any, Tree, calls, has, Call, Word, EverLine, has_ever_calls}
-use Rattle.std.proofs.Common.{◌+◌, drop, drop_of_length-le, slice_index_or}
+use Rattle.std.proofs.Common.{◌+◌, drop, drop_of_length-le, slice_index_or, take}
 use Rattle.std.proofs.lemmas.Bool.{lt-ltb}
-use Rattle.std.proofs.lemmas.List.{drop_more}
+use Rattle.std.proofs.lemmas.List.{drop_more, map-append, take_more}
 use Rattle.std.proofs.lemmas.Map.Views.{any-filter_same}
 use Rattle.pua_calls.specs.CallSets.{calls_in}
 use Rattle.pua_calls.specs.declared.call.Call.TheVariants as call
 use Rattle.pua_ever.specs.Ever.{Thing, is_exec_call}
 use Rattle.pua_ever.specs.EverLines.{IsThing, line_with}
-use Rattle.pua_ever.specs.EverList.{AreEverTold, last_row_word, word_of_row}
+use Rattle.std.specs.List.{AllByRecursion}
+use Rattle.pua_policy.specs.States.{Locked, ProcessState, state_after, with_both}
+use Rattle.std.specs.Prelude.{IfSome, Option, Some, None}
+use Rattle.pua_policy.specs.declared.answer.Cover.{Cover}
+use Rattle.pua_policy.specs.declared.object.Object.{Object}
+use Rattle.pua_objects.specs.Items.{cover_on}
+use Rattle.pua_objects.specs.Objects.{At, Others, Subject}
+use Rattle.pua_ever.specs.EverList.{AreEverTold, IsAboutOn, IsRowOn, IsStandingOn, about_of, abouts, last_row_word, own_name, subject_at, word_of_row}
 use Rattle.pua_ever.specs.Through.{has_exec, let_through, only_through}
 use Rattle.pua_ever.specs.declared.line.EverLine as given
+use Rattle.pua_ever.specs.declared.list.EverAbout.{EverAbout}
+use Rattle.pua_ever.specs.declared.list.EverAbout.TheVariants as ever_about
 use Rattle.pua_ever.specs.declared.list.EverRow.{EverRow}
 use Rattle.pua_ever.proofs.ExecCalls.{exec_or_other}
 use Rattle.pua_ever.proofs.RowsTell.{last_row_more, told_more}
@@ -86,9 +95,9 @@ module _ (t : Tree) where
 
     next : (lines : List EverLine) (row : EverRow) (left new : List EverRow) (line : given.EverLine) → line.thing ≡ row.line.thing →
         IsLet row.line line → Through lines (row ∷ left) new →
-        Through lines left (new ++ record { depth = row.depth; name = row.name; line = line } ∷ [])
+        Through lines left (new ++ record { depth = row.depth; name = row.name; about = row.about; line = line } ∷ [])
     next lines row left new line same is so_far =
-        let through : EverRow = record { depth = row.depth; name = row.name; line = line } in
+        let through : EverRow = record { depth = row.depth; name = row.name; about = row.about; line = line } in
         let word = word_of_row (last_row_word [] new) row in
         let about = so_far.coming.0 in
         let more = so_far.coming.1 in
@@ -96,7 +105,7 @@ module _ (t : Tree) where
           rest = more;
           coming = subst (λ w. AreEverTold t w left more []) (sym (last_row_more [] new through)) so_far.coming.4;
           told = told_more t [] new through about (only_through (has passes) lines) (only_through (has passes) more)
-              (subst (IsThing t about) (sym same) so_far.coming.2)
+              (subst (IsThing t about) (sym same) so_far.coming.2) so_far.coming.5
               (subst (AreEverTold t [] new (only_through (has passes) lines))
               (ap (only_through (has passes)) so_far.coming.3
               ∙ through_first word about (calls_in row.line.calls) more
@@ -106,7 +115,7 @@ module _ (t : Tree) where
 
     pub through_more : (rows : List EverRow) (row : EverRow) (i : ℕ) → i < length rows → row ≡ slice_index_or rows i row →
         (line : given.EverLine) → line.thing ≡ row.line.thing → IsLet row.line line → (lines : List EverLine) (new : List EverRow) →
-        Through lines (drop i rows) new → Through lines (drop (i + 1) rows) (new ++ record { depth = row.depth; name = row.name; line = line } ∷ [])
+        Through lines (drop i rows) new → Through lines (drop (i + 1) rows) (new ++ record { depth = row.depth; name = row.name; about = row.about; line = line } ∷ [])
     through_more rows row i within here line same is lines new so_far =
         next lines row (drop (i + 1) rows) new line same is (subst (λ left. Through lines left new)
         (drop_more rows i row within ∙ ap (λ r. r ∷ drop (i + 1) rows) (sym here)) so_far)
@@ -116,3 +125,49 @@ module _ (t : Tree) where
     all_through rows i past lines new so_far =
         subst (λ rest. AreEverTold t [] new (only_through (has passes) lines) (only_through (has passes) rest))
         (subst (λ left. AreEverTold t (last_row_word [] new) left so_far.rest []) (drop_of_length-le rows past) so_far.coming) so_far.told
+
+-- ---- what rows are about
+
+module _ (P : Option (List ℕ) × EverAbout → Type 0) where
+  all_abouts : (rows : List EverRow) → AllByRecursion (λ row. P (about_of row)) rows → AllByRecursion P (abouts rows)
+  all_abouts [] all = tt
+  all_abouts (row ∷ rows) all = (all.0, all_abouts rows all.1)
+
+  all_rows : (rows : List EverRow) → AllByRecursion P (abouts rows) → AllByRecursion (λ row. P (about_of row)) rows
+  all_rows [] all = tt
+  all_rows (row ∷ rows) all = (all.0, all_rows rows all.1)
+
+  pub same_abouts : (rows new : List EverRow) → abouts new ≡ abouts rows → AllByRecursion (λ row. P (about_of row)) rows →
+      AllByRecursion (λ row. P (about_of row)) new
+  same_abouts rows new same all = all_rows new (subst (AllByRecursion P) (sym same) (all_abouts rows all))
+
+pub abouts_more : (rows : List EverRow) (row : EverRow) (i : ℕ) → i < length rows → row ≡ slice_index_or rows i row → (new : List EverRow)
+    (more : EverRow) → about_of more ≡ about_of row → abouts new ≡ abouts (take i rows) → abouts (new ++ more ∷ []) ≡ abouts (take (i + 1) rows)
+abouts_more rows row i within here new more alike same =
+    map-append about_of new (more ∷ [])
+    ∙ (λ j. same j ++ alike j ∷ [])
+    ∙ sym (map-append about_of (take i rows) (row ∷ []))
+    ∙ sym (ap abouts (take_more rows i row within ∙ ap (λ r. take i rows ++ r ∷ []) (sym here)))
+
+-- who holds both sets has the veils of the process, so what covers an item is the same
+module _ (t : Tree) (h : ProcessState) (given : ℕ) where
+  abbrev pub both : ProcessState
+  both = state_after Locked (with_both h given)
+
+  cover_same : (subject : Subject) → cover_on t both subject ≡ cover_on t h subject
+  cover_same (At found) = refl
+  cover_same (Others dir) = refl
+
+  standing_on : (object : Object) (cover : Cover) (o : Option Subject) → IfSome o (IsStandingOn t both object cover) →
+      IfSome o (IsStandingOn t h object cover)
+  standing_on object cover None is = tt
+  standing_on object cover (Some subject) is = record { fits = is.fits; object = is.object; cover = is.cover ∙ cover_same subject }
+
+  on_both : (name : Option (List ℕ)) (a : EverAbout) → IsAboutOn t both name a → IsAboutOn t h name a
+  on_both name (ever_about.Stands at object cover) is = standing_on object cover (subject_at t name at) is
+  on_both name (ever_about.Freed dir) is = is
+  on_both name (ever_about.Comes made) is = tt
+
+  pub rows_on_both : (rows : List EverRow) → AllByRecursion (IsRowOn t both) rows → AllByRecursion (IsRowOn t h) rows
+  rows_on_both [] all = tt
+  rows_on_both (row ∷ rows) all = (on_both (own_name row) row.about all.0, rows_on_both rows all.1)

@@ -4,7 +4,7 @@ use Rattle.pua_ever.proofs.Common.{is_some, nat_le, false≢true, or_left, or_ri
 use Rattle.pua_ever.proofs.Common.{may_any, CallTable, rule_of, Call, May, most_processes, Asked, tree_left, is_member}
 use Rattle.pua_ever.proofs.Common.{family_then, World, Fails, Copies, change_effect, kept_at, apply}
 use Rattle.pua_ever.proofs.Common.{world_after, Change, CopyAs, change_by, IsDecided, Action, OnPath, Symlink, Rename, Link, Pledge, Unveil}
-use Rattle.pua_ever.proofs.Common.{Lock, Fork, Exit, IsWithin, Members, Among, is_yes, may_edit}
+use Rattle.pua_ever.proofs.Common.{Lock, Fork, Exit, Uses, IsWithin, Members, Among, is_yes, may_edit}
 use Rattle.std.proofs.Common.{◌||◌}
 use Rattle.std.specs.List.{AllByRecursion}
 use Rattle.std.specs.Prelude.{length}
@@ -62,6 +62,7 @@ module _ (table : CallTable) (w : World) (h : ProcessState) (lacks : may_edit ta
   keeps_by Lock c d = subst Keeps (sym d.1) refl
   keeps_by (Fork new) c d = subst Keeps (sym d.1) (keeps_copy new)
   keeps_by Exit c d = subst Keeps (sym d) refl
+  keeps_by (Uses sets) c d = subst Keeps (sym d.1) refl
 
 pub unedited : (table : CallTable) (w : World) (ask : Asked) (h : ProcessState) → kept_at w ask.process ≡ Some h → may_edit table h ≡ false →
     (apply table w ask).1.tree ≡ w.tree

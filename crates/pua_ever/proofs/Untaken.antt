@@ -4,7 +4,7 @@ use Rattle.pua_ever.proofs.Common.{is_some, not, ◌||◌, nat_le, length, false
 use Rattle.pua_ever.proofs.Common.{exact_spots, is_dir, is_living, look, Node, Some≢None, CallTable, rule_of, ProcessState, may_any, Found}
 use Rattle.pua_ever.proofs.Common.{Call, Action, Asked, World, kept_at, apply, tree_left, Change, change_by, CopyAs, change_effect, Copies}
 use Rattle.pua_ever.proofs.Common.{Fails, EAGAIN, most_processes, IsDecided, OnPath, Symlink, Rename, Link, Pledge, Unveil, Lock, Fork}
-use Rattle.pua_ever.proofs.Common.{Exit, is_yes, NoCallNeedsError, IsWithin}
+use Rattle.pua_ever.proofs.Common.{Exit, Uses, is_yes, NoCallNeedsError, IsWithin}
 use Rattle.pua_tree.specs.Edits.{add, tie, with_new, with_row, has_room, has_name_room}
 use Rattle.pua_tree.specs.declared.fault.TreeFault.TheVariants.{NotDir, Missing, IsDir as IsDirFault, Taken, Full}
 use Rattle.pua_tree.proofs.ForCallers.{same_or_other, put_elsewhere}
@@ -100,6 +100,7 @@ module _ (table : CallTable) (w : World) (h : ProcessState) (lacks : may_take ta
   keeps_by Lock c d = subst Keeps (sym d.1) (rows_same w.tree)
   keeps_by (Fork new) c d = subst Keeps (sym d.1) (keeps_copy new)
   keeps_by Exit c d = subst Keeps (sym d) (rows_same w.tree)
+  keeps_by (Uses sets) c d = subst Keeps (sym d.1) (rows_same w.tree)
 
 pub untaken : (table : CallTable) (w : World) (ask : Asked) (h : ProcessState) → kept_at w ask.process ≡ Some h → may_take table h ≡ false →
     RowsStay w.tree (apply table w ask).1.tree

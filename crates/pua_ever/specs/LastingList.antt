@@ -1,9 +1,10 @@
 -- What contracts see of the list that holds longest.
 use Rattle.std.specs.Prelude.{◌≡◌, [], Option, None, MatchOption}
+use Rattle.std.specs.List.{AllByRecursion}
 use Rattle.pua_tree.specs.Tree.{Tree}
 use Rattle.pua_calls.specs.Calls.{CallTable}
 use Rattle.pua_policy.specs.States.{ProcessState}
-use Rattle.pua_ever.specs.EverList.{AreEverTold}
+use Rattle.pua_ever.specs.EverList.{AreEverTold, IsRowOn}
 use Rattle.pua_ever.specs.Both.{IsBoth}
 use Rattle.pua_ever.specs.Through.{bound_of, ever_lasting, execs_of}
 use Rattle.pua_ever.specs.declared.lasting.Both.{Both}
@@ -16,3 +17,4 @@ IsBothOf table h both = MatchOption both (bound_of table h ≡ None) (IsBoth tab
 pub record IsLasting (t : Tree) (table : CallTable) (h : ProcessState) (list : given.LastingList) : Type 0 where
   pub rows : AreEverTold t [] list.rows.items (ever_lasting t table h) []
   pub execs : list.execs ≡ execs_of t table h
+  pub items : AllByRecursion (IsRowOn t h) list.rows.items

@@ -11,8 +11,8 @@ use pua_policy::Process;
 use pua_tree::OutOfMemory;
 use std::alloc::Global;
 
-/// Some processes as one: whether all of them are locked, what any of them holds, and what any of them
-/// hands down, unless one that can start a program has no execpromises.
+/// Some processes as one: whether all of them are locked, what any of them holds, and what any of
+/// them hands down, unless one that can start a program has no execpromises.
 #[derive(Clone, Copy)]
 struct Joint {
     locked: bool,
@@ -20,11 +20,11 @@ struct Joint {
     given: Option<Promises>,
 }
 
-/// Makes the process that stands for several, to be asked what they can ever touch together: it has their
-/// veils and is locked, holds what any of them holds, and hands down what any of them does that can start
-/// a program. It hands nothing down where one of these has no execpromises, or a program could put veils.
-/// That the processes live, have the same veils and can put no more is for the caller to see to. The only
-/// error is that a growth was refused.
+/// Makes the process that stands for several, to be asked what they can ever touch together: it has
+/// their veils and is locked, holds what any of them holds, and hands down what any of them does
+/// that can start a program. It hands nothing down where one of these has no execpromises, or a
+/// program could put veils. That the processes live, have the same veils and can put no more is for
+/// the caller to see to. The only error is that a growth was refused.
 pub fn join(
     alloc: Global,
     first: &Process,
@@ -93,8 +93,8 @@ fn confined_part(locked: bool, held: Promises, given: Option<Promises>) -> Optio
     }
 }
 
-/// What a process hands down to a program: nothing where it can start none, and None where it can and
-/// has no execpromises.
+/// What a process hands down to a program: nothing where it can start none, and None where it can
+/// and has no execpromises.
 fn handed_down(process: &Process, table: &CallTable) -> Option<Promises>
     ensures { result ≡ handed table.now process.now }
 {

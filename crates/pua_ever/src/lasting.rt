@@ -15,8 +15,8 @@ use pua_tree::OutOfMemory;
 use std::alloc::Global;
 
 /// Whose list is the one through execs: a process with the same veils, locked, that holds what the
-/// process held and what it hands down; and the calls that one of both sets lets through, with which
-/// its lines are let through.
+/// process held and what it hands down; and the calls that one of both sets lets through, with
+/// which its lines are let through.
 #[derive(Drop)]
 pub struct Both {
     /// The process that holds both sets.
@@ -62,9 +62,9 @@ pub fn bound(process: &Process, table: &CallTable) -> Option<Promises>
     }
 }
 
-/// Whether a process can start what the promise tmppath makes, by a kernel's rules, which are those by
-/// which execpromises stay: it holds that promise, and exec is let through and is allowed under some
-/// veil. The only error is that a growth was refused.
+/// Whether a process can start what the promise tmppath makes, by a kernel's rules, which are those
+/// by which execpromises stay: it holds that promise, and exec is let through and is allowed under
+/// some veil. The only error is that a growth was refused.
 pub(crate) fn starts_made(
     alloc: Global,
     process: &Process,

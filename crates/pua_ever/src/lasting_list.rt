@@ -1,11 +1,12 @@
 //! The list for ever that holds longest: through execs, where all that a process starts is bounded.
 
 ghost use Rattle.std.specs.Prelude.{◌≡◌, [], List, None, IfErr, IfOk, MatchResult, option_copied};
+ghost use Rattle.std.specs.List.{AllByRecursion};
 ghost use Rattle.pua_tree.specs.Tree.{Tree};
 ghost use Rattle.pua_calls.specs.CallSets.{has};
 ghost use Rattle.pua_policy.specs.States.{ProcessState};
 ghost use Rattle.pua_ever.specs.Ever.{EverLine as Told};
-ghost use Rattle.pua_ever.specs.EverList.{AreEverTold};
+ghost use Rattle.pua_ever.specs.EverList.{AreEverTold, IsRowOn, abouts};
 ghost use Rattle.pua_ever.specs.Both.{IsBoth};
 ghost use Rattle.pua_ever.specs.LastingList.{IsBothOf, IsLasting};
 ghost use Rattle.pua_ever.specs.Refusals.{refusal as refusal_of, refusal_in};
@@ -26,7 +27,8 @@ pub enum ExecBound {
     Never,
     /// All that is started is bounded: the list holds through every exec.
     Bounded,
-    /// What is started isn't bounded, or no line tells of it: the list holds until a program is started.
+    /// What is started isn't bounded, or no line tells of it: the list holds until a program is
+    /// started.
     Open,
 }
 
@@ -39,11 +41,11 @@ pub struct LastingList<'t> {
     pub execs: ExecBound,
 }
 
-/// Lists what a process, and what it forks, can ever touch in a tree by their own doing. Where all that
-/// they start is bounded, the list holds through every exec, and has what the started programs can
-/// touch, too: `both` is what `both_of` gave of the process by this table. Else it holds until an exec
-/// of theirs succeeds. Where `why_refused` has a reason, that is the fault. Else the only fault is that
-/// a growth was refused.
+/// Lists what a process, and what it forks, can ever touch in a tree by their own doing. Where all
+/// that they start is bounded, the list holds through every exec, and has what the started programs
+/// can touch, too: `both` is what `both_of` gave of the process by this table. Else it holds until
+/// an exec of theirs succeeds. Where `why_refused` has a reason, that is the fault. Else the only
+/// fault is that a growth was refused.
 pub fn list_lasting<'t, T: FileTree>(
     alloc: Global,
     tree: &'t T,
@@ -75,8 +77,8 @@ pub fn list_lasting<'t, T: FileTree>(
     })
 }
 
-/// The rows of who holds both sets, with the calls that one of the two lets through. They are refused
-/// by nothing that didn't refuse those of the process.
+/// The rows of who holds both sets, with the calls that one of the two lets through. They are
+/// refused by nothing that didn't refuse those of the process.
 fn rows_through<'t, T: FileTree>(
     alloc: Global,
     tree: &'t T,
@@ -86,6 +88,8 @@ fn rows_through<'t, T: FileTree>(
     ensures rows { IfOk result (λ rows. (h : ProcessState) → (is : IsBoth table.now h both.now) →
         AreEverTold (T.content tree.now) [] rows.items (ever_through
         (T.content tree.now) table.now h is.given) []) }
+    ensures items { IfOk result (λ rows. (h : ProcessState) → IsBoth table.now h both.now →
+        AllByRecursion (IsRowOn (T.content tree.now) h) rows.items) }
     ensures unrefused { IfErr result (λ fault. (h : ProcessState) → IsBoth table.now h both.now →
         refusal_of table.now h ≡ None → refusal_in fault ≡ None) }
 {
@@ -97,7 +101,7 @@ fn rows_through<'t, T: FileTree>(
 }
 
 /// What a list without an exec says of execs: that none can ever succeed, unless a program can be
-/// started that it doesn't tell of. The only fault is that a growth was refused.
+/// started that it doesn't tell of. The only error is that a growth was refused.
 fn unlisted(alloc: Global, process: &Process, table: &CallTable) -> Result<ExecBound, EverFault>
     ensures execs { IfOk result (λ execs. execs ≡ execs_unlisted table.now process.now) }
     ensures unrefused { IfErr result (λ fault. refusal_in fault ≡ None) }
@@ -117,22 +121,26 @@ fn some_exec(rows: &[EverRow<'_>]) -> bool
     rows.iter().any(|row| row.line.calls.contains(Call::Exec))
 }
 
-/// The rows with those of their calls that are let through. The only error is that a growth was refused.
+/// The rows with those of their calls that are let through. The only error is that a growth was
+/// refused.
 fn let_through<'t>(
     alloc: Global,
     rows: &[EverRow<'t>],
     passes: Calls,
 ) -> Result<Vec<EverRow<'t>>, AllocError>
-    ensures { IfOk result (λ through. (t : Tree) (lines : List Told) →
+    ensures told { IfOk result (λ through. (t : Tree) (lines : List Told) →
         AreEverTold t [] rows.now lines [] →
         AreEverTold t [] through.items (only_through (has passes) lines) []) }
+    ensures same { IfOk result (λ through. abouts through.items ≡ abouts rows.now) }
 {
     let mut through = Vec::new(alloc);
     for row in rows {
+        let line = row.line.let_through(passes);
         let Ok(()) = through.push(EverRow {
             depth: row.depth,
             name: row.name,
-            line: row.line.let_through(passes),
+            about: row.about,
+            line,
         }) else {
             return Err(AllocError);
         };

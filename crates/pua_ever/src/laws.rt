@@ -15,12 +15,13 @@ ghost use Rattle.pua_ever.specs.ThroughExamples.{ThroughRows};
 ghost use Rattle.pua_ever.specs.Together.{EverTogether, TogetherAfterRead, TogetherLasts};
 ghost use Rattle.pua_ever.specs.TogetherExamples.{TogetherRows};
 
-/// Whatever a process that can put no veil any more and what it forks ask for, as long as nobody else
-/// changes the tree and no exec of theirs succeeds: if a call of one of them is then allowed on what a path
-/// names, the line of that thing in the list of the beginning has the call. So it is of several processes
-/// with the same veils, of execs that let them do no more, and behind a listing and a script as a command
-/// reads them. Where no line has an exec, none can succeed; and a file that is made, or that a call of
-/// its line can make a program, has exec in its line wherever it could be started, were it one.
+/// Whatever a process that can put no veil any more and what it forks ask for, as long as nobody
+/// else changes the tree and no exec of theirs succeeds: if a call of one of them is then allowed
+/// on what a path names, the line of that thing in the list of the beginning has the call. So it is
+/// of several processes with the same veils, of execs that let them do no more, and behind a
+/// listing and a script as a command reads them. Where no line has an exec, none can succeed; and a
+/// file that is made, or that a call of its line can make a program, has exec in its line wherever
+/// it could be started, were it one.
 pub fn ever_law()
     ensures complete { EverComplete }
     ensures many { EverOfMany }
@@ -32,15 +33,15 @@ pub fn ever_law()
     ensures after_read { EverAfterRead }
 {}
 
-/// The list of the objects of now lies within the list for ever: each line of now has one there by the
-/// same names, about the same thing, with all of its calls.
+/// The list of the objects of now lies within the list for ever: each line of now has one there by
+/// the same names, about the same thing, with all of its calls.
 #[tactic(auto, using(crate::proofs::Now::now_within_ever))]
 pub fn now_law()
     ensures { NowWithinEver }
 {}
 
-/// Each veil stands on a number that was given, in a new world and in each that a replay leaves; and the
-/// standard rules and those of OpenBSD are tables that the laws speak of.
+/// Each veil stands on a number that was given, in a new world and in each that a replay leaves;
+/// and the standard rules and those of OpenBSD are tables that the laws speak of.
 #[tactic(auto, using(crate::proofs::Standing::new_places, crate::proofs::Standing::replays_keep_places, crate::proofs::Rules::rules_edit_by_c))]
 pub fn premises_law()
     ensures new { NewPlacesStand }
@@ -66,11 +67,11 @@ pub fn program_examples()
     ensures { StartedRows }
 {}
 
-/// The same through execs, where all that is started is bounded by the execpromises: each of the family
-/// holds what the process held, or what it handed down, under the same veils, and each call that is then
-/// allowed to one of them has its line in the list of the beginning. So it is of several processes that act
-/// together, of files that are made programs, and behind a listing and a script as a command reads them.
-/// The list of the objects of now lies within it.
+/// The same through execs, where all that is started is bounded by the execpromises: each of the
+/// family holds what the process held, or what it handed down, under the same veils, and each call
+/// that is then allowed to one of them has its line in the list of the beginning. So it is of
+/// several processes that act together, of files that are made programs, and behind a listing and a
+/// script as a command reads them. The list of the objects of now lies within it.
 pub fn through_law()
     ensures along { FamiliesGoAlong }
     ensures narrows { FamiliesNarrowThrough }
@@ -88,11 +89,11 @@ pub fn through_examples()
     ensures { ThroughRows }
 {}
 
-/// Several processes with the same veils, in whichever order, that can put no more: whatever they and what
-/// they fork ask for, as long as nobody else changes the tree and no exec of theirs succeeds, each call that
-/// is then allowed to one of them has its line in the list of the one that stands for all of them. So it is
-/// through execs, where all that they start is bounded, and behind a listing and a script as a command reads
-/// them.
+/// Several processes with the same veils, in whichever order, that can put no more: whatever they
+/// and what they fork ask for, as long as nobody else changes the tree and no exec of theirs
+/// succeeds, each call that is then allowed to one of them has its line in the list of the one that
+/// stands for all of them. So it is through execs, where all that they start is bounded, and behind
+/// a listing and a script as a command reads them.
 pub fn together_law()
     ensures together { EverTogether }
     ensures lasts { TogetherLasts }
@@ -105,10 +106,10 @@ pub fn together_examples()
     ensures { TogetherRows }
 {}
 
-/// Several processes with veils and promises of their own, and what they fork: whatever they ask for, all of
-/// them together, each call that is then allowed to one of them has its line in the joint list of that one.
-/// So it is through execs, where all that they start is bounded, and behind a listing and a script. Who has
-/// more help has no less in its list.
+/// Several processes with veils and promises of their own, and what they fork: whatever they ask
+/// for, all of them together, each call that is then allowed to one of them has its line in the
+/// joint list of that one. So it is through execs, where all that they start is bounded, and behind
+/// a listing and a script. Who has more help has no less in its list.
 pub fn jointly_law()
     ensures within { JointlyWithin }
     ensures complete { JointlyComplete }

@@ -1,7 +1,7 @@
 //! All that a process and what it forks can ever touch, as a vector.
 
-ghost use Rattle.std.specs.Prelude.{◌≡◌, ◌⊎◌, ◌&&◌, [], List, true, None, Some, IfOk, OnOk};
-ghost use Rattle.std.specs.Prelude.{MatchResult};
+ghost use Rattle.std.specs.Prelude.{◌≡◌, ◌≤◌, ◌⊎◌, ◌&&◌, ◌∷◌, ◌++◌, [], List, true, None, Some};
+ghost use Rattle.std.specs.Prelude.{IfOk, IfSome, MatchOption, MatchResult, OnOk, length};
 ghost use Rattle.std.specs.List.{AllByRecursion};
 ghost use Rattle.pua_tree.specs.Tree.{Tree, WellFormed};
 ghost use Rattle.pua_calls.specs.Calls.{CallTable as Table};
@@ -12,47 +12,74 @@ ghost use Rattle.pua_script.specs.Laws.{IsConfined};
 ghost use Rattle.pua_objects.specs.Items.{IsItemOn, subject_given};
 ghost use Rattle.pua_objects.specs.Laws.{HasPlaces};
 ghost use Rattle.pua_objects.specs.Lines.{kind_word};
-ghost use Rattle.pua_objects.specs.ListItems.{AreNear, IsToldIn};
+ghost use Rattle.pua_objects.specs.ListItems.{AreNear, IsToldIn, last_name, last_word};
 ghost use Rattle.pua_objects.specs.Objects.{Subject as About, subject_word};
 ghost use Rattle.pua_objects.specs.declared.list.ListItem.{ListItem as Listed};
-ghost use Rattle.pua_ever.specs.Ever.{Comes, can_make, ever, is_new_allowed, may_edit, own_spot};
+ghost use Rattle.pua_ever.specs.Ever.{Comes, Stands, can_make, ever, is_new_allowed, may_edit};
+ghost use Rattle.pua_ever.specs.Ever.{own_spot};
 ghost use Rattle.pua_ever.specs.EverLines.{IsThing, new_of};
-ghost use Rattle.pua_ever.specs.EverList.{AreEverTold, AreRowsBut, IsRowAt, IsStandsRow};
+ghost use Rattle.pua_ever.specs.EverList.{AreEverTold, AreRowsBut, AreRowsSoFar, IsFreedRow};
+ghost use Rattle.pua_ever.specs.EverList.{IsRowAt, IsRowOn, IsStandsRow, subject_at, thing_of};
 ghost use Rattle.pua_ever.specs.Laws.{EditsNeedC};
-ghost use Rattle.pua_ever.specs.Prospects.{AreOnFreed, IsProspects};
+ghost use Rattle.pua_ever.specs.Prospects.{AreOnFreed, IsProspects, own_given};
 ghost use Rattle.pua_ever.specs.Refusals.{refusal as refusal_of, refusal_in};
 
 use crate::fault::EverFault;
 use crate::line::{EverLine, EverThing};
 use crate::made::Made;
-use crate::prospects::{Prospects, find_prospects};
+use crate::prospects::{Prospects, find_prospects, own_name};
 use crate::refusal::why_refused;
 use pua_calls::CallTable;
 use pua_objects::{Item, ListItem, ObjectKind, Subject, list_items};
-use pua_policy::Process;
-use pua_tree::{FileTree, Name};
+use pua_policy::{Cover, Object, Process};
+use pua_tree::{FileTree, Name, NodeId};
 use std::alloc::{AllocError, Global};
 
-/// A line of the list for ever, which may have no calls. The names that lead to what it is about are so
-/// many of those of the line before, and then its own name, if it has one.
+/// A line of the list for ever, which may have no calls. The names that lead to what it is about
+/// are so many of those of the line before, and then its own name, if it has one.
 #[derive(Clone, Copy)]
 pub struct EverRow<'t> {
     /// How many names it shares with the line before.
     pub depth: usize,
-    /// The last of its names; None for the root, for further names, for the name at which something
-    /// stands, whose line stands before, and for what can be made.
+    /// The last of its names; None for the root, for further names, and for what can be made.
     pub name: Option<&'t Name>,
-    /// What it is about, and its calls.
+    /// What it is about, as the tree has it.
+    pub about: EverAbout,
+    /// What the line says that it is, and its calls.
     pub line: EverLine,
 }
 
+/// What a line of the list for ever is about. A name that it speaks of is that of its row.
+#[derive(Clone, Copy)]
+pub enum EverAbout {
+    /// What stands or could stand now, what a call is on there, and what the veils leave of it.
+    Stands(EverPlace, Object, Cover),
+    /// The name in a directory at which something stands, once that is taken away.
+    Freed(NodeId),
+    /// What can be made.
+    Comes(Made),
+}
+
+/// Where something stands or could stand.
+#[derive(Clone, Copy)]
+pub enum EverPlace {
+    /// The root.
+    Root,
+    /// A directory, then the one in which it has its name.
+    Dir(NodeId, NodeId),
+    /// All further names of a directory.
+    Others(NodeId),
+    /// A name in a directory, at which no directory stands.
+    Name(NodeId),
+}
+
 /// Lists what a process, and what it forks, can ever touch in a tree by their own doing, as long as
-/// no exec of theirs succeeds. What stands or could stand now comes in the order of `list_items`, each
-/// followed by the name at which it stands, as a missing one: that has calls if it has a veil of its
-/// own and can come to be free. Last comes what can be made: a directory, its names, a file and a link.
-/// Where `why_refused` has a reason, that is the fault. Else the process can put no veil any more or
-/// has ended, and the only fault is that a growth was refused. Each veil that is not at a directory is
-/// at a name. The veils are asked as by `find_movable`.
+/// no exec of theirs succeeds. What stands or could stand now comes in the order of `list_items`,
+/// each followed by the name at which it stands, if it has one, as a missing one: that has calls if
+/// it has a veil of its own and can come to be free. Last comes what can be made: a directory, its
+/// names, a file and a link. Where `why_refused` has a reason, that is the fault. Else the process
+/// can put no veil any more or has ended, and the only fault is that a growth was refused. Each
+/// veil that is not at a directory is at a name. The veils are asked as by `find_movable`.
 pub fn list_ever<'t, T: FileTree>(
     alloc: Global,
     tree: &'t T,
@@ -67,6 +94,8 @@ pub fn list_ever<'t, T: FileTree>(
     ensures table { OnOk result (EditsNeedC table.now) }
     ensures confined { OnOk result (IsConfined process.now ⊎ (is_ended process.now ≡ true)) }
     ensures places { OnOk result (HasPlaces process.now) }
+    ensures items { IfOk result (λ rows.
+        AllByRecursion (IsRowOn (T.content tree.now) process.now) rows.items) }
 {
     if let Some(refusal) = why_refused(process, table) {
         return Err(EverFault::Refused(refusal));
@@ -95,31 +124,60 @@ fn rows_of<'t>(
     table: &CallTable,
     items: &[ListItem<'t>],
 ) -> Result<Vec<EverRow<'t>>, AllocError>
-    ensures { IfOk result (λ rows. (t : Tree) → WellFormed t → EditsNeedC table.now →
+    ensures told { IfOk result (λ rows. (t : Tree) → WellFormed t → EditsNeedC table.now →
         IsProspects t table.now process.now prospects.now →
         AllByRecursion (IsToldIn t process.now) items.now → AreNear [] items.now →
         AreRowsBut t table.now process.now items.now rows.items (Some Made.Dir)) }
+    ensures items { IfOk result (λ rows. (t : Tree) → WellFormed t →
+        AllByRecursion (IsToldIn t process.now) items.now →
+        AllByRecursion (IsRowOn t process.now) rows.items) }
 {
     let mut rows = Vec::new(alloc);
     for item in items {
-        let stands = stands_row(prospects, process, table, item);
-        let Ok(()) = rows.push(stands) else {
-            return Err(AllocError);
-        };
-        let freed = freed_row(prospects, process, table, item);
-        let Ok(()) = rows.push(freed) else {
-            return Err(AllocError);
-        };
+        add_rows(prospects, process, table, item, &mut rows)?;
     }
     Ok(rows)
 }
 
+/// Adds the rows of an item. The only error is that a growth was refused.
+fn add_rows<'t>(
+    prospects: &Prospects,
+    process: &Process,
+    table: &CallTable,
+    item: &ListItem<'t>,
+    rows: &mut Vec<EverRow<'t>>,
+) -> Result<(), AllocError>
+    ensures told { OnOk result ((t : Tree) (items so_far left : List Listed) → WellFormed t →
+        EditsNeedC table.now → IsProspects t table.now process.now prospects.now →
+        IsToldIn t process.now item.now → item.now.depth ≤ length (last_word [] so_far) →
+        AreRowsSoFar t table.now process.now items so_far (item.now ∷ left) rows.old.items →
+        AreRowsSoFar t table.now process.now items (so_far ++ item.now ∷ []) left
+        rows.new.items) }
+    ensures items { OnOk result ((t : Tree) → WellFormed t → IsToldIn t process.now item.now →
+        AllByRecursion (IsRowOn t process.now) rows.old.items →
+        AllByRecursion (IsRowOn t process.now) rows.new.items) }
+{
+    let stands = stands_row(prospects, process, table, item);
+    let Ok(()) = rows.push(stands) else {
+        return Err(AllocError);
+    };
+    let Some(freed) = freed_row(prospects, process, table, item) else {
+        return Ok(());
+    };
+    let Ok(()) = rows.push(freed) else {
+        return Err(AllocError);
+    };
+    Ok(())
+}
+
 /// Adds the rows of what can be made. The only error is that a growth was refused.
 fn add_made(prospects: &Prospects, rows: &mut Vec<EverRow<'_>>) -> Result<(), AllocError>
-    ensures { OnOk result ((t : Tree) (table : Table) (h : ProcessState) (items : List Listed) →
-        IsProspects t table h prospects.now →
+    ensures told { OnOk result ((t : Tree) (table : Table) (h : ProcessState)
+        (items : List Listed) → IsProspects t table h prospects.now →
         AreRowsBut t table h items rows.old.items (Some Made.Dir) →
         AreRowsBut t table h items rows.new.items None) }
+    ensures items { OnOk result ((t : Tree) (h : ProcessState) →
+        AllByRecursion (IsRowOn t h) rows.old.items → AllByRecursion (IsRowOn t h) rows.new.items) }
 {
     let mut coming = Some(Made::Dir);
     while let Some(made) = coming {
@@ -139,49 +197,72 @@ fn stands_row<'t>(
     item: &ListItem<'t>,
 ) -> EverRow<'t>
     ensures at { IsRowAt item.now result }
+    ensures about { (t : Tree) → thing_of t result
+        ≡ Some (Stands (subject_given t item.now.item.subject)) }
+    ensures on { (t : Tree) (h : ProcessState) → IsToldIn t h item.now → IsRowOn t h result }
     ensures row { (t : Tree) → WellFormed t → EditsNeedC table.now →
         IsProspects t table.now process.now prospects.now → IsToldIn t process.now item.now →
         IsStandsRow t table.now process.now item.now result }
 {
-    let calls = prospects.calls_on(process, table, &item.item);
+    let own = &item.item;
     EverRow {
         depth: item.depth,
         name: item.name(),
+        about: EverAbout::Stands(place_of(own), own.object, own.cover),
         line: EverLine {
-            thing: EverThing::Stands(kind_of(&item.item)),
-            calls,
+            thing: EverThing::Stands(kind_of(own)),
+            calls: prospects.calls_on(process, table, own),
         },
     }
 }
 
-/// The row of the name at which an item stands, once that can be taken away.
+/// Where what an item is about stands.
+fn place_of(item: &Item<'_>) -> EverPlace
+    ensures { (t : Tree) → subject_at t (last_name item.now.subject) result
+        ≡ Some (subject_given t item.now.subject) }
+{
+    match item.subject {
+        Subject::Root => EverPlace::Root,
+        Subject::Dir(id, dir, _) => EverPlace::Dir(id, dir),
+        Subject::Others(dir) => EverPlace::Others(dir),
+        Subject::Name(dir, _) => EverPlace::Name(dir),
+    }
+}
+
+/// The row of the name at which an item stands, once that can be taken away; None where it has
+/// none.
 fn freed_row<'t>(
     prospects: &Prospects,
     process: &Process,
     table: &CallTable,
     item: &ListItem<'t>,
-) -> EverRow<'t>
-    ensures at { IsRowAt item.now result }
-    ensures thing { result.line.thing ≡ EverThing.Stands ObjectKind.Missing }
-    ensures calls { (t : Tree) → WellFormed t → IsProspects t table.now process.now prospects.now →
-        IsToldIn t process.now item.now →
+) -> Option<EverRow<'t>>
+    ensures own { MatchOption result (own_given item.now.item.subject item.now.item.object ≡ None)
+        (IsFreedRow item.now (own_given item.now.item.subject item.now.item.object)) }
+    ensures calls { IfSome result (λ row. (t : Tree) → WellFormed t →
+        IsProspects t table.now process.now prospects.now → IsToldIn t process.now item.now →
         AreOnFreed t table.now process.now (own_spot
-        (subject_given t item.now.item.subject)) result.line.calls }
+        (subject_given t item.now.item.subject)) row.line.calls) }
 {
+    let Some(own) = own_name(&item.item) else {
+        return None;
+    };
     let calls = prospects.calls_on_freed(process, table, &item.item);
-    EverRow {
+    Some(EverRow {
         depth: item.depth,
-        name: item.name(),
+        name: Some(own.1),
+        about: EverAbout::Freed(own.0),
         line: EverLine {
             thing: EverThing::Stands(ObjectKind::Missing),
             calls,
         },
-    }
+    })
 }
 
 /// The row of what can be made.
 fn made_row<'t>(prospects: &Prospects, made: Made) -> EverRow<'t>
     ensures at { (result.depth ≡ 0) × (result.name ≡ None) }
+    ensures about { result.about ≡ EverAbout.Comes made }
     ensures thing { (t : Tree) → IsThing t (Comes (new_of made)) result.line.thing }
     ensures calls { (t : Tree) (table : Table) (h : ProcessState) →
         IsProspects t table h prospects.now → (call : AnyCall) → has result.line.calls call
@@ -191,6 +272,7 @@ fn made_row<'t>(prospects: &Prospects, made: Made) -> EverRow<'t>
     EverRow {
         depth: 0,
         name: None,
+        about: EverAbout::Comes(made),
         line: EverLine {
             thing: EverThing::Comes(made.kind()),
             calls: prospects.calls_on_made(made),

@@ -24,8 +24,8 @@ use std::alloc::Global;
 
 /// The calls that can ever be allowed on what can be moved now and has no veil of its own that goes
 /// with it, and on what is made, by what it is: the calls that are allowed under some cover that it
-/// can come to have. So they are on a file, program or link that link can give a further name, beside those
-/// that its own cover allows.
+/// can come to have. So they are on a file, program or link that link can give a further name,
+/// beside those that its own cover allows.
 #[derive(Clone, Copy)]
 pub struct Movable {
     /// On a directory, rmdir aside.
@@ -34,7 +34,8 @@ pub struct Movable {
     pub emptied: Calls,
     /// On the further names of a directory.
     pub others: Calls,
-    /// On what is no directory, by the number of its kind: on a link, on itself or on what it leads to.
+    /// On what is no directory, by the number of its kind: on a link, on itself or on what it leads
+    /// to.
     pub nodes: [Calls; Kind::COUNT],
     /// On a name where something can be made.
     pub made: Calls,

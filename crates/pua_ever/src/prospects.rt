@@ -40,8 +40,8 @@ use pua_policy::{Cover, Object, Place, Process, judge};
 use pua_tree::{FileTree, Kind, Name, NodeId, OutOfMemory};
 use std::alloc::Global;
 
-/// What decides the calls of the lines of a list for ever, beside an item's own object and cover. It is
-/// of one tree, one process and one table, which are handed in again with each question.
+/// What decides the calls of the lines of a list for ever, beside an item's own object and cover.
+/// It is of one tree, one process and one table, which are handed in again with each question.
 #[derive(Drop)]
 pub struct Prospects {
     /// Whether the tree can change at all.
@@ -55,9 +55,9 @@ pub struct Prospects {
     movable: Movable,
 }
 
-/// Finds what decides the calls of the lines of a process's list for ever, by a table of what calls need.
-/// What it decides is that list where `why_refused` has no reason against one. The only error is that a
-/// growth was refused.
+/// Finds what decides the calls of the lines of a process's list for ever, by a table of what calls
+/// need. What it decides is that list where `why_refused` has no reason against one. The only error
+/// is that a growth was refused.
 pub fn find_prospects<T: FileTree>(
     alloc: Global,
     tree: &T,
@@ -217,8 +217,8 @@ impl Prospects {
         calls
     }
 
-    /// Whether what is no directory and stands at a name can be given a further one by link, by what
-    /// covers it.
+    /// Whether what is no directory and stands at a name can be given a further one by link, by
+    /// what covers it.
     fn can_link(&self, table: &CallTable, cover: Cover, object: Object) -> bool
         ensures { (t : Tree) (h : ProcessState) (kind : AnyKind) → IsProspects t table.now h self.now →
             object ≡ object_seen empty_tree (object_of_kind (Some kind)) → result
@@ -304,7 +304,7 @@ fn moves_dir(process: &Process, table: &CallTable, dir: NodeId, cover: &Cover) -
 
 /// The name at which what an item is about stands; None for the root, for further names, and where
 /// nothing stands.
-fn own_name<'t>(item: &Item<'t>) -> Option<(NodeId, &'t Name)>
+pub(crate) fn own_name<'t>(item: &Item<'t>) -> Option<(NodeId, &'t Name)>
     ensures { option_map (λ own. (own.0, own.1.now)) result
         ≡ own_given item.now.subject item.now.object }
 {

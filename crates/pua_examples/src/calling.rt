@@ -1,5 +1,5 @@
-//! A caller of each library, from a listing and a script to what a process can still do. The page for
-//! callers, docs/CALLING.md, goes through these functions.
+//! A caller of each library, from a listing and a script to what a process can still do. The page
+//! for callers, docs/CALLING.md, goes through these functions.
 
 ghost use Rattle.std.specs.Prelude.{◌≡◌, ◌≢◌, ℕ, List, [], Some, None, Ok, Err, IfOk, IfErr};
 ghost use Rattle.std.specs.Prelude.{IsTrue, IsFalse, nat_eq};
@@ -30,12 +30,12 @@ use pua_path::{Counted, Ending, Errno, Found, Last, PathText, resolve};
 use pua_policy::judge::verdict_of;
 use pua_policy::{Process, Verdict};
 use pua_script::{Answer, Script, ScriptFault, World, read_script};
-use pua_tool::{MemorySink, Processes, TableChoice, ToolFault, objects_to};
+use pua_tool::{Columns, ListWords, MemorySink, Processes, Span, TableChoice, ToolFault, list_to};
 use pua_tree::{FileTree, ListingFault, NodeId, OutOfMemory, SlabTree, read_listing_slab};
 use std::alloc::Global;
 
-/// The tree of a listing and the requests of a script. The error is the first fault of the listing, or
-/// else that of the script; `OutOfMemory` where a growth was refused.
+/// The tree of a listing and the requests of a script. The error is the first fault of the listing,
+/// or else that of the script; `OutOfMemory` where a growth was refused.
 pub(crate) fn read(
     alloc: Global,
     tree: &[u8],
@@ -115,8 +115,8 @@ fn name<T: FileTree>(
     resolve(probe, from, &text, last)
 }
 
-/// Whether a process is allowed a call on some path from the root, of at most so many components that
-/// the tree has, or `..`. The error is that of the audit's beginning.
+/// Whether a process is allowed a call on some path from the root, of at most so many components
+/// that the tree has, or `..`. The error is that of the audit's beginning.
 pub(crate) fn is_reached<T: FileTree>(
     alloc: Global,
     tree: &T,
@@ -160,8 +160,8 @@ fn is_lent<T: FileTree>(probe: &mut Counted<'_, T>, audit: &mut Audit, call: Cal
     false
 }
 
-/// Whether a process can touch anything at all. Where it can't, no call is allowed to it on any path,
-/// however long. The only error is that a growth was refused.
+/// Whether a process can touch anything at all. Where it can't, no call is allowed to it on any
+/// path, however long. The only error is that a growth was refused.
 #[tactic(auto, using(crate::proofs::Nowhere::nowhere))]
 pub(crate) fn can_touch<T: FileTree>(
     alloc: Global,
@@ -206,9 +206,9 @@ pub(crate) fn can_ever_start<T: FileTree>(
     Ok(rows.iter().any(|row| row.line.calls.contains(Call::Exec)))
 }
 
-/// The text of `pua objects` for a process or for all, in memory with room for so many bytes. The error
-/// is the first fault of the listing or the script, `NoProcess` where the process was never made,
-/// `Write` where there is too little room, and `OutOfMemory`.
+/// The text of `pua objects` for a process or for all, in memory with room for so many bytes. The
+/// error is the first fault of the listing or the script, `NoProcess` where the process was never
+/// made, `Write` where there is too little room, and `OutOfMemory`.
 pub(crate) fn list(
     alloc: Global,
     tree: &[u8],
@@ -225,13 +225,12 @@ pub(crate) fn list(
     let Ok(mut sink) = MemorySink::new(alloc, room) else {
         return Err(ToolFault::OutOfMemory);
     };
-    objects_to(
-        alloc,
-        tree,
-        lines,
-        TableChoice::STANDARD,
-        processes,
-        &mut sink,
-    )?;
+    let list = ListWords {
+        whose: processes,
+        span: Span::Now,
+        columns: Columns::Plain,
+    };
+    let table = TableChoice::STANDARD;
+    list_to(alloc, tree, lines, table, &list, &mut sink)?;
     Ok(sink)
 }

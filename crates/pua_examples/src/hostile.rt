@@ -1,6 +1,6 @@
 //! Runs the libraries in hostile surroundings: sinks that take a byte at a time and break, readers
-//! that give a byte at a time and fail. A line is printed for each case that is not as it has to be, and for
-//! each table how many cases it has.
+//! that give a byte at a time and fail. A line is printed for each case that is not as it has to
+//! be, and for each table how many cases it has.
 
 mod broken;
 mod called;

@@ -27,8 +27,8 @@ pub(crate) struct Taken {
     pub(crate) live: usize,
 }
 
-/// How many lines an audit lent, and how many components were read at most for one of them, or to find
-/// that none was left.
+/// How many lines an audit lent, and how many components were read at most for one of them, or to
+/// find that none was left.
 #[derive(Clone, Copy)]
 pub(crate) struct Lent {
     pub(crate) lines: usize,

@@ -1,5 +1,5 @@
-//! Edits of a tree in slots and of a tree of two sorted lists, side by side: a row of edits by which
-//! slots are used again, and then many at random. After each edit both trees answer the same.
+//! Edits of a tree in slots and of a tree of two sorted lists, side by side: a row of edits by
+//! which slots are used again, and then many at random. After each edit both trees answer the same.
 
 use crate::listed::is_listing;
 use crate::random::Random;
@@ -104,8 +104,8 @@ impl Edit {
         })
     }
 
-    /// Edits a tree: the node that was added, lost its name or was given one, or to whose names one was
-    /// moved; or why nothing was done.
+    /// Edits a tree: the node that was added, lost its name or was given one, or to whose names one
+    /// was moved; or why nothing was done.
     fn answer<T: FileTree>(&self, tree: &mut T) -> Result<NodeId, TreeFault> {
         match self {
             Edit::Add(dir, name, Kind::Link) => tree.add(*dir, *name, Kind::Link, Some(b"a")),

@@ -13,10 +13,11 @@ use pua_tree::{FileTree, ListTree, SlabTree};
 use std::alloc::Global;
 use std::fs;
 
-/// An audit of process 1 from the root, after a script, and what is found. Its components are the names in
-/// rows, `..` and the candidates. With N nodes, A components, a limit L and targets of at most M components
-/// it may look 33 N (L + 1) (A + 1) E + 2 (L + 1) (A + 1) E times at the tree, where E is
-/// 16 (3 (1 + 32 M) + N + 4), and only to begin; and it may read 2 (L + 1) (A + 1) components for a line.
+/// An audit of process 1 from the root, after a script, and what is found. Its components are the
+/// names in rows, `..` and the candidates. With N nodes, A components, a limit L and targets of at
+/// most M components it may look 33 N (L + 1) (A + 1) E + 2 (L + 1) (A + 1) E times at the tree,
+/// where E is 16 (3 (1 + 32 M) + N + 4), and only to begin; and it may read 2 (L + 1) (A + 1)
+/// components for a line.
 #[derive(Clone, Copy)]
 struct Case<'a> {
     script: &'a [u8],
@@ -27,22 +28,23 @@ struct Case<'a> {
     found: AuditSize,
 }
 
-/// How many states are live and lines come; or the path of the first line, where there are too many.
+/// How many states are live and lines come; or the path of the first line, where there are too
+/// many.
 #[derive(Clone, Copy)]
 enum AuditSize {
     Whole(usize, usize),
     First(&'static [u8]),
 }
 
-/// A file with the listing of a directory with 20 links to it, and in it a file with 13 links to it: each link
-/// leads to the one before.
+/// A file with the listing of a directory with 20 links to it, and in it a file with 13 links to
+/// it: each link leads to the one before.
 const CHAINS: &str = "chains";
 
 /// A file with the listing of a root with a hundred directories, ..
 const WIDE: &str = "wide";
 
-/// .. and one with the same, and in the root a chain: nine directories named `a`, one in another, and a file in
-/// the last one.
+/// .. and one with the same, and in the root a chain: nine directories named `a`, one in another,
+/// and a file in the last one.
 const DEEP: &str = "deep";
 
 /// A root in which nothing stands.
@@ -154,7 +156,8 @@ pub(crate) fn run(rt: &HostRuntime) -> Result<()> {
     count(rt, "live states", number, "audits over two trees")
 }
 
-/// Prints a line for each case over the listing of a file that is found otherwise; the number that follows.
+/// Prints a line for each case over the listing of a file that is found otherwise; the number that
+/// follows.
 fn judged_in(rt: &HostRuntime, file: &str, cases: &[Case<'_>], first: usize) -> Result<usize> {
     let listing = fs::read(rt, file)?;
     judged(rt, listing.as_slice(), cases, first)

@@ -1,5 +1,5 @@
-//! Trees with as many names as may be, of one file, and of as many nodes, over each kind of tree: memory is ample
-//! for all of them.
+//! Trees with as many names as may be, of one file, and of as many nodes, over each kind of tree:
+//! memory is ample for all of them.
 
 use crate::told::tell_expected;
 use crate::trees::ListedTree;
@@ -42,8 +42,8 @@ fn are_full(alloc: Global) -> Result<bool> {
     Ok(is_full::<ListTree>(alloc)? && is_full::<SlabTree>(alloc)?)
 }
 
-/// Whether an empty tree takes the files, and a world over it then has room for no node and no further name,
-/// until a name is taken away.
+/// Whether an empty tree takes the files, and a world over it then has room for no node and no
+/// further name, until a name is taken away.
 fn is_full<T: ListedTree>(alloc: Global) -> Result<bool> {
     let mut tree = T::read(alloc, ROOT)?;
     let is_filled = is_filled(alloc, &mut tree)?;
@@ -51,8 +51,8 @@ fn is_full<T: ListedTree>(alloc: Global) -> Result<bool> {
     Ok(is_filled && ran.answers.as_slice() == ANSWERS.as_slice())
 }
 
-/// Adds the files; whether each gets the next number, and the tree takes neither a node nor a further name then,
-/// until a name is taken away, and tells all its names.
+/// Adds the files; whether each gets the next number, and the tree takes neither a node nor a
+/// further name then, until a name is taken away, and tells all its names.
 fn is_filled<T: FileTree>(alloc: Global, tree: &mut T) -> Result<bool> {
     let mut are_added = true;
     for number in 1..=FILES {
@@ -81,9 +81,9 @@ fn takes_none<T: FileTree>(tree: &mut T, more: Name, node: NodeId) -> bool {
         && tree.tie(NodeId::ROOT, more, node) == Err(TreeFault::Full)
 }
 
-/// One file is given as many names as a tree has room for beside its root. Then there is no room for
-/// a further name, nor for a further node; there is again once a name is taken away, with which the
-/// file does not go.
+/// One file is given as many names as a tree has room for beside its root. Then there is no room
+/// for a further name, nor for a further node; there is again once a name is taken away, with which
+/// the file does not go.
 fn are_most_names(alloc: Global) -> Result<bool> {
     let mut tree = read_listing(alloc, b"tree 1\n0 dir\n1 file 0 00001\n")?;
     let file = NodeId::new(1);

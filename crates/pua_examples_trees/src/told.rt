@@ -1,5 +1,6 @@
-//! The lines that are printed, each by one function of its form: what prints is long to prove, and all else
-//! hands it texts. Whether there is a line is chosen here too, since a choice is long to prove inside a loop.
+//! The lines that are printed, each by one function of its form: what prints is long to prove, and
+//! all else hands it texts. Whether there is a line is chosen here too, since a choice is long to
+//! prove inside a loop.
 
 use anyhow::Result;
 
@@ -23,7 +24,8 @@ pub fn count(rt: &HostRuntime, what: &str, number: usize, of: &str) -> Result<()
     Ok(println!(rt; "{what}: {number} {of}")?)
 }
 
-/// Prints what became of something, unless it is as it has to be. It fails where that can't be told.
+/// Prints what became of something, unless it is as it has to be. It fails where that can't be
+/// told.
 pub fn tell_unless(rt: &HostRuntime, holds: Result<bool>, what: &str, word: &str) -> Result<()> {
     if holds? {
         return Ok(());

@@ -23,7 +23,7 @@ use Rattle.pua_script.specs.Replay.{World, kept_at, apply, world_after, answers_
 use Rattle.pua_script.specs.Family.{family, family_then, none_done, members_alone, is_done, is_member, is_exec, is_okay, with_child, HasKept}
 use Rattle.pua_script.specs.Tightening.{EndsWithin}
 use Rattle.pua_script.specs.declared.request.Action.{Action}
-use Rattle.pua_script.specs.declared.request.Action.TheVariants.{OnPath, Symlink, Rename, Link, Pledge, Unveil, Lock, Fork, Exit}
+use Rattle.pua_script.specs.declared.request.Action.TheVariants.{OnPath, Symlink, Rename, Link, Pledge, Unveil, Lock, Fork, Exit, Uses}
 use Rattle.pua_script.specs.declared.answer.Answer.TheVariants.{Okay}
 use Rattle.pua_script.proofs.ForCallers.{by_request, decisions_are_guarded, families_narrow, first_tree}
 use Rattle.pua_ever.specs.Laws.{EverComplete, Foresees, ForeseesIn, IsForeseen, IsForeseenIn}
@@ -124,6 +124,7 @@ allowed_on table t h (Unveil path perms) _ asked text decided e = absurd (None�
 allowed_on table t h Lock _ asked text decided e = absurd (None≢Some (asked, text) e)
 allowed_on table t h (Fork new) _ asked text decided e = absurd (None≢Some (asked, text) e)
 allowed_on table t h Exit _ asked text decided e = absurd (None≢Some (asked, text) e)
+allowed_on table t h (Uses sets) _ asked text decided e = absurd (None≢Some (asked, text) e)
 
 -- requests of one process alone are of its family, and do what it does
 module _ (table : CallTable) (process : ℕ) where
@@ -137,6 +138,7 @@ module _ (table : CallTable) (process : ℕ) where
   child_more (Unveil path perms) members e = e
   child_more Lock members e = e
   child_more Exit members e = e
+  child_more (Uses sets) members e = e
 
   then_member : (w : World) (ask : Asked) (members : List ℕ) → is_member members process ≡ true →
       is_member (family_then table w ask members) process ≡ true

@@ -29,9 +29,9 @@ pub enum Asking {
 }
 
 impl Asking {
-    /// What a path asks about, as a list for ever prints it: `/`, or names as they are spelled, each
-    /// behind one slash; or `new`. None where it is neither. The only error is that a growth was
-    /// refused.
+    /// What a path asks about, as a list for ever prints it: `/`, or names as they are spelled,
+    /// each behind one slash; or `new`. None where it is neither. The only error is that a growth
+    /// was refused.
     pub fn read(alloc: Global, path: &[u8]) -> Result<Option<Asking>, OutOfMemory>
         ensures { IfOk result (λ read. option_map asking_given read ≡ asking_of path.now) }
     {
@@ -82,19 +82,20 @@ fn read_names(alloc: Global, pieces: &[&[u8]]) -> Result<Option<Vec<Name>>, Allo
     Ok(Some(names))
 }
 
-/// All that may be meant by what is asked about, in the order of the list's lines, and the name with which
-/// a way to further names is to end, where one was asked for.
+/// All that may be meant by what is asked about, in the order of the list's lines, and the name
+/// with which a way to further names is to end, where one was asked for.
 #[derive(Drop)]
 pub struct Meant {
     pub targets: Vec<Target>,
     pub name: Option<Name>,
 }
 
-/// All that may be meant by what is asked about, of this kind if one is given, by the veils of a process.
-/// A directory is itself, or its further names; a file, program or link its node; either may be the name
-/// too, where that has a veil of its own, and so is a name at which nothing stands; without a veil it is
-/// one of the further names. None is meant where what is to lead there is no directory, or nothing is of
-/// the kind. The only error is that a growth was refused, as that of all that look.
+/// All that may be meant by what is asked about, of this kind if one is given, by the veils of a
+/// process. A directory is itself, or its further names; a file, program or link its node; either
+/// may be the name too, where that has a veil of its own, and so is a name at which nothing stands;
+/// without a veil it is one of the further names. None is meant where what is to lead there is no
+/// directory, or nothing is of the kind. The only error is that a growth was refused, as that of
+/// all that look.
 pub fn find_meant<T: FileTree>(
     alloc: Global,
     tree: &T,

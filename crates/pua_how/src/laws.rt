@@ -5,10 +5,11 @@ ghost use Rattle.pua_how.specs.Laws.{NeverComes, NeverComesThrough, WaysAreListe
 
 use pua_ever::{ever_law, through_law};
 
-/// Whatever a process that can put no veil any more and what it forks ask for, as long as nobody else
-/// changes the tree and no exec of theirs succeeds: a call that no line of the list for ever about a thing
-/// has is then allowed to none of them on that thing. So it is through execs, where all that they start is
-/// bounded, of the list that holds longest. And a call to which there is a way has a line there.
+/// Whatever a process that can put no veil any more and what it forks ask for, as long as nobody
+/// else changes the tree and no exec of theirs succeeds: a call that no line of the list for ever
+/// about a thing has is then allowed to none of them on that thing. So it is through execs, where
+/// all that they start is bounded, of the list that holds longest. And a call to which there is a
+/// way has a line there.
 pub fn how_law()
     ensures never { NeverComes }
     ensures through { NeverComesThrough }

@@ -23,8 +23,9 @@ pub struct WayLine {
 }
 
 /// The line of a step of a process, by where directories stand in a tree, and by which one was made
-/// last; the root, if none was. None where the text is no line of that process by these rules: a path
-/// may be too long, or the rules have no such call. The only error is that a growth was refused.
+/// last; the root, if none was. None where the text is no line of that process by these rules: a
+/// path may be too long, or the rules have no such call. The only error is that a growth was
+/// refused.
 pub(crate) fn line_of<T: FileTree>(
     alloc: Global,
     rules: Rules,

@@ -1,5 +1,5 @@
-//! Plans: steps by which a call may come to be granted on what is asked about. Nothing is promised of
-//! them: what a plan comes to is seen when it is served.
+//! Plans: steps by which a call may come to be granted on what is asked about. Nothing is promised
+//! of them: what a plan comes to is seen when it is served.
 
 mod clear;
 mod draft;
@@ -44,9 +44,9 @@ pub(crate) struct Search<'p, 't> {
 }
 
 impl Planner<'_> {
-    /// Offers the plans for a call on what is asked about, which is at this place among all that is meant.
-    /// Of further names the path ends with the name that is given. The only error is that a growth was
-    /// refused.
+    /// Offers the plans for a call on what is asked about, which is at this place among all that is
+    /// meant. Of further names the path ends with the name that is given. The only error is that a
+    /// growth was refused.
     pub(crate) fn offer_plans(
         &self,
         call: Call,
@@ -80,8 +80,8 @@ impl Planner<'_> {
 }
 
 impl Search<'_, '_> {
-    /// Adds the forms for what is asked about. The only error is that a growth was refused, as of all that
-    /// add.
+    /// Adds the forms for what is asked about. The only error is that a growth was refused, as of
+    /// all that add.
     fn add_forms(&mut self, target: &Target) -> Result<(), AllocError> {
         match target {
             Target::Directory(node) | Target::Others(node) | Target::Node(node) => {
@@ -104,8 +104,8 @@ impl Search<'_, '_> {
         Ok(())
     }
 
-    /// Adds those for what stands, by its names: of those that are covered alike, and have no veils of their
-    /// own, by one that goes along with its directory and by one that does not.
+    /// Adds those for what stands, by its names: of those that are covered alike, and have no veils
+    /// of their own, by one that goes along with its directory and by one that does not.
     fn add_standing(&mut self, node: NodeId) -> Result<(), AllocError> {
         let planner = self.planner;
         let mut seen: Vec<(Cover, bool)> = Vec::new(planner.alloc);
@@ -178,8 +178,8 @@ impl Search<'_, '_> {
         self.add_source(made_by(call, By::Link))
     }
 
-    /// Adds those for what comes from one source: into a directory in which the call is granted, or by a
-    /// veil.
+    /// Adds those for what comes from one source: into a directory in which the call is granted, or
+    /// by a veil.
     fn add_source(&mut self, source: Source) -> Result<(), AllocError> {
         if let Some(dir) = self.open_dir(&source)? {
             let to = Destination::Inside(Dir::Standing(dir));
@@ -212,8 +212,8 @@ impl Search<'_, '_> {
         )
     }
 
-    /// The nearest directory in which the call is granted on what comes there from a source: one that isn't
-    /// in the source, or else any.
+    /// The nearest directory in which the call is granted on what comes there from a source: one
+    /// that isn't in the source, or else any.
     fn open_dir(&self, source: &Source) -> Result<Option<NodeId>, AllocError> {
         let rights = &self.planner.rights;
         let need = rights.call(self.call).and(rights.takes(source.by));
@@ -225,8 +225,8 @@ impl Search<'_, '_> {
         Ok(self.nearest(&draft, &need).or(any))
     }
 
-    /// The draft of a form, if it comes to one: what is made elsewhere is made before all else, where there
-    /// is none otherwise.
+    /// The draft of a form, if it comes to one: what is made elsewhere is made before all else,
+    /// where there is none otherwise.
     fn draft_of(&self, form: &Form) -> Result<Option<Draft>, AllocError> {
         let draft = match (self.draft(form, false), form.source.origin, form.source.by) {
             (Err(Stop::NoWay), Origin::Made(_), By::Rename | By::Link) => self.draft(form, true),

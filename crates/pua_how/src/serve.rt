@@ -21,20 +21,21 @@ use pua_script::{Action, Answer, PathBytes, Request, World, WorldFault};
 use pua_tree::{FileTree, NodeId, OutOfMemory};
 use std::alloc::Global;
 
-/// What was served so far: the lines, and the directory that one of them made last; the root, if none did.
+/// What was served so far: the lines, and the directory that one of them made last; the root, if
+/// none did.
 #[derive(Drop)]
 struct Served {
     lines: Vec<WayLine>,
     made: NodeId,
 }
 
-/// Serves the steps of a plan for the process of a number: a way to a call on what is asked about, if
-/// each of them is answered `ok`, none but the last is an exec, and the last is that call, on a path that
-/// names what is asked about when it is served. None exactly where this is not so: where a step has no
-/// line, say, since its path would be too long or the rules have no such call, and where there are no
-/// steps. After None, and after the error that a growth was refused, the world has served some of the
-/// steps or none. Its lines are read by these rules. What is answered `ok` is this profile's, as a
-/// script's lines are (`World::apply`).
+/// Serves the steps of a plan for the process of a number: a way to a call on what is asked about,
+/// if each of them is answered `ok`, none but the last is an exec, and the last is that call, on a
+/// path that names what is asked about when it is served. None exactly where this is not so: where
+/// a step has no line, say, since its path would be too long or the rules have no such call, and
+/// where there are no steps. After None, and after the error that a growth was refused, the world
+/// has served some of the steps or none. Its lines are read by these rules. What is answered `ok`
+/// is this profile's, as a script's lines are (`World::apply`).
 pub fn serve_way<T: FileTree>(
     alloc: Global,
     rules: Rules,

@@ -21,7 +21,8 @@ pub enum At {
     Name(Dir, Name),
 }
 
-/// A request whose paths are written when it is served: by then its directories may have been moved.
+/// A request whose paths are written when it is served: by then its directories may have been
+/// moved.
 #[derive(Clone, Copy)]
 pub enum Step {
     /// A call; the target of a symlink is `target`.

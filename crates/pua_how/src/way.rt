@@ -26,8 +26,8 @@ struct Plan {
     steps: Vec<Step>,
 }
 
-/// The two plans with the fewest steps, as far as there are two: of two that are as long the one for what
-/// comes first among all that is meant.
+/// The two plans with the fewest steps, as far as there are two: of two that are as long the one
+/// for what comes first among all that is meant.
 #[derive(Drop)]
 pub struct BestPlans {
     first: Option<Plan>,
@@ -51,9 +51,9 @@ impl NoWay {
 }
 
 impl Planner<'_> {
-    /// Lays plans by which the process may come to a call on something that is meant. Nothing is promised
-    /// of them: what a plan comes to is seen when it is served. The only error is that a growth was
-    /// refused.
+    /// Lays plans by which the process may come to a call on something that is meant. Nothing is
+    /// promised of them: what a plan comes to is seen when it is served. The only error is that a
+    /// growth was refused.
     pub fn find_plans(&self, call: Call, meant: &Meant) -> Result<BestPlans, OutOfMemory> {
         let mut best = BestPlans {
             first: None,
@@ -68,8 +68,8 @@ impl Planner<'_> {
 
 impl BestPlans {
     /// Serves the plans, each in a copy of a world, until one comes to a way, as
-    /// [`serve_way`](crate::serve_way) says. [`NoWay`] exactly where neither does. The only error is that a
-    /// growth was refused.
+    /// [`serve_way`](crate::serve_way) says. [`NoWay`] exactly where neither does. The only error
+    /// is that a growth was refused.
     pub fn serve<T: CopiedTree + Drop>(
         self,
         alloc: Global,
@@ -143,10 +143,10 @@ impl Plan {
         }
     }
 
-    /// Serves the plan for a process in a copy of a world: a way to the call on something that is meant, if
-    /// each step is answered `ok`, none but the last is an exec, and the last is that call, on a path that
-    /// names this thing when it is served. Its lines are read by these rules. None exactly where this is
-    /// not so. The only error is that a growth was refused.
+    /// Serves the plan for a process in a copy of a world: a way to the call on something that is
+    /// meant, if each step is answered `ok`, none but the last is an exec, and the last is that
+    /// call, on a path that names this thing when it is served. Its lines are read by these rules.
+    /// None exactly where this is not so. The only error is that a growth was refused.
     fn serve<T: CopiedTree + Drop>(
         &self,
         alloc: Global,

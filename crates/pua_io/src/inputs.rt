@@ -28,12 +28,13 @@ pub trait Inputs {
     /// The bytes under each name, where they are known.
     ghost holds: { Self → Option (List ℕ → Option (List ℕ)) };
 
-    /// The names that were asked for so far, in their order, where they are known. Neither inputs in memory
-    /// nor the machine's files keep them: what is proved of any inputs asks for what its contract says.
+    /// The names that were asked for so far, in their order, where they are known. Neither inputs
+    /// in memory nor the machine's files keep them: what is proved of any inputs asks for what its
+    /// contract says.
     ghost asked: { Self → Option (List (List ℕ)) };
 
-    /// All bytes of the input of this name; `Unreadable` only where nothing is held under it. How far
-    /// it was read is not said after a fault.
+    /// All bytes of the input of this name; `Unreadable` only where nothing is held under it. How
+    /// far it was read is not said after a fault.
     fn take(&mut self, alloc: Global, name: &str) -> Result<Vec<u8>, InputFault>
         ensures held { IfOk result (λ bytes. Holds (holds self.old) name.now bytes.items) }
         ensures nothing { result ≡ Err InputFault.Unreadable →
@@ -98,8 +99,8 @@ fn first_named<'a>(entries: &'a [(&'a str, &'a [u8])], name: &str) -> Option<&'a
     None
 }
 
-/// All bytes of one of the machine's files. `Unreadable` is answered where it can't be opened, where a
-/// read failed, and where it has more than 67,108,864 bytes.
+/// All bytes of one of the machine's files. `Unreadable` is answered where it can't be opened,
+/// where a read failed, and where it has more than 67,108,864 bytes.
 pub fn read_file<R: Files>(alloc: Global, rt: &R, name: &str) -> Result<Vec<u8>, InputFault>
     ensures { IfOk result (λ bytes. length bytes.items ≤ MOST_INPUT_BYTES) }
 {
@@ -109,8 +110,8 @@ pub fn read_file<R: Files>(alloc: Global, rt: &R, name: &str) -> Result<Vec<u8>,
     read_bytes(alloc, &mut ReadSource::new(file))
 }
 
-/// The machine's files, by their paths; each is read by [`read_file`]. What they hold is known to no
-/// contract, so that a missing file is `Unreadable`, and not empty, is only tested.
+/// The machine's files, by their paths; each is read by [`read_file`]. What they hold is known to
+/// no contract, so that a missing file is `Unreadable`, and not empty, is only tested.
 #[derive(Drop)]
 pub struct DiskInputs<'r, R: Files> {
     rt: &'r R,

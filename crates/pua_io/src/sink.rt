@@ -50,8 +50,8 @@ pub fn put_all<S: Sink>(sink: &mut S, bytes: &[u8]) -> Result<(), PutFault>
     Ok(())
 }
 
-/// A sink in memory. Its room is reserved when it is made, so no put takes memory. Contracts see its
-/// bytes, its room in bytes, and how many puts failed.
+/// A sink in memory. Its room is reserved when it is made, so no put takes memory. Contracts see
+/// its bytes, its room in bytes, and how many puts failed.
 #[derive(Drop)]
 pub struct MemorySink {
     bytes: Vec<u8>,
@@ -97,8 +97,8 @@ impl Sink for MemorySink {
 
     ghost failed = { λ sink. sink.failed };
 
-    /// Adds as many bytes as there is room for. It fails exactly where no room is left and there are
-    /// bytes to put.
+    /// Adds as many bytes as there is room for. It fails exactly where no room is left and there
+    /// are bytes to put.
     fn put(&mut self, bytes: &[u8]) -> Result<usize, PutFault>
         ensures adds { IfOk result (λ n. Puts bytes.now n (Some self.old.bytes)
             (Some self.new.bytes)) }
@@ -156,8 +156,8 @@ impl<W: Write + Drop> StreamSink<W> {
 
 impl<W: Write + Drop> StreamSink<BufWriter<W>> {
     /// Hands on what the writer still holds back: after it nothing is, and all that was put was
-    /// written to the writer below. A flush that fails counts as a put that failed; what couldn't be
-    /// handed on is still held back.
+    /// written to the writer below. A flush that fails counts as a put that failed; what couldn't
+    /// be handed on is still held back.
     pub fn flush(&mut self) -> Result<(), PutFault>
         ensures handed { OnOk result (writer_buffer self.new.0 ≡ []) }
         ensures bytes { Keeps (writer_contents W.contents self.old.0)

@@ -22,8 +22,8 @@ use pua_policy::{Object, Process};
 use pua_tree::{FileTree, Kind, Name, NodeId, OutOfMemory};
 use std::alloc::{AllocError, Global};
 
-/// An item of a list. The names that lead to it are so many of those that lead to the item before, and
-/// then its own name, if it has one.
+/// An item of a list. The names that lead to it are so many of those that lead to the item before,
+/// and then its own name, if it has one.
 #[derive(Clone, Copy)]
 pub struct ListItem<'t> {
     /// How many names it shares with the item before.
@@ -36,8 +36,8 @@ pub struct ListItem<'t> {
 }
 
 impl<'t> ListItem<'t> {
-    /// The last of the names that lead to it: None for the root, and for further names, to which those
-    /// of their directory lead.
+    /// The last of the names that lead to it: None for the root, and for further names, to which
+    /// those of their directory lead.
     pub fn name(&self) -> Option<&'t Name>
         ensures { option_map (λ name. name.now) result ≡ last_name self.now.item.subject }
     {
@@ -48,10 +48,10 @@ impl<'t> ListItem<'t> {
     }
 }
 
-/// What stands or could stand in a tree, each with what the veils of a process leave of it: the root,
-/// and after each directory its further names, then what has or could have a name in it by the bytes
-/// of the names, each directory followed by what is below it. Each veil that is not at a directory is
-/// at a name. The only error is that a growth was refused.
+/// What stands or could stand in a tree, each with what the veils of a process leave of it: the
+/// root, and after each directory its further names, then what has or could have a name in it by
+/// the bytes of the names, each directory followed by what is below it. Each veil that is not at a
+/// directory is at a name. The only error is that a growth was refused.
 pub fn list_items<'t, T: FileTree>(
     alloc: Global,
     tree: &'t T,
@@ -80,8 +80,8 @@ pub fn list_items<'t, T: FileTree>(
 #[derive(Clone, Copy)]
 pub(crate) struct Entered {
     pub(crate) dir: NodeId,
-    /// Where its next name stands among all spots; if the spot there is of another directory, it has
-    /// no further one.
+    /// Where its next name stands among all spots; if the spot there is of another directory, it
+    /// has no further one.
     pub(crate) next: usize,
     /// What covers its further names.
     pub(crate) over: Over,
@@ -104,8 +104,8 @@ fn enter_root(
     enter(NodeId::ROOT, 0, &over, entered, items)
 }
 
-/// Goes on with the directory that was entered last and is taken off: it is left, or the next of its
-/// names is listed. The only error is that a growth was refused.
+/// Goes on with the directory that was entered last and is taken off: it is left, or the next of
+/// its names is listed. The only error is that a growth was refused.
 fn go_on<'t, T: FileTree>(
     tree: &T,
     process: &Process,
@@ -139,8 +139,8 @@ fn go_on<'t, T: FileTree>(
     add_entry(tree, process, spots, inner, name, depth, entered, items)
 }
 
-/// Lists what stands at the next name of the innermost directory, or that nothing does. So many names
-/// lead to the directory.
+/// Lists what stands at the next name of the innermost directory, or that nothing does. So many
+/// names lead to the directory.
 fn add_entry<'t, T: FileTree>(
     tree: &T,
     process: &Process,

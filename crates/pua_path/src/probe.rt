@@ -81,9 +81,9 @@ pub trait Probe<'t> {
         ensures count { count self.new ≡ one_more (count self.old) };
 
     /// Lends all rows: each once, by directory and then by the bytes of the name. It counts as one
-    /// look, however many rows there are, so a bound on looks bounds no more than how often the rows
-    /// are lent; what is then done with each is no look. The only error is that the memory for the
-    /// list is refused.
+    /// look, however many rows there are, so a bound on looks bounds no more than how often the
+    /// rows are lent; what is then done with each is no look. The only error is that a growth was
+    /// refused.
     fn rows(&mut self, alloc: Global) -> Result<Vec<LentRow<'t>>, OutOfMemory>
         ensures rows { IfOk result (λ rows. map lent_entry rows.items ≡ (tree self.old).rows) }
         ensures tree { tree self.new ≡ tree self.old }

@@ -32,7 +32,7 @@ impl Model for Links {
 }
 
 impl Links {
-    /// None yet. The only error is that the memory for the room is refused.
+    /// None yet. The only error is that a growth was refused.
     pub fn new(alloc: Global) -> Result<Links, OutOfMemory>
         ensures { IfOk result (λ links. links ≡ []) }
     {

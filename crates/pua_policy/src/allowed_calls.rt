@@ -18,15 +18,16 @@ use crate::process::Process;
 use pua_calls::{Call, CallTable, Calls, Perms};
 use pua_tree::Kind;
 
-/// How many objects there are: the kinds of nodes, an empty directory, and a name where nothing stands.
+/// How many objects there are: the kinds of nodes, an empty directory, and a name where nothing
+/// stands.
 const OBJECTS: usize = Kind::COUNT + 2;
 
 /// How many sets of permissions there are.
 const PERM_SETS: usize = 16;
 
-/// What a process may do by a table, worked out once for all objects, as sets of calls: those that are
-/// allowed on each kind of object where everything is in view, and those that each set of permissions
-/// leaves. What becomes of the process later changes nothing.
+/// What a process may do by a table, worked out once for all objects, as sets of calls: those that
+/// are allowed on each kind of object where everything is in view, and those that each set of
+/// permissions leaves. What becomes of the process later changes nothing.
 #[derive(Clone, Copy)]
 pub struct AllowedCalls {
     in_view: [Calls; OBJECTS],
@@ -51,7 +52,8 @@ impl AllowedCalls {
         }
     }
 
-    /// The calls that are allowed on an object that has this cover, as `judge::allowed` answers them.
+    /// The calls that are allowed on an object that has this cover, as `judge::allowed` answers
+    /// them.
     pub fn on(&self, cover: Cover, object: Object) -> Calls
         ensures { (process : ProcessState) (table : Table) (t : Tree) (judged : Judged) →
             AreWorkedOut process table self.now →

@@ -68,8 +68,8 @@ impl Process {
         }
     }
 
-    /// The permissions kept at this very place, or where it has no veil the cover of the names in the
-    /// directory over it, which the caller hands on. The tree is not asked.
+    /// The permissions kept at this very place, or where it has no veil the cover of the names in
+    /// the directory over it, which the caller hands on. The tree is not asked.
     pub fn own_cover(&self, place: &Place, over: Cover) -> Cover
         ensures { result ≡ own_or (veil_at self.now.veils place.now) over }
     {

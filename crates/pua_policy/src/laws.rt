@@ -44,37 +44,38 @@ pub fn cover_laws()
     ensures narrows { KeptPlacesNarrow }
 {}
 
-/// Covers go down from directory to directory: a directory, or a name in one, has the permissions of
-/// its own veil, and without one what the veils leave of the names in the directory over it.
+/// Covers go down from directory to directory: a directory, or a name in one, has the permissions
+/// of its own veil, and without one what the veils leave of the names in the directory over it.
 pub fn descent_law()
     ensures { CoversDescend }
 {}
 
-/// No event brings back a promise but `error`, so no pledge makes a call allowed by a table that does
-/// not ask for it.
+/// No event brings back a promise but `error`, so no pledge makes a call allowed by a table that
+/// does not ask for it.
 pub fn promise_laws()
     ensures held { HeldNeverGrows }
     ensures allowed { PledgesNarrow }
 {}
 
-/// What a process keeps is what its history left, event by event and after an exec; and what a history
-/// lets a process do is said of what it left.
+/// What a process keeps is what its history left, event by event and after an exec; and what a
+/// history lets a process do is said of what it left.
 #[tactic(auto, using(crate::proofs::Standing::states_are_left))]
 pub fn standing_law()
     ensures { StatesAreLeft }
 {}
 
-/// What a set is told to lack of another suffices beside it, and whatever suffices has it. Of promises
-/// it is told which set is held, the first one, or what of each lacks; and whether promises allow a
-/// call follows from what is told.
+/// What a set is told to lack of another suffices beside it, and whatever suffices has it. Of
+/// promises it is told which set is held, the first one, or what of each lacks; and whether
+/// promises allow a call follows from what is told.
 pub fn lacking_law()
     ensures sets { LackingsHold }
     ensures promises { PromisingsHold }
     ensures answers { PromisingsAnswer }
 {}
 
-/// The veil that is told to cover an object is the nearest, and would decide with any other letters;
-/// or none stands on the way up; or none is kept. What is left of the object follows from it.
+/// The veil that is told to cover an object is the nearest, and would decide with any other
+/// letters; or none stands on the way up; or none is kept. What is left of the object follows from
+/// it.
 #[tactic(auto, using(crate::proofs::NearestVeil::coverings_hold))]
 pub fn covering_law()
     ensures { CoveringsHold }

@@ -12,15 +12,16 @@ use pua_tree::Kind;
 pub enum Object {
     /// A name where nothing stands.
     Missing,
-    /// A node of this kind: a link that was not followed, and a directory that rmdir leaves, which has
-    /// rows or was not found by a name in its parent.
+    /// A node of this kind: a link that was not followed, and a directory that rmdir leaves, which
+    /// has rows or was not found by a name in its parent.
     Node(Kind),
     /// An empty directory, found by its name.
     Removable,
 }
 
 impl Object {
-    /// What a call is on at a name, by the kind of what stands there. (A directory is found by itself.)
+    /// What a call is on at a name, by the kind of what stands there. (A directory is found by
+    /// itself.)
     pub fn at_name(kind: Option<Kind>) -> Object
         ensures { (t : Tree) → result ≡ object_seen t (object_of_kind kind) }
     {

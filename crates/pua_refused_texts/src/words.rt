@@ -1,6 +1,6 @@
 //! Wrong bodies of `pua_words`.
 
-use pua_words::{Members, Processes, Stop, Text, UsageLine, read_words};
+use pua_words::{Processes, Stop, Text, UsageLine, read_words};
 use std::alloc::Global;
 
 /// No process has the number 0.
@@ -8,8 +8,8 @@ fn process_0_taken(alloc: Global, words: &[&str]) {
     let Ok(command) = read_words(alloc, words) else {
         return;
     };
-    if let Text::Objects(words) = command.text
-        && let Processes::One(0) = words.processes
+    if let Text::List(words) = &command.text
+        && let Processes::One(0) = words.whose
     {
         unreachable!()
     }
@@ -20,8 +20,8 @@ fn process_0_among_several(alloc: Global, words: &[&str]) {
     let Ok(command) = read_words(alloc, words) else {
         return;
     };
-    if let Text::Together(words) = &command.text
-        && let Members::Named(numbers) = &words.members
+    if let Text::List(words) = &command.text
+        && let Processes::Named(numbers) = &words.whose
         && let Some(0) = numbers.last()
     {
         unreachable!()

@@ -4,34 +4,36 @@ use Rattle.pua_script.proofs.Common.{arith, lit<, IsTrue, option_map, nat_lt, li
 use Rattle.pua_script.proofs.Common.{is_in_bytes, ◌>>=◌, None≢Some, Errno, Call, Asked, Action, OnPath, Symlink, Rename, Link, Unveil, Fork}
 use Rattle.pua_script.proofs.Common.{request_of_fields, request_by}
 use Rattle.std.proofs.Common.{Option, Some, None, Result, Ok}
-use Rattle.std.proofs.Common.{Err, true≢false}
+use Rattle.std.proofs.Common.{Err, true≢false, eqb, ◌||◌, ◌++◌}
+use Rattle.std.specs.List.{list_any, slice_split}
 use Rattle.std.specs.Prelude.{◌≢◌, codes, ok_or, not}
 use Rattle.std.specs.Result.{result_ok}
-use Rattle.std.proofs.lemmas.Bool.{le-ltb, ltb-false, cond-true}
+use Rattle.std.proofs.lemmas.Bool.{le-ltb, ltb-false, cond-true, false≢true}
 use Rattle.std.proofs.lemmas.List.{take_all}
 use lib.Pointwise.{bytes_decides}
-use Rattle.pua_tree.specs.Names.{same_bytes}
+use Rattle.pua_tree.specs.Names.{same_bytes, has_byte}
 use Rattle.pua_tree.specs.Spelling.{bytes_spelled, fields, is_field, number_within}
 use Rattle.pua_tree.specs.Listing.{only_if}
 use Rattle.pua_tree.proofs.ForCallers.{same_Some, guarded, Err≢Ok, same_Ok, unspelled-spelling, spelling-unspelled}
 use Rattle.pua_tree.proofs.ForCallers.{bytes_unspelled, decimal_within, number_read, mapped, only_if_read, other_word}
 use Rattle.pua_tree.proofs.ForCallers.{same_word, ok_or_read, step_read}
-use Rattle.pua_calls.specs.Promises.{promises_of, perms_of}
+use Rattle.pua_calls.specs.Promises.{holds, error, promises_of, perms_of}
 use Rattle.pua_calls.specs.Neighbours.{call_asked_by}
 use Rattle.pua_calls.specs.declared.rules.Rules.{Rules}
 use Rattle.pua_calls.specs.declared.rules.Rules.TheVariants.{Standard, Openbsd}
 use Rattle.pua_script.specs.Requests.{is_symlink, has_no_nul}
 use Rattle.pua_script.specs.declared.request.Given.{Given}
 use Rattle.pua_script.specs.declared.request.Given.TheVariants.{Null, Good}
-use Rattle.pua_script.specs.declared.request.Action.TheVariants.{Pledge, Lock, Exit}
+use Rattle.pua_script.specs.declared.request.Action.TheVariants.{Pledge, Lock, Exit, Uses}
 use Rattle.pua_script.specs.declared.fault.ScriptFault.{ScriptFault}
 use Rattle.pua_script.specs.declared.fault.ScriptFault.TheVariants.{BadLine, BadCall, BadPath, BadList, TooMany}
 use Rattle.pua_script.specs.Scripts.{is_dash, is_equals, path_in, has_empty_word, good_or_unknown, given_in, perms_in, Form, PathForm}
-use Rattle.pua_script.specs.Scripts.{SymlinkForm, RenameForm, LinkForm, PledgeForm, UnveilForm, ForkForm, ExitForm, form_of, with_paths}
+use Rattle.pua_script.specs.Scripts.{SymlinkForm, RenameForm, LinkForm, PledgeForm, UnveilForm, ForkForm, ExitForm, UsesForm, form_of, with_paths}
+use Rattle.pua_script.specs.Scripts.{set_of_keyword, further_set, sets_of, sets_in, asks_promises}
 use Rattle.pua_script.specs.Scripts.{unveil_of, action_of, form_in, action_in, requests_of}
 use Rattle.pua_script.specs.ScriptGrammar.{SpellsPath, empty, spelled, IsList, SpellsGiven, null, nothing, known, unknown, SpellsPerms}
 use Rattle.pua_script.specs.ScriptGrammar.{no_letter, letters, unknown_letter, SpellsAction, on_path, symlink, rename, link, pledge, unveil}
-use Rattle.pua_script.specs.ScriptGrammar.{lock, fork, exit, SpellsRequest, SpellRequests, ScriptsAreRead}
+use Rattle.pua_script.specs.ScriptGrammar.{lock, fork, exit, uses, IsKeyword, SpellSets, SpellsRequest, SpellRequests, ScriptsAreRead}
 
 same_to : (a b : List ℕ) → a ≡ b → same_bytes a b ≡ true
 same_to a b e = (bytes_decides a b).1 e
@@ -105,6 +107,48 @@ perms_told field _ (letters ne e) = ap (λ b. cond b (Some 0) (result_ok (perms_
 perms_told field _ (unknown_letter ne e) = ap (λ b. cond b (Some 0) (result_ok (perms_of field))) (other_word field (codes "=") ne) ∙
     ap result_ok e
 
+-- keywords that are asked for
+ok_is : (r : Result ℕ Errno) (set : ℕ) → result_ok r ≡ Some set → r ≡ Ok set
+ok_is (Ok x) set e = ap Ok (same_Some x set e)
+ok_is (Err errno) set e = absurd (None≢Some set e)
+
+keyword_read : (word : List ℕ) (set : ℕ) → set_of_keyword word ≡ Some set → IsKeyword word set
+keyword_read word set = by (eqb (length word) 0 || has_byte 44 word) refl
+  where
+    by : (b : Bool) → (eqb (length word) 0 || has_byte 44 word) ≡ b
+        → cond b None (only_if (λ set. not (holds set error)) (result_ok (promises_of word))) ≡ Some set → IsKeyword word set
+    by true one e = absurd (None≢Some set e)
+    by false one e =
+        let parts = only_if_read (λ set. not (holds set error)) (result_ok (promises_of word)) set e in
+        record { one = one; names = ok_is (promises_of word) set parts.0; other = not-true (holds set error) parts.1 }
+
+keyword_told : (word : List ℕ) (set : ℕ) → IsKeyword word set → set_of_keyword word ≡ Some set
+keyword_told word set is =
+    ap (λ b. cond b None (only_if (λ set. not (holds set error)) (result_ok (promises_of word)))) is.one
+    ∙ ap (λ r. only_if (λ set. not (holds set error)) (result_ok r)) is.names
+    ∙ ap (λ b. cond (not b) (Some set) None) is.other
+
+module _ (n : ℕ) where
+  pub sets_read : (before : List ℕ) (words : List (List ℕ)) (sets : List ℕ) → sets_of n before words ≡ Ok sets → SpellSets before words sets
+  sets_read before [] sets e = same_Ok before sets e
+  sets_read before (word ∷ words) sets e =
+      let next = step_read (ok_or (further_set before word) (BadList n)) (λ set. sets_of n (before ++ set ∷ []) words) sets e in
+      let parts = only_if_read (λ set. not (list_any (λ other. holds other set) before)) (set_of_keyword word) next.0
+      (ok_or_read (further_set before word) (BadList n) next.0 next.1) in (
+        next.0,
+        keyword_read word next.0 parts.0,
+        not-true (list_any (λ other. holds other next.0) before) parts.1,
+        sets_read (before ++ next.0 ∷ []) words sets next.2,
+      )
+
+  pub sets_told : (before : List ℕ) (words : List (List ℕ)) (sets : List ℕ) → SpellSets before words sets → sets_of n before words ≡ Ok sets
+  sets_told before [] sets spells = ap Ok spells
+  sets_told before (word ∷ words) sets spells =
+      ap (λ o. ok_or (only_if (λ set. not (list_any (λ other. holds other set) before)) o) (BadList n) >>= λ set. sets_of n
+      (before ++ set ∷ []) words) (keyword_told word spells.0 spells.1)
+      ∙ ap (λ b. ok_or (cond (not b) (Some spells.0) None) (BadList n) >>= λ set. sets_of n (before ++ set ∷ []) words) spells.2
+      ∙ sets_told (before ++ spells.0 ∷ []) words sets spells.3
+
 module _ (rules : Rules) where
   -- the words of calls, of which none is `fork`
   no_fork : (named : Rules) → call_asked_by named (codes "fork") ≡ None
@@ -119,11 +163,26 @@ module _ (rules : Rules) where
       by true e = absurd (None≢Some c (sym (no_fork rules) ∙
           subst (λ w. call_asked_by rules w ≡ Some c) (same_word word (codes "fork") e) there))
 
+  -- nor `uses`
+  not_uses : (named : Rules) (word : List ℕ) (c : Call) → call_asked_by named word ≡ Some c → asks_promises named word ≡ false
+  not_uses Standard word c there = refl
+  not_uses Openbsd word c there = by (same_bytes word (codes "uses")) refl
+    where
+      no_uses : call_asked_by Openbsd (codes "uses") ≡ None
+      no_uses = refl
+
+      by : (s : Bool) → same_bytes word (codes "uses") ≡ s → s ≡ false
+      by false e = refl
+      by true e = absurd (None≢Some c (sym no_uses ∙
+          subst (λ w. call_asked_by Openbsd w ≡ Some c) (same_word word (codes "uses") e) there))
+
   form_of_call : (word : List ℕ) (c : Call) (a : List ℕ) → is_symlink c ≡ false → call_asked_by rules word ≡ Some c →
       form_of rules word (a ∷ []) ≡ Some (PathForm c a)
   form_of_call word c a other there =
-      ap (λ s. cond s (option_map ForkForm (number_within 1 999999 a))
-      (option_map (λ d. PathForm d a) (only_if (λ d. not (is_symlink d)) (call_asked_by rules word)))) (not_fork word c there)
+      ap (λ s. cond s (option_map ForkForm (number_within 1 999999 a)) (cond (asks_promises rules word) (Some (UsesForm a))
+      (option_map (λ d. PathForm d a) (only_if (λ d. not (is_symlink d)) (call_asked_by rules word))))) (not_fork word c there)
+      ∙ ap (λ s. cond s (Some (UsesForm a)) (option_map (λ d. PathForm d a) (only_if (λ d. not (is_symlink d)) (call_asked_by rules word))))
+      (not_uses rules word c there)
       ∙ ap (λ o. option_map (λ d. PathForm d a) (only_if (λ d. not (is_symlink d)) o)) there
       ∙ ap (λ b. option_map (λ d. PathForm d a) (cond (not b) (Some c) None)) other
 
@@ -190,20 +249,33 @@ module _ (rules : Rules) where
             (unveil named (apart_from a (codes "-") d) (apart_from b (codes "-") f)
             (path_read a path.0 (ok_or_read (path_in a) (BadPath n) path.0 path.1)) (perms_read b))
 
+    uses_named : (named : Rules) (word : List ℕ) → asks_promises named word ≡ true → (named ≡ Openbsd) × (word ≡ codes "uses")
+    uses_named Standard word e = absurd (false≢true e)
+    uses_named Openbsd word e = (refl, same_word word (codes "uses") e)
+
+    uses_form : (word a : List ℕ) (action : Action) → (rules ≡ Openbsd) × (word ≡ codes "uses") → action_of n (UsesForm a) ≡ Ok action →
+        SpellsAction rules (word ∷ a ∷ []) action
+    uses_form word a action named e =
+        let sets = step_read (sets_in n a) (λ sets. Ok (Uses sets)) action e in
+        subst (SpellsAction rules (word ∷ a ∷ [])) (same_Ok (Uses sets.0) action sets.2)
+        (uses named.0 named.1 (sets_read n [] (slice_split (λ b. eqb b 124) a) sets.0 sets.1))
+
     one_argument : (word a : List ℕ) (form : Form) (action : Action) → form_of rules word (a ∷ []) ≡ Some form → action_of n form ≡ Ok action →
         SpellsAction rules (word ∷ a ∷ []) action
-    one_argument word a form action = by (same_bytes word (codes "fork")) refl
+    one_argument word a form action = by (same_bytes word (codes "fork")) refl (asks_promises rules word) refl
       where
-        by : (s : Bool) → same_bytes word (codes "fork") ≡ s
-            → cond s (option_map ForkForm (number_within 1 999999 a))
-            (option_map (λ c. PathForm c a) (only_if (λ c. not (is_symlink c)) (call_asked_by rules word))) ≡ Some form →
+        by : (s : Bool) → same_bytes word (codes "fork") ≡ s → (u : Bool) → asks_promises rules word ≡ u
+            → cond s (option_map ForkForm (number_within 1 999999 a)) (cond u (Some (UsesForm a))
+            (option_map (λ c. PathForm c a) (only_if (λ c. not (is_symlink c)) (call_asked_by rules word)))) ≡ Some form →
             action_of n form ≡ Ok action → SpellsAction rules (word ∷ a ∷ []) action
-        by true w e is =
+        by true w u _ e is =
             let number = mapped ForkForm (number_within 1 999999 a) form e in
             let read = number_read 1 999999 a number.0 (lit< tt) number.1 in
             subst (SpellsAction rules (word ∷ a ∷ [])) (same_Ok (Fork number.0) action (ap (action_of n) number.2 ∙ is))
             (fork (same_word word (codes "fork") w) read.0 read.1 read.2)
-        by false w e is =
+        by false w true u e is =
+            uses_form word a action (uses_named rules word u) (ap (action_of n) (same_Some (UsesForm a) form e) ∙ is)
+        by false w false u e is =
             let named = mapped (λ c. PathForm c a) (only_if (λ c. not (is_symlink c)) (call_asked_by rules word)) form e in
             let read = only_if_read (λ c. not (is_symlink c)) (call_asked_by rules word) named.0 named.1 in
             path_form word a named.0 action (not-true (is_symlink named.0) read.1) read.0 (ap (action_of n) named.2 ∙
@@ -294,6 +366,11 @@ module _ (rules : Rules) where
         below : (new : ℕ) → new ≤ 999999 → new < 18446744073709551616
         below new high = omega (arith, high)
     action_told _ _ (exit named) = (ExitForm, ap (λ w. form_of rules w []) named, refl)
+    action_told _ _ (uses {a = a} {sets = sets} there named spells) = (
+      UsesForm a,
+      (λ i. form_of (there i) (named i) (a ∷ [])),
+      ap (λ r. r >>= λ sets. Ok (Uses sets)) (sets_told n [] (slice_split (λ b. eqb b 124) a) sets spells),
+    )
 
   pub request_read : (n : ℕ) (line : List ℕ) (ask : Asked) → request_by rules n line ≡ Ok ask → SpellsRequest rules line ask
   request_read n line ask = by (list_all is_field (fields line)) refl (fields line) refl
@@ -395,3 +472,4 @@ action_bytes _ _ _ (unveil {a = a} {path = path} named no_a no_b first second) =
 action_bytes _ _ _ (lock named first second) = refl
 action_bytes _ _ _ (fork named first low high) = refl
 action_bytes _ _ _ (exit named) = refl
+action_bytes _ _ _ (uses there named spells) = refl

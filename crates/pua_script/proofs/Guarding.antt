@@ -17,7 +17,7 @@ use Rattle.pua_policy.specs.declared.answer.May.TheVariants as may
 use Rattle.pua_script.specs.Decide.{link_node, unveil_errno, given_set, is_unknown}
 use Rattle.pua_script.specs.Decide.{unless_fault, if_named, adding, change_by}
 use Rattle.pua_script.specs.Decide.{covers_by, decide_veil, decide_pair, ways_fault, named_by}
-use Rattle.pua_script.specs.declared.request.Action.TheVariants.{Pledge, Lock, Exit}
+use Rattle.pua_script.specs.declared.request.Action.TheVariants.{Pledge, Lock, Exit, Uses}
 use Rattle.pua_script.specs.Guards.{OnOne, OnTwo, IsVeil, DecisionsAreGuarded}
 use Rattle.pua_script.specs.Guards.{IsDecided}
 use Rattle.pua_script.specs.Laws.{RefusalsLackNoRoom}
@@ -190,6 +190,8 @@ decisions_are_guarded table t h Lock change e =
 decisions_are_guarded table t h (Fork new) change e =
     let may = from_promised (may_any h (proc ∷ [])) _ change e in (may.0, is_ok _ _ may.1)
 decisions_are_guarded table t h Exit change e = is_ok _ _ e
+decisions_are_guarded table t h (Uses sets) change e =
+    let may = from_promised (may_any h sets) _ change e in (may.0, is_ok _ _ may.1)
 
 module _ (table : CallTable) (t : Tree) (h : ProcessState) where
   -- what each request that was granted a change has checked
@@ -209,6 +211,7 @@ module _ (table : CallTable) (t : Tree) (h : ProcessState) where
   grounds Lock c d = subst (Grounds table t h Lock) (sym d.1) tt
   grounds (Fork new) c d = subst (Grounds table t h (Fork new)) (sym d.1) tt
   grounds Exit c d = subst (Grounds table t h Exit) (sym d) tt
+  grounds (Uses sets) c d = subst (Grounds table t h (Uses sets)) (sym d.1) tt
 
 pub refusals_lack_no_room : RefusalsLackNoRoom
 refusals_lack_no_room table t h (OnPath c path) = promised_apart _ _ (object_has_room table t h c path (change_by table c))
@@ -225,3 +228,4 @@ refusals_lack_no_room table t h (Unveil path perms) =
 refusals_lack_no_room table t h Lock = promised_apart _ _ (granted_apart _)
 refusals_lack_no_room table t h (Fork new) = promised_apart _ _ (granted_apart _)
 refusals_lack_no_room table t h Exit = granted_apart _
+refusals_lack_no_room table t h (Uses sets) = promised_apart _ _ (granted_apart _)

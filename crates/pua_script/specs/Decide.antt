@@ -42,7 +42,7 @@ use Rattle.pua_policy.specs.declared.answer.Refusal.TheVariants.{Failed}
 use Rattle.pua_script.specs.declared.request.Given.{Given}
 use Rattle.pua_script.specs.declared.request.Given.TheVariants.{Good, Unknown}
 use Rattle.pua_script.specs.declared.request.Action.{Action}
-use Rattle.pua_script.specs.declared.request.Action.TheVariants.{OnPath, Symlink, Rename, Link, Pledge, Unveil, Lock, Fork, Exit}
+use Rattle.pua_script.specs.declared.request.Action.TheVariants.{OnPath, Symlink, Rename, Link, Pledge, Unveil, Lock, Fork, Exit, Uses}
 
 -- what a request that is granted changes: nothing, a row of the tree, the program with what it leaves of execpromises,
 -- the state by an event, or the number of processes
@@ -296,6 +296,10 @@ lock_by asker = unless_refused (asker.promises (unveil ∷ [])) (Ok (AddEvent Lo
 abbrev pub fork_by : {E R : Type 0} → Asker E R → ℕ → Outcome R
 fork_by asker new = unless_refused (asker.promises (proc ∷ [])) (Ok (CopyAs new))
 
+-- a call without a path, which asks for one of these sets and changes nothing
+abbrev pub uses_by : {E R : Type 0} → Asker E R → List ℕ → Outcome R
+uses_by asker sets = unless_refused (asker.promises sets) (Ok NoChange)
+
 -- what is given and given up, after what was before
 abbrev pub pledging_by : {E R : Type 0} → Telling E R → Asker E R → Option ℕ → Option ℕ → Outcome R
 pledging_by told asker promises execpromises =
@@ -318,6 +322,7 @@ decide_by told table t asker (Unveil path perms) = unveil_by told t asker path p
 decide_by told table t asker Lock = lock_by asker
 decide_by told table t asker (Fork new) = fork_by asker new
 decide_by told table t asker Exit = Ok (AddEvent Ended)
+decide_by told table t asker (Uses sets) = uses_by asker sets
 
 -- an errno is told of a check that fails, and of promises whether the process ends
 abbrev pub unveil_errno : Option UnveilFault → Option Errno
@@ -417,6 +422,9 @@ decide_lock asker = lock_by asker
 
 abbrev pub decide_fork : Asking → ℕ → Decision
 decide_fork asker new = fork_by asker new
+
+abbrev pub decide_uses : Asking → List ℕ → Decision
+decide_uses asker sets = uses_by asker sets
 
 abbrev pub pledging : Asking → Option ℕ → Option ℕ → Decision
 pledging asker promises execpromises = pledging_by refusals asker promises execpromises

@@ -234,6 +234,54 @@ socket_rows = record {
   no_further_call = refl;
 }
 
+-- calls without a path, which OpenBSD's rules alone have
+abbrev pub read_by_openbsd : List ℕ → Result (List Asked) ScriptFault
+read_by_openbsd line = script_by Openbsd (text_of_lines (line ∷ []))
+
+pub record UsesRows : Type 0 where
+  -- one that has pledged nothing may make each; one promise of several is enough, and without any of them the process ends
+  pub decided : answers_by_openbsd root_alone (codes "1 uses inet|vmm" ∷ codes "1 pledge stdio,unix -" ∷ codes "1 uses inet|unix"
+      ∷ codes "1 uses unix" ∷ codes "1 uses inet|dns" ∷ codes "1 uses unix" ∷ []) ≡ Okay ∷ Okay ∷ Okay ∷ Okay ∷ Killed ∷ Gone ∷ []
+  -- under `error` it lives, and what was asked for is not given to it
+  pub under_error : answers_by_openbsd root_alone (codes "1 pledge stdio,error -" ∷ codes "1 uses id" ∷ codes "1 uses id"
+      ∷ codes "1 uses id|stdio" ∷ codes "2 uses stdio" ∷ []) ≡ Okay ∷ Failed ENOSYS ∷ Failed ENOSYS ∷ Okay ∷ Gone ∷ []
+  -- veils and the lock of veils are not asked
+  pub unveiled : answers_by_openbsd root_alone (codes "1 unveil - -" ∷ codes "1 uses settime" ∷ codes "1 stat /" ∷ []) ≡ Okay ∷ Okay
+      ∷ Okay ∷ []
+  -- by the standard rules there is no such call
+  pub standard : script (text_of_lines (codes "1 uses inet" ∷ [])) ≡ Err (BadCall 1)
+  pub no_field : read_by_openbsd (codes "1 uses") ≡ Err (BadCall 1)
+  pub two_fields : read_by_openbsd (codes "1 uses inet unix") ≡ Err (BadCall 1)
+  -- each is a keyword, none `error`, and none stands twice
+  pub unknown : read_by_openbsd (codes "1 uses inet|zpath") ≡ Err (BadList 1)
+  pub error : read_by_openbsd (codes "1 uses inet|error") ≡ Err (BadList 1)
+  pub twice : read_by_openbsd (codes "1 uses inet|unix|inet") ≡ Err (BadList 1)
+  pub comma : read_by_openbsd (codes "1 uses inet,unix") ≡ Err (BadList 1)
+  pub empty_first : read_by_openbsd (codes "1 uses |inet") ≡ Err (BadList 1)
+  pub empty_last : read_by_openbsd (codes "1 uses inet|") ≡ Err (BadList 1)
+  pub null : read_by_openbsd (codes "1 uses -") ≡ Err (BadList 1)
+  pub nothing : read_by_openbsd (codes "1 uses =") ≡ Err (BadList 1)
+  pub escaped : read_by_openbsd (codes "1 uses in\\145t") ≡ Err (BadList 1)
+
+pub uses_rows : UsesRows
+uses_rows = record {
+  decided = refl;
+  under_error = refl;
+  unveiled = refl;
+  standard = refl;
+  no_field = refl;
+  two_fields = refl;
+  unknown = refl;
+  error = refl;
+  twice = refl;
+  comma = refl;
+  empty_first = refl;
+  empty_last = refl;
+  null = refl;
+  nothing = refl;
+  escaped = refl;
+}
+
 pub record ReplayRows : Type 0 where
   -- a link to itself is not followed without end
   pub link_loops : answers_of example (codes "1 stat /tmp/self" ∷ codes "1 lstat /tmp/self" ∷ []) ≡ Failed ELOOP ∷ Okay ∷ []

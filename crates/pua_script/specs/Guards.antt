@@ -21,7 +21,7 @@ use Rattle.pua_calls.specs.declared.call.Call.TheVariants as call
 use Rattle.pua_policy.specs.declared.answer.May.TheVariants as may
 use Rattle.pua_script.specs.declared.request.Given.{Given}
 use Rattle.pua_script.specs.declared.request.Action.{Action}
-use Rattle.pua_script.specs.declared.request.Action.TheVariants.{OnPath, Symlink, Rename, Link, Pledge, Unveil, Lock, Fork, Exit}
+use Rattle.pua_script.specs.declared.request.Action.TheVariants.{OnPath, Symlink, Rename, Link, Pledge, Unveil, Lock, Fork, Exit, Uses}
 
 -- a call on what its path named: its promises, its letters, and the kind that it is for
 pub record OnOne (table : CallTable) (t : Tree) (h : ProcessState) (call : Call) (path : List ℕ) (object : Found) : Type 0 where
@@ -92,6 +92,7 @@ IsDecided table t h (Unveil path perms) change = IsVeil t h path perms change
 IsDecided table t h Lock change = (may_any h (unveil ∷ []) ≡ may.Yes) × (change ≡ AddEvent Locked)
 IsDecided table t h (Fork new) change = (may_any h (proc ∷ []) ≡ may.Yes) × (change ≡ CopyAs new)
 IsDecided table t h Exit change = change ≡ AddEvent Ended
+IsDecided table t h (Uses sets) change = (may_any h sets ≡ may.Yes) × (change ≡ NoChange)
 
 -- each decision had its guards
 abbrev pub DecisionsAreGuarded : Type 0

@@ -1,12 +1,14 @@
 -- What a script is as a text: lines, each of which spells a request by its fields.
 use Rattle.std.specs.Prelude.{◌≡◌, ◌≢◌, ℕ, ◌≤◌, List, [], ◌∷◌, length, Option, Some, None, Ok, Err, codes, decimal, IsTrue, IsFalse, nat_lt}
-use Rattle.std.specs.Prelude.{◌↔◌}
-use Rattle.std.specs.List.{list_all}
+use Rattle.std.specs.Prelude.{◌↔◌, ◌==◌, ◌||◌, ◌++◌}
+use Rattle.std.specs.List.{list_all, list_any, slice_split}
 use Rattle.std.specs.Str.Lines.{lines}
+use Rattle.pua_tree.specs.Names.{has_byte}
 use Rattle.pua_tree.specs.Spelling.{spelling, fields, is_field}
-use Rattle.pua_calls.specs.Promises.{promises_of, perms_of}
+use Rattle.pua_calls.specs.Promises.{holds, error, promises_of, perms_of}
 use Rattle.pua_calls.specs.Neighbours.{call_asked_by}
 use Rattle.pua_calls.specs.declared.rules.Rules.{Rules}
+use Rattle.pua_calls.specs.declared.rules.Rules.TheVariants.{Openbsd}
 use Rattle.pua_path.specs.declared.errno.Errno.{Errno}
 use Rattle.pua_calls.specs.declared.call.Call.{Call}
 use Rattle.pua_script.specs.Limits.{most_script_lines, most_number}
@@ -15,7 +17,7 @@ use Rattle.pua_script.specs.Scripts.{has_empty_word, script_by}
 use Rattle.pua_script.specs.declared.request.Given.{Given}
 use Rattle.pua_script.specs.declared.request.Given.TheVariants.{Null, Good, Unknown}
 use Rattle.pua_script.specs.declared.request.Action.{Action}
-use Rattle.pua_script.specs.declared.request.Action.TheVariants.{OnPath, Symlink, Rename, Link, Pledge, Unveil, Lock, Fork, Exit}
+use Rattle.pua_script.specs.declared.request.Action.TheVariants.{OnPath, Symlink, Rename, Link, Pledge, Unveil, Lock, Fork, Exit, Uses}
 
 -- a path or a target: `=` is the empty text, and anything else spells bytes without NUL
 pub data SpellsPath (field : List ℕ) : List ℕ → Type 0 where
@@ -42,6 +44,22 @@ pub data SpellsPerms (field : List ℕ) : Option ℕ → Type 0 where
   letters : {set : ℕ} → field ≢ codes "=" → perms_of field ≡ Ok set → SpellsPerms field (Some set)
   unknown_letter : {errno : Errno} → field ≢ codes "=" → perms_of field ≡ Err errno → SpellsPerms field None
 
+-- one keyword that is not `error`, and its set
+pub record IsKeyword (word : List ℕ) (set : ℕ) : Type 0 where
+  pub one : IsFalse (length word == 0 || has_byte 44 word)
+  pub names : promises_of word ≡ Ok set
+  pub other : IsFalse (holds set error)
+
+-- further keywords: each is none of those before it
+abbrev pub SpellSets : List ℕ → List (List ℕ) → List ℕ → Type 0
+SpellSets before [] sets = before ≡ sets
+SpellSets before (word ∷ words) sets =
+    (set : ℕ) × IsKeyword word set × IsFalse (list_any (λ other. holds other set) before) × SpellSets (before ++ set ∷ []) words sets
+
+-- keywords with `|` between them
+abbrev pub SpellsSets : List ℕ → List ℕ → Type 0
+SpellsSets field sets = SpellSets [] (slice_split (λ b. b == 124) field) sets
+
 -- the fields of a call and its arguments
 pub data SpellsAction (rules : Rules) : List (List ℕ) → Action → Type 0 where
   on_path : {word a path : List ℕ} {call : Call} → IsFalse (is_symlink call) → call_asked_by rules word ≡ Some call → SpellsPath a path →
@@ -60,6 +78,7 @@ pub data SpellsAction (rules : Rules) : List (List ℕ) → Action → Type 0 wh
   fork : {word a : List ℕ} {new : ℕ} → word ≡ codes "fork" → a ≡ decimal new → 1 ≤ new → new ≤ most_number →
       SpellsAction rules (word ∷ a ∷ []) (Fork new)
   exit : {word : List ℕ} → word ≡ codes "exit" → SpellsAction rules (word ∷ []) Exit
+  uses : {word a sets : List ℕ} → rules ≡ Openbsd → word ≡ codes "uses" → SpellsSets a sets → SpellsAction rules (word ∷ a ∷ []) (Uses sets)
 
 -- a line: the decimal of the process, and the fields of what it asks for, with single spaces between fields
 pub record SpellsRequest (rules : Rules) (line : List ℕ) (ask : Asked) : Type 0 where

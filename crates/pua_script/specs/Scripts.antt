@@ -1,17 +1,18 @@
 -- Which bytes are a script of which requests, and else which fault comes first.
-use Rattle.std.specs.Prelude.{◌≡◌, ◌≢◌, MatchResult, ℕ, suc, Bool, not, if◌then◌else◌, List, [], ◌∷◌, length, take, nat_lt, ◌==◌, Option}
+use Rattle.std.specs.Prelude.{◌≡◌, ◌≢◌, MatchResult, ℕ, suc, Bool, false, not, ◌||◌, if◌then◌else◌, List, [], ◌∷◌, ◌++◌, length, take}
+use Rattle.std.specs.Prelude.{nat_lt, ◌==◌, Option}
 use Rattle.std.specs.Prelude.{Some, None, Result, Ok, Err, codes, ok_or, option_map}
 use Rattle.std.specs.List.{list_all, list_any, slice_split}
 use Rattle.std.specs.Result.{result_ok}
 use Rattle.std.specs.Str.Lines.{lines}
-use Rattle.pua_tree.specs.Names.{same_bytes}
+use Rattle.pua_tree.specs.Names.{same_bytes, has_byte}
 use Rattle.pua_tree.specs.Spelling.{bytes_spelled, fields, is_field, number_within}
 use Rattle.pua_tree.specs.Steps.{◌>>=◌}
 use Rattle.pua_tree.specs.Listing.{only_if}
-use Rattle.pua_calls.specs.Promises.{promises_of, perms_of}
+use Rattle.pua_calls.specs.Promises.{holds, error, promises_of, perms_of}
 use Rattle.pua_calls.specs.Neighbours.{call_asked_by}
 use Rattle.pua_calls.specs.declared.rules.Rules.{Rules}
-use Rattle.pua_calls.specs.declared.rules.Rules.TheVariants.{Standard}
+use Rattle.pua_calls.specs.declared.rules.Rules.TheVariants.{Standard, Openbsd}
 use Rattle.pua_script.specs.Limits.{most_script_lines, most_number}
 use Rattle.pua_script.specs.Requests.{Asked, is_symlink, has_no_nul}
 use Rattle.pua_path.specs.declared.errno.Errno.{Errno}
@@ -19,7 +20,7 @@ use Rattle.pua_calls.specs.declared.call.Call.{Call}
 use Rattle.pua_script.specs.declared.request.Given.{Given}
 use Rattle.pua_script.specs.declared.request.Given.TheVariants.{Null, Good, Unknown}
 use Rattle.pua_script.specs.declared.request.Action.{Action}
-use Rattle.pua_script.specs.declared.request.Action.TheVariants.{OnPath, Symlink, Rename, Link, Pledge, Unveil, Lock, Fork, Exit}
+use Rattle.pua_script.specs.declared.request.Action.TheVariants.{OnPath, Symlink, Rename, Link, Pledge, Unveil, Lock, Fork, Exit, Uses}
 use Rattle.pua_script.specs.declared.fault.ScriptFault.{ScriptFault}
 use Rattle.pua_script.specs.declared.fault.ScriptFault.TheVariants.{BadLine, BadCall, BadPath, BadList, TooMany, OutOfMemory}
 
@@ -52,6 +53,29 @@ given_in field =
 abbrev pub perms_in : List ℕ → Option ℕ
 perms_in field = if is_equals field then Some 0 else result_ok (perms_of field)
 
+-- the set of one keyword that is not `error`
+abbrev pub set_of_keyword : List ℕ → Option ℕ
+set_of_keyword word = if length word == 0 || has_byte 44 word then None
+    else only_if (λ set. not (holds set error)) (result_ok (promises_of word))
+
+-- the set of a keyword that is none of those before it
+abbrev pub further_set : List ℕ → List ℕ → Option ℕ
+further_set before word = only_if (λ set. not (list_any (λ other. holds other set) before)) (set_of_keyword word)
+
+-- the sets of further keywords, after those of the keywords before them
+abbrev pub sets_of : ℕ → List ℕ → List (List ℕ) → Result (List ℕ) ScriptFault
+sets_of n before [] = Ok before
+sets_of n before (word ∷ words) = ok_or (further_set before word) (BadList n) >>= λ set. sets_of n (before ++ set ∷ []) words
+
+-- the sets of keywords with `|` between them, each of one promise: none twice, and none `error`
+abbrev pub sets_in : ℕ → List ℕ → Result (List ℕ) ScriptFault
+sets_in n field = sets_of n [] (slice_split (λ b. b == 124) field)
+
+-- by OpenBSD's rules alone a line may ask for promises
+abbrev pub asks_promises : Rules → List ℕ → Bool
+asks_promises Standard word = false
+asks_promises Openbsd word = same_bytes word (codes "uses")
+
 -- a call with its fields, still to be read
 pub data Form : Type 0 where
   PathForm : Call → List ℕ → Form
@@ -62,13 +86,15 @@ pub data Form : Type 0 where
   UnveilForm : List ℕ → List ℕ → Form
   ForkForm : ℕ → Form
   ExitForm : Form
+  UsesForm : List ℕ → Form
 
 -- the form of a line, if its call is known, has that many arguments, and a new process's number is one
 abbrev pub form_of : Rules → List ℕ → List (List ℕ) → Option Form
 form_of rules word [] = if same_bytes word (codes "exit") then Some ExitForm else None
 form_of rules word (a ∷ []) =
     if same_bytes word (codes "fork") then option_map ForkForm (number_within 1 most_number a)
-    else option_map (λ call. PathForm call a) (only_if (λ call. not (is_symlink call)) (call_asked_by rules word))
+    else (if asks_promises rules word then Some (UsesForm a)
+    else option_map (λ call. PathForm call a) (only_if (λ call. not (is_symlink call)) (call_asked_by rules word)))
 form_of rules word (a ∷ b ∷ []) =
     if same_bytes word (codes "symlink") then Some (SymlinkForm a b)
     else (if same_bytes word (codes "rename") then Some (RenameForm a b)
@@ -103,6 +129,7 @@ action_of n (PledgeForm a b) = do
 action_of n (UnveilForm a b) = unveil_of n a b
 action_of n (ForkForm new) = Ok (Fork new)
 action_of n ExitForm = Ok Exit
+action_of n (UsesForm a) = sets_in n a >>= λ sets. Ok (Uses sets)
 
 -- the fields after the process's number: the call and its arguments, and what they ask for
 abbrev pub form_in : Rules → List (List ℕ) → Option Form

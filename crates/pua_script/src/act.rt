@@ -1,7 +1,8 @@
 //! What a process's request does, where it makes no process: it is judged, and then it is done.
 //!
-//! Each request with paths has a function of its own: a compiled function clears all its variables when
-//! it begins, and a name takes 256 bytes. What a path names stays lent until a name is to be kept.
+//! Each request with paths has a function of its own: a compiled function clears all its variables
+//! when it begins, and a name takes 256 bytes. What a path names stays lent until a name is to be
+//! kept.
 
 ghost use Rattle.std.specs.Prelude.{◌≡◌, ℕ, List, None, OnErr, IsFalse, true, false};
 ghost use Rattle.pua_policy.specs.States.{ProcessState};
@@ -23,7 +24,7 @@ use crate::judged::{
 };
 use crate::link::{judge_link, naming};
 use crate::pair::{node_named, promised_pair, spot_named};
-use crate::process::{decide_lock, decide_pledge, refuse};
+use crate::process::{decide_lock, decide_pledge, decide_uses, refuse};
 use crate::rename::{judge_rename, moving};
 use crate::request::Action;
 use pua_calls::{Call, CallTable, Perms};
@@ -32,7 +33,8 @@ use pua_policy::{Process, Refusal};
 use pua_tree::FileTree;
 
 /// Does what a process asks for, where it is no fork. All checks come first, in their order;
-/// what is granted then lends the names of what they found. Whether the tree has room is asked last.
+/// what is granted then lends the names of what they found. Whether the tree has room is asked
+/// last.
 pub(crate) fn act<T: FileTree>(
     tree: &mut T,
     table: &CallTable,
@@ -61,6 +63,10 @@ pub(crate) fn act<T: FileTree>(
             answer(tree, process, &granted)
         }
         Action::Exit => answer(tree, process, &Ok(Granted::Exit)),
+        Action::Uses(any) => {
+            let granted = decide_uses(process, any.sets());
+            answer(tree, process, &granted)
+        }
         Action::Fork(_) => unreachable!(),
     }
 }
@@ -88,7 +94,8 @@ fn call_on<T: FileTree>(
     }
 }
 
-/// Makes a call whose promises are held, and that makes no name and takes none away. No name is copied.
+/// Makes a call whose promises are held, and that makes no name and takes none away. No name is
+/// copied.
 fn look<T: FileTree>(
     tree: &mut T,
     table: &CallTable,
@@ -111,8 +118,8 @@ fn look<T: FileTree>(
     }
 }
 
-/// Makes a call whose promises are held, and that makes a name or takes one away. The name is copied,
-/// since what is lent may lie in the tree that is to change.
+/// Makes a call whose promises are held, and that makes a name or takes one away. The name is
+/// copied, since what is lent may lie in the tree that is to change.
 fn edit<T: FileTree>(
     tree: &mut T,
     table: &CallTable,

@@ -18,7 +18,8 @@ pub enum ScriptFault {
     BadCall(u32),
     /// A path or a target is no spelling, or holds a NUL.
     BadPath(u32),
-    /// A list of keywords has an empty word, or an unveil has one NULL alone.
+    /// A list of keywords has an empty word, an unveil has one NULL alone, or a word of a call
+    /// without a path is no promise, is `error`, or stands twice.
     BadList(u32),
     /// None of the first 60,000 lines has a fault, and there are more.
     TooMany,

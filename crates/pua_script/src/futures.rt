@@ -1,5 +1,6 @@
-//! Laws on what becomes of a process that can put no veil any more, because it is locked or does not
-//! hold `unveil`, whatever is asked afterwards. Each is the contract of a function that does nothing.
+//! Laws on what becomes of a process that can put no veil any more, because it is locked or does
+//! not hold `unveil`, whatever is asked afterwards. Each is the contract of a function that does
+//! nothing.
 
 ghost use Rattle.pua_script.specs.Bytes.{ListingsListByteTrees, ReplaysKeepByteTrees};
 ghost use Rattle.pua_script.specs.Bytes.{ReplaysKeepTrees, RequestsKeepTrees, ScriptsAskInBytes};
@@ -10,8 +11,8 @@ ghost use Rattle.pua_script.specs.Tightening.{EachRequestNarrows, FamiliesNarrow
 ghost use Rattle.pua_script.specs.Tightening.{OthersLeave, OthersLeaveAlways};
 
 /// A request leaves the state of each process but the one that asks: its promises and execpromises,
-/// its veils and lock, its directory, and whether it has ended. A process that is forked begins with
-/// the state of the one that forked it.
+/// its veils and lock, its directory, and whether it has ended. A process that is forked begins
+/// with the state of the one that forked it.
 #[tactic(auto, using(crate::proofs::Others::others_leave, crate::proofs::Others::others_leave_always, crate::proofs::Others::forks_copy))]
 pub fn others_law()
     ensures one { OthersLeave }
@@ -20,8 +21,9 @@ pub fn others_law()
 {}
 
 /// A request, whoever makes it, leaves a process that can put no veil any more so: its unveils are
-/// the same, it has no further promise but `error`, and over each tree it may do no more than before.
-/// Two things are excepted: its own exec that succeeds, and on relative paths its own chdir that does.
+/// the same, it has no further promise but `error`, and over each tree it may do no more than
+/// before. Two things are excepted: its own exec that succeeds, and on relative paths its own chdir
+/// that does.
 pub fn steps_law()
     ensures { EachRequestNarrows }
 {}
@@ -37,17 +39,18 @@ pub fn families_law()
 /// asks rmdir, unlink and both names of rename for `c` and each tree on the way is one; and without
 /// certain promises it leaves the tree, where the calls that make a name or take one away need one
 /// of these, and the new names of rename and link. A single request of any process does so by the
-/// state that it had before. A row that stays says nothing of what is written to its file: link takes
-/// no name away, so that where it needs less of its old name, as by OpenBSD's rules, the file may be
-/// given a further name and be written by that.
+/// state that it had before. A row that stays says nothing of what is written to its file: link
+/// takes no name away, so that where it needs less of its old name, as by OpenBSD's rules, the file
+/// may be given a further name and be written by that.
 pub fn confined_law()
     ensures requests { EachRequestSpares }
     ensures lists { FamiliesConfine }
     ensures promises { PromisesChange }
 {}
 
-/// Requests whose texts are bytes leave a tree whose links lead to bytes, if those of the tree before
-/// do. So do the links of each tree that is read as a listing, and the texts of each script are bytes.
+/// Requests whose texts are bytes leave a tree whose links lead to bytes, if those of the tree
+/// before do. So do the links of each tree that is read as a listing, and the texts of each script
+/// are bytes.
 pub fn bytes_law()
     ensures one { RequestsKeepTrees }
     ensures many { ReplaysKeepTrees }
@@ -57,16 +60,16 @@ pub fn bytes_law()
 {}
 
 /// The standard rules, and those of OpenBSD, are of those that the laws speak of: no call needs
-/// `error`, rmdir, unlink and both names of rename need `c`, and the calls that make a name or take one
-/// away need cpath, as the new names of rename and link do; by OpenBSD's rules cpath, unix or dpath. Of a
-/// table that a text gives over such rules no more is asked than of these calls.
+/// `error`, rmdir, unlink and both names of rename need `c`, and the calls that make a name or take
+/// one away need cpath, as the new names of rename and link do; by OpenBSD's rules cpath, unix or
+/// dpath. Of a table that a text gives over such rules no more is asked than of these calls.
 pub fn table_law()
     ensures rules { RulesNarrow }
     ensures read { ReadTablesNarrow }
 {}
 
-/// An example of a table by which a call needs `error`: a locked process pledges it and may make the
-/// call, which it might not before.
+/// An example of a table by which a call needs `error`: a locked process pledges it and may make
+/// the call, which it might not before.
 #[tactic(auto, using(crate::specs::ErrorTables::error_tables))]
 pub fn error_table_examples()
     ensures { ErrorTables }

@@ -40,8 +40,8 @@ impl NewNode<'_> {
     }
 }
 
-/// What a request changes that is granted. Names are lent by what the request's paths named, so that
-/// no name is copied before the tree takes it.
+/// What a request changes that is granted. Names are lent by what the request's paths named, so
+/// that no name is copied before the tree takes it.
 #[derive(Clone, Copy)]
 pub(crate) enum Granted<'a> {
     /// Nothing.
@@ -110,8 +110,8 @@ pub(crate) fn make<T: FileTree>(
     }
 }
 
-/// Adds a node. `ENOSPC` where the tree refuses it: what was checked before leaves want of room as the
-/// only reason.
+/// Adds a node. `ENOSPC` where the tree refuses it: what was checked before leaves want of room as
+/// the only reason.
 fn add<T: FileTree>(
     tree: &mut T,
     dir: NodeId,
@@ -143,7 +143,8 @@ fn cut<T: FileTree>(tree: &mut T, dir: NodeId, name: &Name) -> Answer
     }
 }
 
-/// Moves a row, which needs no room: what was checked before leaves want of memory as the only fault.
+/// Moves a row, which needs no room: what was checked before leaves want of memory as the only
+/// fault.
 fn shift<T: FileTree>(
     tree: &mut T,
     from: NodeId,

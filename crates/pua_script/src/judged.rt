@@ -65,8 +65,8 @@ pub(crate) fn named_lent<'a, 't: 'a, P: Probe<'t>>(
     }
 }
 
-/// What an allowed call changes that makes no name and takes none away. Of what was found it keeps no
-/// more than a directory's number, so no name is copied.
+/// What an allowed call changes that makes no name and takes none away. Of what was found it keeps
+/// no more than a directory's number, so no name is copied.
 pub(crate) fn looking<'g>(table: &CallTable, call: Call, found: &LentFound<'_>) -> Granted<'g>
     ensures { is_edit call ≡ false → (asker : Asking) →
         decision_by asker result ≡ Ok (change_by table.now call (found_seen found.now)) }
@@ -170,8 +170,8 @@ pub(crate) fn judge_target<'a>(
     }
 }
 
-/// The permissions that an unveil is for: the promise, the lock, and the letters are judged before its
-/// path is read.
+/// The permissions that an unveil is for: the promise, the lock, and the letters are judged before
+/// its path is read.
 pub(crate) fn judge_letters(process: &Process, perms: Option<Perms>) -> Result<Perms, Refusal>
     ensures { (t : Tree) (path : List ℕ) →
         on_judged result (λ letters. decide_veil t (asker_of process.now) path (Some letters))

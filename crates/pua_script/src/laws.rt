@@ -3,7 +3,7 @@
 
 ghost use Rattle.std.specs.Prelude.{◌≡◌};
 ghost use Rattle.pua_script.specs.Examples.{ExecRows, LinkRows, PairRows, RenameRows, ReplayRows};
-ghost use Rattle.pua_script.specs.Examples.{ScriptRows, SocketRows};
+ghost use Rattle.pua_script.specs.Examples.{ScriptRows, SocketRows, UsesRows};
 ghost use Rattle.pua_script.specs.Guards.{DecisionsAreGuarded};
 ghost use Rattle.pua_script.specs.Limits.{most_script_lines, most_number, most_processes};
 ghost use Rattle.pua_script.specs.Laws.{ChangesLackRoom, DecisionsArePossible, RefusalsLackNoRoom};
@@ -34,6 +34,7 @@ pub fn replay_examples()
     ensures links { LinkRows }
     ensures pairs { PairRows }
     ensures sockets { SocketRows }
+    ensures uses { UsesRows }
     ensures execs { ExecRows }
 {}
 
@@ -48,8 +49,8 @@ pub fn decide_law()
     ensures { DecisionsAreGuarded }
 {}
 
-/// A replay, which keeps what is left of histories, answers as the one that keeps the histories does; its
-/// tree is the same, and its processes keep what is left of those histories.
+/// A replay, which keeps what is left of histories, answers as the one that keeps the histories
+/// does; its tree is the same, and its processes keep what is left of those histories.
 pub fn pasts_law()
     ensures { KeepsPasts }
 {}

@@ -3,6 +3,7 @@
 
 mod act;
 mod answer;
+mod any_of;
 mod fault;
 mod fork;
 mod futures;
@@ -21,6 +22,7 @@ mod script;
 mod world;
 
 pub use answer::Answer;
+pub use any_of::AnyOf;
 pub use fault::{ScriptFault, WorldFault};
 pub use futures::{
     bytes_law, confined_law, error_table_examples, families_law, others_law, steps_law, table_law,

@@ -12,6 +12,7 @@ ghost use Rattle.pua_script.specs.declared.request.Action.TheVariants.{Symlink, 
 ghost use Rattle.pua_script.specs.declared.fault.ScriptFault.TheVariants.{BadCall, BadList};
 ghost use Rattle.pua_script.specs.declared.fault.ScriptFault.TheVariants.{BadPath};
 
+use crate::any_of::{asks_promises, read_any_of};
 use crate::fault::ScriptFault;
 use crate::limits::MOST_NUMBER;
 use crate::origin::Origin;
@@ -133,6 +134,10 @@ fn read_one(
             Some(new) => Request::add(requests, origin, Action::Fork(new)),
             None => Err(ScriptFault::BadCall(origin.line)),
         };
+    }
+    if asks_promises(rules, word) {
+        let any = read_any_of(alloc, origin.line, a)?;
+        return Request::add(requests, origin, Action::Uses(any));
     }
     match Call::asked_by(rules, word) {
         None | Some(Call::Symlink) => Err(ScriptFault::BadCall(origin.line)),

@@ -32,8 +32,8 @@ pub(crate) struct LentSpot<'a> {
     pub(crate) name: LentName<'a>,
 }
 
-/// Whether a process holds what both names of a request need, the old name first. It is asked before
-/// any path is read.
+/// Whether a process holds what both names of a request need, the old name first. It is asked
+/// before any path is read.
 pub(crate) fn promised_pair(process: &Process, need: &PairNeed) -> Result<(), Refusal>
     ensures { (further : Decision) → on_judged result (λ _. further)
         ≡ if_may (may_any process.now need.now.old.needs.alternatives)
@@ -43,8 +43,9 @@ pub(crate) fn promised_pair(process: &Process, need: &PairNeed) -> Result<(), Re
     promised_any(process, need.new_name().alternatives())
 }
 
-/// What both paths of a request name, whose promises are held: what is wrong with the paths, and then
-/// with the covers, the old name first each time. Names are lent by the paths, or by targets of links.
+/// What both paths of a request name, whose promises are held: what is wrong with the paths, and
+/// then with the covers, the old name first each time. Names are lent by the paths, or by targets
+/// of links.
 pub(crate) fn judge_pair<'t, T: FileTree>(
     tree: &'t T,
     process: &Process,

@@ -1,10 +1,11 @@
-//! Requests that change the process that asks, and nothing else, and what a refused one leaves of it.
+//! Requests that change the process that asks, and nothing else, and what a refused one leaves of
+//! it.
 
 ghost use Rattle.std.specs.Prelude.{◌≡◌};
 ghost use Rattle.pua_tree.specs.Tree.{Tree};
 ghost use Rattle.pua_policy.specs.States.{ProcessState};
-ghost use Rattle.pua_script.specs.Decide.{Asking, asker_of, decide_lock, decide_pledge, given_set};
-ghost use Rattle.pua_script.specs.Decide.{is_unknown};
+ghost use Rattle.pua_script.specs.Decide.{Asking, asker_of, decide_lock, decide_pledge};
+ghost use Rattle.pua_script.specs.Decide.{decide_uses, given_set, is_unknown};
 ghost use Rattle.pua_script.specs.Judged.{decision_for};
 ghost use Rattle.pua_script.specs.Replay.{refusal_effect};
 ghost use Rattle.pua_script.specs.Worlds.{Does};
@@ -14,11 +15,11 @@ use crate::granted::Granted;
 use crate::request::Given;
 use pua_calls::Promises;
 use pua_path::Errno;
-use pua_policy::judge::promised;
+use pua_policy::judge::{promised, promised_any};
 use pua_policy::{Process, Refusal};
 
-/// What a process is answered that does not get what it asks for. It ends where it did what it did not
-/// promise, and else lives on as it was.
+/// What a process is answered that does not get what it asks for. It ends where it did what it did
+/// not promise, and else lives on as it was.
 pub(crate) fn refuse(process: &mut Process, refusal: Refusal) -> Answer
     ensures { (t : Tree) → Does t process.old (refusal_effect refusal) result t process.new }
 {
@@ -66,4 +67,13 @@ pub(crate) fn decide_lock<'a>(process: &Process) -> Result<Granted<'a>, Refusal>
 {
     promised(process, Promises::UNVEIL)?;
     Ok(Granted::Lock)
+}
+
+/// What a call without a path is to change that asks for one of these promises: nothing.
+pub(crate) fn decide_uses<'a>(process: &Process, sets: &[Promises]) -> Result<Granted<'a>, Refusal>
+    ensures { decision_for (asker_of process.now) result
+        ≡ decide_uses (asker_of process.now) sets.now }
+{
+    promised_any(process, sets)?;
+    Ok(Granted::NoChange)
 }

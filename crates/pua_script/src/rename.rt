@@ -108,8 +108,8 @@ fn is_node(node: NodeId, found: &LentFound<'_>) -> bool
     }
 }
 
-/// What is wrong with the way in which they were named: `.` or `..` on either side, then the root on
-/// either side.
+/// What is wrong with the way in which they were named: `.` or `..` on either side, then the root
+/// on either side.
 #[tactic(auto, using(crate::proofs::Renaming::first_fault))]
 fn ways_fault(from: &LentFound<'_>, to: &LentFound<'_>) -> Option<Errno>
     ensures { result ≡ ways_fault (found_seen from.now) (found_seen to.now) }

@@ -1,5 +1,6 @@
 //! What lines of scripts ask for.
 
+use crate::any_of::AnyOf;
 use crate::fault::ScriptFault;
 use crate::origin::Origin;
 use pua_calls::{Call, Perms, Promises};
@@ -56,6 +57,8 @@ pub enum Action {
     Fork(u32),
     /// The end of the process.
     Exit,
+    /// A call without a path that asks for one of these promises.
+    Uses(AnyOf),
 }
 
 /// A process's number, and what it asks for. `read_script` alone makes one, so its paths and its
@@ -136,8 +139,8 @@ impl Request {
         }
     }
 
-    /// Gives an unveil of a path these permissions in the place of its own, None for a letter that is
-    /// unknown. Any other request stays as it is.
+    /// Gives an unveil of a path these permissions in the place of its own, None for a letter that
+    /// is unknown. Any other request stays as it is.
     pub fn set_perms(&mut self, perms: Option<Perms>)
         ensures { self.new ≡ with_perms perms self.old }
     {

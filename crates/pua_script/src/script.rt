@@ -43,8 +43,8 @@ impl Script {
     }
 }
 
-/// Reads a script by this project's own rules: one request a line, 60,000 lines at most. A line ends
-/// in LF or CRLF; the last end may be missing. The format is this program's own.
+/// Reads a script by this project's own rules: one request a line, 60,000 lines at most. A line
+/// ends in LF or CRLF; the last end may be missing. The format is this program's own.
 ///
 /// The error is the first fault of the first line that has one, with that line's number;
 /// `TooMany` where none of the first 60,000 has one and there are more; `OutOfMemory` where a

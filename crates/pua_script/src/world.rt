@@ -121,8 +121,8 @@ impl<T: FileTree> World<T> {
         ensures spares { IfOk result (λ _. IsSparing self.old request.now self.new) }
         ensures tree { IfOk result (λ _. WellFormed self.new.tree) }
     {
-        // What may be done afterwards follows from what `answer` says of any request, and from trees
-        // before and after it. So it is a function of its own, and no case has to show it.
+        // What may be done afterwards follows from what `answer` says of any request, and from
+        // trees before and after it. So it is a function of its own, and no case has to show it.
         self.tree.known();
         let answer = self.answer(request)?;
         self.tree.known();
@@ -156,17 +156,17 @@ impl<T: FileTree> World<T> {
     /// What is true of a single request (see [`World::apply`]) is true of those that were served
     /// together, for a process and its family: itself, and those that a member forks from then on.
     /// As long as no member's exec succeeds, each member may over each tree do no more than the
-    /// process might, on absolute paths, and on relative ones as long as no member's chdir succeeds;
-    /// and where members alone ask, each row that the process couldn't touch with `c` stays, if the
-    /// table asks for `c` where a name is taken away.
+    /// process might, on absolute paths, and on relative ones as long as no member's chdir
+    /// succeeds; and where members alone ask, each row that the process couldn't touch with `c`
+    /// stays, if the table asks for `c` where a name is taken away.
     pub fn run(&mut self, alloc: Global, script: &Script) -> Result<Vec<Answer>, WorldFault>
         ensures served { IfOk result (λ answers. (answers.items, self.new) ≡ run_to self.old script.now) }
         ensures held { IfOk result (λ _. AreHeld self.old script.now self.new) }
         ensures trees { IfOk result (λ _. HaveTrees self.old script.now) }
         ensures in_part { OnErr result (AreServedInPart self.old script.now self.new) }
     {
-        // What is true of the requests together follows from what `serve_each` says of each. So it is a
-        // function of its own, as `answer` is.
+        // What is true of the requests together follows from what `serve_each` says of each. So it
+        // is a function of its own, as `answer` is.
         self.serve_each(alloc, script)
     }
 

@@ -3,16 +3,17 @@ use Rattle.pua_since.proofs.Common.{◌≡◌, ℕ, Bool, true, false, List, [],
 use Rattle.pua_since.proofs.Common.{Result, Ok, Err, if◌then◌else◌, Bor, Asked, Action, Symlink, Rename, Link, Unveil, Lock, IsRequestAt}
 use Rattle.pua_since.proofs.Common.{IsKeptThrough, Watch}
 use Rattle.std.proofs.Common.{All}
-use Rattle.std.specs.Prelude.{ok_or}
+use Rattle.std.specs.Prelude.{◌==◌, ok_or}
 use Rattle.std.specs.Map.{lookup}
 use Rattle.std.proofs.lemmas.List.Elements.{All-head, All-tail, All-push, All-weaker}
-use Rattle.std.specs.List.{list_all}
+use Rattle.std.specs.List.{list_all, slice_split}
 use Rattle.std.specs.Result.{result_ok}
 use Rattle.pua_tree.specs.Spelling.{fields, is_field, number_within}
 use Rattle.pua_tree.specs.Steps.{◌>>=◌}
 use Rattle.pua_calls.specs.declared.rules.Rules.{Rules}
 use Rattle.pua_script.specs.Limits.{most_number}
 use Rattle.pua_script.specs.Scripts.{Form, PathForm, SymlinkForm, RenameForm, LinkForm, PledgeForm, UnveilForm, ForkForm, ExitForm}
+use Rattle.pua_script.specs.Scripts.{UsesForm, further_set, sets_of}
 use Rattle.pua_script.specs.Scripts.{action_of, form_in, given_in, is_dash, path_in, perms_in, request_by, request_of_fields, unveil_of}
 use Rattle.pua_script.specs.Scripts.{with_paths}
 use Rattle.pua_script.specs.declared.fault.ScriptFault.{ScriptFault}
@@ -61,6 +62,11 @@ module _ (rules : Rules) (n m : ℕ) where
       by true false = refl
       by false b = same_then _ _ _ _ (same_found (path_in path) (BadPath n) (BadPath m)) (letters b)
 
+  same_sets : (before : List ℕ) (words : List (List ℕ)) → SameOk (sets_of n before words) (sets_of m before words)
+  same_sets before [] = refl
+  same_sets before (word ∷ words) =
+      same_then _ _ _ _ (same_found (further_set before word) (BadList n) (BadList m)) λ set. same_sets (before ++ set ∷ []) words
+
   same_action : (form : Form) → SameOk (action_of n form) (action_of m form)
   same_action (PathForm call a) = same_then _ _ _ _ (same_found (path_in a) (BadPath n) (BadPath m)) λ path. refl
   same_action (SymlinkForm a b) = same_paths Symlink a b
@@ -72,6 +78,7 @@ module _ (rules : Rules) (n m : ℕ) where
   same_action (UnveilForm a b) = same_unveil a b
   same_action (ForkForm new) = refl
   same_action ExitForm = refl
+  same_action (UsesForm a) = same_then _ _ _ _ (same_sets [] (slice_split (λ b. b == 124) a)) λ sets. refl
 
   same_fields : (fs : List (List ℕ)) → SameOk (request_of_fields rules n fs) (request_of_fields rules m fs)
   same_fields [] = refl

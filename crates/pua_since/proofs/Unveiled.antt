@@ -2,7 +2,8 @@
 use Rattle.pua_since.proofs.Common.{◌≡◌, ℕ, Bool, true, false, List, [], ◌∷◌, ◌++◌, length, map, refl, sym, ap, subst, ◌∙◌, Option, Some}
 use Rattle.pua_since.proofs.Common.{None, Result, Ok, Err, if◌then◌else◌, option_map_or, Tree, Spot, Ending, Found, PathFault, PathTrace}
 use Rattle.pua_since.proofs.Common.{trace_of_text, CallTable, ProcessState, perms_kept, working_dir, Call, Asked, World, kept_at, world_after}
-use Rattle.pua_since.proofs.Common.{Action, OnPath, Symlink, Rename, Link, Pledge, Unveil, Lock, Fork, Exit, Fact, facts_of, Fault}
+use Rattle.pua_since.proofs.Common.{Action, OnPath, Symlink, Rename, Link, Pledge, Unveil, Lock, Fork, Exit, Uses, Fact, facts_of}
+use Rattle.pua_since.proofs.Common.{Fault}
 use Rattle.pua_since.proofs.Common.{AreFactsAt, IsFactAt, fact_line, veil_told, AreWatched, kept_in, Watches}
 use Rattle.std.specs.Prelude.{⊤}
 use Rattle.std.specs.List.{AllByRecursion}
@@ -114,6 +115,7 @@ module _ (h : ProcessState) where
   facts_kept table t Lock = promised_kept (promising h (unveil ∷ [])) [] tt
   facts_kept table t (Fork new) = promised_kept (promising h (proc ∷ [])) [] tt
   facts_kept table t Exit = tt
+  facts_kept table t (Uses sets) = promised_kept (promising h sets) [] tt
 
 module _ (table : CallTable) (w : World) (done : List Asked) (s : Watches) (watched : AreWatched table w done [] s) (ask : Asked)
     (h : ProcessState) (made : kept_at (world_after table w done) ask.process ≡ Some h) where

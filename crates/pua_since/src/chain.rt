@@ -22,11 +22,11 @@ use pua_tree::{FileTree, OutOfMemory};
 use pua_why::{Fact, TreePaths, facts, push_fact};
 use std::alloc::{AllocError, Global};
 
-/// What decides a request behind a script: a line for the promises that let it through, for each link
-/// that its paths follow, for what they name and for the veil that covers that, in the order of the
-/// checks and as far as it passes them; and as the last line its answer, with the reason, since which
-/// line that is so, and what opens the path all the same, as [`reason_text`](crate::reason_text) would
-/// tell it of the script's next line.
+/// What decides a request behind a script: a line for the promises that let it through, for each
+/// link that its paths follow, for what they name and for the veil that covers that, in the order
+/// of the checks and as far as it passes them; and as the last line its answer, with the reason,
+/// since which line that is so, and what opens the path all the same, as
+/// [`reason_text`](crate::reason_text) would tell it of the script's next line.
 ///
 /// The script's requests were answered so in a world as `before`, which serves them; `after` is the
 /// world that they left, and serves the request. The only error is that a growth was refused.
@@ -117,8 +117,8 @@ fn watch_facts<'a, T: FileTree>(
     Ok(veils)
 }
 
-/// Adds a question for a fact of a process, if it tells a veil, whose answer is wanted behind so many
-/// lines, and answers its place.
+/// Adds a question for a fact of a process, if it tells a veil, whose answer is wanted behind so
+/// many lines, and answers its place.
 fn watch_fact<'a, T: FileTree>(
     alloc: Global,
     world: &World<T>,
@@ -142,7 +142,8 @@ fn watch_fact<'a, T: FileTree>(
     Ok(Some(place))
 }
 
-/// Since which lines the questions at these places are told what they are; None where there is none.
+/// Since which lines the questions at these places are told what they are; None where there is
+/// none.
 fn fact_lines(
     alloc: Global,
     watches: &Watches<'_>,

@@ -13,8 +13,9 @@ use pua_why::{Fault, Reason, TreePaths, push_opener, push_reason, push_since, re
 use std::alloc::{AllocError, Global};
 use std::fmt::Write;
 
-/// Adds what a request is answered in a world, and if that is not `ok`, why, since which line, if that
-/// is told, and by which promise a kernel opens the path all the same, if one does by these rules.
+/// Adds what a request is answered in a world, and if that is not `ok`, why, since which line, if
+/// that is told, and by which promise a kernel opens the path all the same, if one does by these
+/// rules.
 pub(crate) fn push_answer<T: FileTree>(
     alloc: Global,
     text: &mut String,
@@ -47,7 +48,8 @@ pub(crate) fn push_answer<T: FileTree>(
     push_opener(alloc, text, rules, world, process, action, &reason)
 }
 
-/// Adds the words of a reason, by the paths of a world's tree, with a blank before them, if it has any.
+/// Adds the words of a reason, by the paths of a world's tree, with a blank before them, if it has
+/// any.
 fn push_words<T: FileTree>(
     alloc: Global,
     text: &mut String,
@@ -83,8 +85,8 @@ fn push_spaced(text: &mut String, words: &str) -> Result<(), AllocError>
     text.push_str(words)
 }
 
-/// Since which line a reason is told. That a process was never made was so from the start, and since
-/// when a tree is full is not told.
+/// Since which line a reason is told. That a process was never made was so from the start, and
+/// since when a tree is full is not told.
 fn date_of(reason: &Reason<'_>, line: Option<usize>) -> Option<usize>
     ensures { result ≡ date_of (reason_seen reason.now) line }
 {

@@ -26,8 +26,8 @@ use pua_tree::{FileTree, OutOfMemory};
 use std::alloc::{AllocError, Global};
 use std::slice::Iter;
 
-/// The questions of a script's lines, and for each line that is not answered `ok` the place of its own
-/// among them, in the order of the lines.
+/// The questions of a script's lines, and for each line that is not answered `ok` the place of its
+/// own among them, in the order of the lines.
 ///
 /// Lines with the same bytes ask the same, so each is asked about once.
 pub(crate) fn watch_lines<'a, T: FileTree>(
@@ -61,8 +61,8 @@ pub(crate) fn watch_lines<'a, T: FileTree>(
     Ok(places)
 }
 
-/// The place of the question of a line behind so many others: of an earlier one with the same bytes, or
-/// its own.
+/// The place of the question of a line behind so many others: of an earlier one with the same
+/// bytes, or its own.
 fn place_of<'a, 'l, T: FileTree>(
     alloc: Global,
     world: &World<T>,
@@ -96,9 +96,10 @@ fn place_of<'a, 'l, T: FileTree>(
     Ok(place)
 }
 
-/// A line for each request, with its number, what it is answered, and if that is not `ok`, why, since
-/// which line, and by which promise a kernel opens it all the same. The world is the one before them, and serves them; the questions of those that are
-/// not answered `ok` stand at these places.
+/// A line for each request, with its number, what it is answered, and if that is not `ok`, why,
+/// since which line, and by which promise a kernel opens it all the same. The world is the one
+/// before them, and serves them; the questions of those that are not answered `ok` stand at these
+/// places.
 pub(crate) fn lines_text<T: FileTree>(
     alloc: Global,
     rules: Rules,
@@ -134,8 +135,8 @@ pub(crate) fn lines_text<T: FileTree>(
     Ok(text)
 }
 
-/// Since which line the next of these questions is told what it is, which is asked about a request that
-/// is answered so; None where that is `ok`, so that it has no question.
+/// Since which line the next of these questions is told what it is, which is asked about a request
+/// that is answered so; None where that is `ok`, so that it has no question.
 fn next_line(watches: &Watches<'_>, answer: Answer, left: &mut Iter<'_, usize>) -> Option<usize>
     ensures line { result ≡ question_line watches.now.watches.items answer (iter_rest left.old) }
     ensures left { iter_rest left.new ≡ places_left answer (iter_rest left.old) }
@@ -171,11 +172,11 @@ fn push_line<T: FileTree>(
     text.push_str("\n")
 }
 
-/// The text of a run of a script with reasons: a line for each of its requests, with its number, what
-/// it is answered, and if that is not `ok`, why, since which line that is so, unless it was so from the
-/// start, and by which promise a kernel opens the path all the same, if one does by these rules. The
-/// script was read from these bytes by these rules, and its requests were answered so, in a world as this
-/// one, which serves them. The only error is that a growth was refused.
+/// The text of a run of a script with reasons: a line for each of its requests, with its number,
+/// what it is answered, and if that is not `ok`, why, since which line that is so, unless it was so
+/// from the start, and by which promise a kernel opens the path all the same, if one does by these
+/// rules. The script was read from these bytes by these rules, and its requests were answered so,
+/// in a world as this one, which serves them. The only error is that a growth was refused.
 pub fn reason_text<T: FileTree>(
     alloc: Global,
     rules: Rules,

@@ -19,8 +19,8 @@ use pua_script::{Answer, Request, World};
 use pua_tree::{FileTree, OutOfMemory};
 use std::alloc::Global;
 
-/// The places of the veils of these processes, one process after another, each with its number; none of
-/// a number that was never made. The only error is that a growth was refused.
+/// The places of the veils of these processes, one process after another, each with its number;
+/// none of a number that was never made. The only error is that a growth was refused.
 pub fn veils_of<'w, T: FileTree>(
     alloc: Global,
     world: &'w World<T>,
@@ -55,9 +55,9 @@ fn add_veils<'w>(
     Ok(())
 }
 
-/// What [`reason_text`](crate::reason_text) tells, and since which line each of these veils, with the
-/// number of its process, has the letters that it has behind the script, or has none there: None where
-/// that was so from the start. The only error is that a growth was refused.
+/// What [`reason_text`](crate::reason_text) tells, and since which line each of these veils, with
+/// the number of its process, has the letters that it has behind the script, or has none there:
+/// None where that was so from the start. The only error is that a growth was refused.
 pub fn dated_text<T: FileTree>(
     alloc: Global,
     rules: Rules,
@@ -90,8 +90,8 @@ pub fn dated_text<T: FileTree>(
     Ok((text, lines_at(alloc, &watches, own.as_slice())?))
 }
 
-/// Adds a question for each of these veils, whose answers are wanted behind so many lines, and answers
-/// their places.
+/// Adds a question for each of these veils, whose answers are wanted behind so many lines, and
+/// answers their places.
 fn watch_veils<'a, T: FileTree>(
     alloc: Global,
     world: &World<T>,

@@ -92,7 +92,8 @@ impl<'a> Watch<'a> {
     }
 
     /// Asks a world again, behind this line, if the answer is still wanted there and what the line
-    /// touched may concern whoever its process was there. The only error is that a growth was refused.
+    /// touched may concern whoever its process was there. The only error is that a growth was
+    /// refused.
     pub(crate) fn ask<T: FileTree>(
         &mut self,
         alloc: Global,

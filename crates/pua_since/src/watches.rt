@@ -162,8 +162,8 @@ impl<'a> Watches<'a> {
         }
     }
 
-    /// Asks each question again that what was touched may concern, and whose answer is wanted behind
-    /// this line.
+    /// Asks each question again that what was touched may concern, and whose answer is wanted
+    /// behind this line.
     fn ask_again<T: FileTree>(
         &mut self,
         alloc: Global,

@@ -1,5 +1,5 @@
-//! Lists whose letters are counted as they are read. No other module sees the lists and the number of
-//! reads once they are here, and this one has no way to an entry but `read`, which counts it.
+//! Lists whose letters are counted as they are read. No other module sees the lists and the number
+//! of reads once they are here, and this one has no way to an entry but `read`, which counts it.
 
 ghost use Rattle.std.specs.Prelude.{◌≡◌, ◌<◌, ◌+◌, length, get_or, min};
 ghost use Rattle.std.specs.Prelude.{MatchOption};
@@ -9,10 +9,10 @@ ghost use Rattle.pua_steps.specs.Lists.{span_of};
 use crate::lists::{Lists, Span};
 use crate::steps::Entry;
 
-/// The lists that a walk reads, and how many of their letters were read. Nothing gives the lists back,
-/// and nothing sets the number: it only grows. A count that began anew would be one of other lists,
-/// which no contract says to be equal to these, since none tells what room a new vector has. So where
-/// the lists are as they were, the count went on from what it was.
+/// The lists that a walk reads, and how many of their letters were read. Nothing gives the lists
+/// back, and nothing sets the number: it only grows. A count that began anew would be one of other
+/// lists, which no contract says to be equal to these, since none tells what room a new vector has.
+/// So where the lists are as they were, the count went on from what it was.
 #[derive(Drop)]
 pub struct Counted {
     lists: Lists,

@@ -40,8 +40,8 @@ fn spread(entries: &[Entry], set: u64, next: &mut Vec<u64>)
 }
 
 impl Entry {
-    /// Adds to `next` what the entry leads to from a directory that is reached with a set of numbers
-    /// of links.
+    /// Adds to `next` what the entry leads to from a directory that is reached with a set of
+    /// numbers of links.
     fn land(&self, set: u64, next: &mut Vec<u64>)
         requires links { self.now.links ≤ most_links }
         requires to { IfSome self.now.to (λ d. d < length next.old.items) }
@@ -71,7 +71,7 @@ fn moved(set: u64, links: u8) -> u64
     (set << links) & EVERY
 }
 
-/// So many empty sets. The error is that the growth was refused.
+/// So many empty sets. The only error is that a growth was refused.
 fn empty_sets(alloc: Global, dirs: usize) -> Result<Vec<u64>, AllocError>
     ensures many { IfOk result (λ sets. length sets.items ≡ dirs) }
     ensures empty { IfOk result (λ sets. (d : ℕ) → get_or sets.items d 0 ≡ 0) }
@@ -84,7 +84,7 @@ fn empty_sets(alloc: Global, dirs: usize) -> Result<Vec<u64>, AllocError>
 }
 
 /// What the steps of all directories lead to from these sets of numbers of links, one set for each
-/// directory. The error is that the growth was refused.
+/// directory. The only error is that a growth was refused.
 fn step_all(alloc: Global, steps: &Steps, sets: &[u64]) -> Result<Vec<u64>, AllocError>
     requires table { IsTable steps.now }
     requires many { length sets.now ≡ length steps.now.rows.items }
@@ -131,8 +131,8 @@ fn below(set: u64, bound: u8) -> usize
     (set & ((1 << bound) - 1)).count_ones() as usize
 }
 
-/// The sets before the first letter: of the state in which it stands alone, if there is one. The error
-/// is that the growth was refused.
+/// The sets before the first letter: of the state in which it stands alone, if there is one. The
+/// only error is that a growth was refused.
 fn first_sets(alloc: Global, dirs: usize, base: Option<State>) -> Result<Vec<u64>, AllocError>
     requires { IfSome base (λ s. (s.dir < dirs) × (s.used ≤ most_links)) }
     ensures { IfOk result (λ sets. AreSets dirs (option_to_list base) sets.items) }
@@ -147,9 +147,9 @@ fn first_sets(alloc: Global, dirs: usize, base: Option<State>) -> Result<Vec<u64
 
 impl Live {
     /// How many states are live, where the first letter stands in `base` and words have at most
-    /// `limit` letters: states to which words lead, and from which words with an allowed call go on,
-    /// counted for each number of letters that may still come. The one error is that a growth was
-    /// refused, after which nothing is kept.
+    /// `limit` letters: states to which words lead, and from which words with an allowed call go
+    /// on, counted for each number of letters that may still come. The only error is that a growth
+    /// was refused, after which nothing is kept.
     pub(crate) fn count(
         &self,
         alloc: Global,

@@ -2,8 +2,8 @@
 
 use crate::state::State;
 
-/// An open state: the letters from `next` on, and the entries of its list from `place` on and before
-/// `end`, are still to be tried.
+/// An open state: the letters from `next` on, and the entries of its list from `place` on and
+/// before `end`, are still to be tried.
 #[derive(Clone, Copy)]
 pub(crate) struct Frame {
     pub(crate) state: State,

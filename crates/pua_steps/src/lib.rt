@@ -1,5 +1,5 @@
-//! The words over an alphabet by a table of steps: which calls are allowed on them, which states are
-//! live, and a walk through them in their order.
+//! The words over an alphabet by a table of steps: which calls are allowed on them, which states
+//! are live, and a walk through them in their order.
 //!
 //! Letters, directories and calls are numbers here: a letter is its place in the alphabet, a
 //! directory its place among the rows of the table, a call the place of its bit in a set.

@@ -22,11 +22,11 @@ pub(crate) struct Span {
     pub(crate) end: usize,
 }
 
-/// For each number of letters that may come after a letter, below the limit, and for each directory,
-/// the list of the entries whose letters may give something: a call is allowed on the letter, or on a
-/// word that goes on from it, for some number of links followed before. A directory in which calls are
-/// allowed on letters without entries keeps all its entries. So a walk does not pass over dead
-/// entries again and again.
+/// For each number of letters that may come after a letter, below the limit, and for each
+/// directory, the list of the entries whose letters may give something: a call is allowed on the
+/// letter, or on a word that goes on from it, for some number of links followed before. A directory
+/// in which calls are allowed on letters without entries keeps all its entries. So a walk does not
+/// pass over dead entries again and again.
 #[derive(Drop)]
 pub(crate) struct Lists {
     /// The entries of the lists, list after list.
@@ -51,8 +51,8 @@ impl Entry {
 }
 
 impl Lists {
-    /// The lists of a table of steps by its live states, for words of at most `limit` letters. The one
-    /// error is that a growth was refused, after which nothing is kept.
+    /// The lists of a table of steps by its live states, for words of at most `limit` letters. The
+    /// only error is that a growth was refused, after which nothing is kept.
     pub(crate) fn fill(
         alloc: Global,
         steps: &Steps,
@@ -74,9 +74,9 @@ impl Lists {
         Ok(lists)
     }
 
-    /// Adds the lists where at most `left` letters may come after a letter. Where the bounds are those
-    /// for one letter fewer, its lists are too, and they are shared. After an error the lists are of
-    /// no use.
+    /// Adds the lists where at most `left` letters may come after a letter. Where the bounds are
+    /// those for one letter fewer, its lists are too, and they are shared. After an error the lists
+    /// are of no use.
     fn add_layer(&mut self, steps: &Steps, live: &Live, left: usize) -> Result<(), AllocError>
         requires table { IsTable steps.now }
         requires dirs { live.now.dirs ≡ length steps.now.rows.items }
@@ -185,8 +185,8 @@ impl Lists {
         self.spans[self.layers[left] + dir as usize]
     }
 
-    /// The entry at a place among those of all lists, if there is one. It is not counted: once lists
-    /// are in a `Counted`, that alone comes here.
+    /// The entry at a place among those of all lists, if there is one. It is not counted: once
+    /// lists are in a `Counted`, that alone comes here.
     pub(crate) fn entry(&self, place: usize) -> Option<Entry>
         ensures { result ≡ slice_get self.now.entries.items place }
     {

@@ -11,10 +11,10 @@ use crate::state::State;
 use crate::steps::{Entry, Steps};
 use std::alloc::{AllocError, Global};
 
-/// Which states are live: those from which words go on on which a call is allowed. For each number of
-/// letters that may still come, from none on, `bounds` has a number for each of the `dirs`
-/// directories: a state is live just where it has followed fewer links than that number, which is at
-/// most 33.
+/// Which states are live: those from which words go on on which a call is allowed. For each number
+/// of letters that may still come, from none on, `bounds` has a number for each of the `dirs`
+/// directories: a state is live just where it has followed fewer links than that number, which is
+/// at most 33.
 #[derive(Drop)]
 pub(crate) struct Live {
     pub(crate) dirs: usize,
@@ -69,7 +69,8 @@ const MOST_BOUND: u8 = MOST_LINKS + 1;
 
 impl Entry {
     /// The bound by which this letter alone makes its directory live, where at most `left` letters
-    /// come after it, by the bounds for so many: 33 where a call is allowed with the final link kept.
+    /// come after it, by the bounds for so many: 33 where a call is allowed with the final link
+    /// kept.
     pub(crate) fn bound(&self, bounds: &[u8], dirs: usize, left: usize) -> u8
         requires links { self.now.links ≤ most_links }
         requires layer { left * dirs + dirs ≤ length bounds.now }
@@ -132,8 +133,8 @@ fn behind(steps: &Steps, bounds: &[u8], left: usize, dir: usize) -> u8
 }
 
 impl Live {
-    /// The live states of a table of steps, for words of at most `limit` letters. The one error is
-    /// that the growth was refused, after which nothing is kept.
+    /// The live states of a table of steps, for words of at most `limit` letters. The only error is
+    /// that a growth was refused, after which nothing is kept.
     pub(crate) fn fill(alloc: Global, steps: &Steps, limit: usize) -> Result<Live, AllocError>
         requires table { IsTable steps.now }
         requires limit { limit ≤ most_letters }

@@ -22,12 +22,12 @@ use crate::walk::Walk;
 use std::alloc::{AllocError, Global};
 
 impl Walk {
-    /// A walk with those pairs ahead of it that come after a pair: after the word `word`, given by the
-    /// places of its letters, and the call with the number `call`, from 0 on. The word's path may lead
-    /// nowhere, the word may be longer than `limit`, and the pair need not be allowed. The other
-    /// arguments are those of `begin`, as is the error. It goes to that place by one binary search a
-    /// letter, and does not walk there from the first pair: its lists are those that it was given, so
-    /// their count went on from what it was.
+    /// A walk with those pairs ahead of it that come after a pair: after the word `word`, given by
+    /// the places of its letters, and the call with the number `call`, from 0 on. The word's path
+    /// may lead nowhere, the word may be longer than `limit`, and the pair need not be allowed. The
+    /// other arguments are those of `begin`, as is the error. It goes to that place by one binary
+    /// search a letter, and does not walk there from the first pair: its lists are those that it
+    /// was given, so their count went on from what it was.
     pub fn resume(
         alloc: Global,
         tables: Tables,
@@ -63,8 +63,8 @@ impl Walk {
         Ok(walk)
     }
 
-    /// Goes from its beginning to the place after a pair: along the pair's word as far as words with
-    /// an allowed call go on, and to those of the word's calls that come after the pair's.
+    /// Goes from its beginning to the place after a pair: along the pair's word as far as words
+    /// with an allowed call go on, and to those of the word's calls that come after the pair's.
     fn go_to(&mut self, word: &[usize], call: u8)
         requires ready { IsReady self.old }
         requires fresh { (self.old.word.items ≡ []) × (self.old.frames.items ≡ []) }

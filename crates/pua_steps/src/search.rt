@@ -24,8 +24,8 @@ impl Counted {
         None
     }
 
-    /// Whether the entry at a place, which is counted, stands before a letter. Where there is no entry
-    /// it doesn't.
+    /// Whether the entry at a place, which is counted, stands before a letter. Where there is no
+    /// entry it doesn't.
     #[inline]
     fn is_before(&mut self, place: usize, letter: usize) -> bool
         ensures lists { self.new.lists ≡ self.old.lists }
@@ -39,8 +39,8 @@ impl Counted {
         }
     }
 
-    /// How many entries of a list stand before a letter. It is found by one binary search: each entry
-    /// that it reads is counted.
+    /// How many entries of a list stand before a letter. It is found by one binary search: each
+    /// entry that it reads is counted.
     pub(crate) fn count_before(&mut self, span: Span, letter: usize) -> usize
         requires order { span.place ≤ span.end }
         requires inside { span.end ≤ length self.old.lists.entries.items }

@@ -58,8 +58,8 @@ impl Counted {
 }
 
 impl Tables {
-    /// Takes the next letter of an open state, and counts it. None where it has none left: the frame
-    /// stays as it is.
+    /// Takes the next letter of an open state, and counts it. None where it has none left: the
+    /// frame stays as it is.
     fn visit(&mut self, frame: &mut Frame) -> Option<Visit>
         requires table { IsTable self.old.steps }
         requires known { AllByRecursion (λ e. IsEntry self.old.steps e)
@@ -97,9 +97,9 @@ impl Tables {
         Some(entry.visit(frame.state.used))
     }
 
-    /// The next letter of an open state on which a call is allowed, or which leads to a state that is
-    /// live where at most `left` letters come after it. None where no such letter is left. Each letter
-    /// that is read is counted, up to the greatest value of the count.
+    /// The next letter of an open state on which a call is allowed, or which leads to a state that
+    /// is live where at most `left` letters come after it. None where no such letter is left. Each
+    /// letter that is read is counted, up to the greatest value of the count.
     #[inline]
     pub(crate) fn next_visit(&mut self, left: usize, frame: &mut Frame) -> Option<Visit>
         requires table { IsTable self.old.steps }
@@ -132,8 +132,8 @@ impl Tables {
         None
     }
 
-    /// Finds a letter among those of a state, by one binary search in its list, where at most `left`
-    /// letters may come after it. Each letter that is read is counted.
+    /// Finds a letter among those of a state, by one binary search in its list, where at most
+    /// `left` letters may come after it. Each letter that is read is counted.
     pub(crate) fn find(&mut self, left: usize, state: State, letter: usize) -> NextVisit
         requires table { IsTable self.old.steps }
         requires listed { AreListsOf self.old.steps self.old.live

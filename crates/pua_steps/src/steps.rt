@@ -29,8 +29,8 @@ pub struct Row {
     pub missing: u32,
 }
 
-/// What each letter in each directory leads to: how many letters the alphabet has, and a row for each
-/// directory.
+/// What each letter in each directory leads to: how many letters the alphabet has, and a row for
+/// each directory.
 #[derive(Drop)]
 pub struct Steps {
     pub letters: usize,
@@ -38,8 +38,9 @@ pub struct Steps {
 }
 
 impl Entry {
-    /// What the letter leads to where so many links were followed before it. At most `MOST_LINKS` are
-    /// followed in all: beyond them no word goes on from the letter, and its final link is kept.
+    /// What the letter leads to where so many links were followed before it. At most `MOST_LINKS`
+    /// are followed in all: beyond them no word goes on from the letter, and its final link is
+    /// kept.
     pub(crate) fn visit(&self, used: u8) -> Visit
         requires used { used ≤ most_links }
         requires links { self.now.links ≤ most_links }
@@ -69,8 +70,8 @@ impl Entry {
     }
 }
 
-/// Whether calls are allowed on the letters without entries, and there is one of them from `next` on
-/// and before `end`.
+/// Whether calls are allowed on the letters without entries, and there is one of them from `next`
+/// on and before `end`.
 pub(crate) fn has_gap(missing: u32, next: usize, end: usize) -> bool
     ensures { result ≡ has_gap missing next end }
 {

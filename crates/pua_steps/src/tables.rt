@@ -16,9 +16,9 @@ use crate::state::State;
 use crate::steps::Steps;
 use std::alloc::{AllocError, Global};
 
-/// The tables that a walk reads, and how many of their letters were read. They are made of a table of
-/// steps, which they keep: nothing gives it back, and what it tells of a letter is read by `counted`
-/// alone.
+/// The tables that a walk reads, and how many of their letters were read. They are made of a table
+/// of steps, which they keep: nothing gives it back, and what it tells of a letter is read by
+/// `counted` alone.
 #[derive(Drop)]
 pub struct Tables {
     steps: Steps,
@@ -27,8 +27,8 @@ pub struct Tables {
 }
 
 impl Tables {
-    /// The tables of a table of steps, for words of at most `limit` letters: none of their letters was
-    /// read. The one error is that a growth was refused, after which nothing is kept.
+    /// The tables of a table of steps, for words of at most `limit` letters: none of their letters
+    /// was read. The only error is that a growth was refused, after which nothing is kept.
     pub fn fill(alloc: Global, steps: Steps, limit: usize) -> Result<Tables, AllocError>
         requires table { IsTable steps }
         requires limit { limit ≤ most_letters }

@@ -19,9 +19,9 @@ use crate::tables::Tables;
 use crate::visit::Visit;
 use std::alloc::{AllocError, Global};
 
-/// A walk through the words of a table of steps, in their order: letter by letter, a word before its
-/// extensions. It gives the pairs of a word and a call that is allowed on it. It takes no memory
-/// beyond what was reserved at its beginning.
+/// A walk through the words of a table of steps, in their order: letter by letter, a word before
+/// its extensions. It gives the pairs of a word and a call that is allowed on it. It takes no
+/// memory beyond what was reserved at its beginning.
 #[derive(Drop)]
 pub struct Walk {
     pub(crate) tables: Tables,
@@ -40,10 +40,10 @@ pub struct Walk {
 }
 
 impl Walk {
-    /// A walk with all pairs ahead of it, by words of at most `limit` letters: `calls` are the calls of
-    /// the empty word, and `base` is the state in which the first letter stands, if there is one. It
-    /// reserves all that the walk will need, and counts no letter. The one error is that a growth was
-    /// refused, after which nothing is kept.
+    /// A walk with all pairs ahead of it, by words of at most `limit` letters: `calls` are the
+    /// calls of the empty word, and `base` is the state in which the first letter stands, if there
+    /// is one. It reserves all that the walk will need, and counts no letter. The only error is
+    /// that a growth was refused, after which nothing is kept.
     pub fn begin(
         alloc: Global,
         tables: Tables,
@@ -76,9 +76,9 @@ impl Walk {
         })
     }
 
-    /// The call of the next pair, whose word is then the walk's. None where no pair is left, now and
-    /// from then on. It reads at most `2 * limit * letters` letters, and takes no memory. Of the word
-    /// as it was before, the first `unchanged` letters stay.
+    /// The call of the next pair, whose word is then the walk's. None where no pair is left, now
+    /// and from then on. It reads at most `2 * limit * letters` letters, and takes no memory. Of
+    /// the word as it was before, the first `unchanged` letters stay.
     pub fn next_call(&mut self) -> Option<u8>
         requires ready { IsReady self.old }
         ensures ready { IsReady self.new }
@@ -101,7 +101,8 @@ impl Walk {
         self.go_on()
     }
 
-    /// Takes all calls of the walk's word that are still to be given: a bit for each, the first at bit
+    /// Takes all calls of the walk's word that are still to be given: a bit for each, the first at
+    /// bit
     /// 0. The pairs that come after theirs are still to come. It reads no letter.
     pub fn take_calls(&mut self) -> u32
         ensures ready { IsReady self.old → IsReady self.new }
@@ -117,17 +118,17 @@ impl Walk {
         calls
     }
 
-    /// The word of the pair that was given last, by the places of its letters in the alphabet. Before
-    /// the first call it is the word from which the walk goes on.
+    /// The word of the pair that was given last, by the places of its letters in the alphabet.
+    /// Before the first call it is the word from which the walk goes on.
     pub fn word(&self) -> &[usize]
         ensures { result.now ≡ self.now.word.items }
     {
         &self.word
     }
 
-    /// How many letters at the front of the word the last `next_call` left as they were. What is made
-    /// of the word letter by letter has to be made again from there on. Where the call is of the same
-    /// word as the one before, it is the length of the word.
+    /// How many letters at the front of the word the last `next_call` left as they were. What is
+    /// made of the word letter by letter has to be made again from there on. Where the call is of
+    /// the same word as the one before, it is the length of the word.
     pub fn unchanged(&self) -> usize
         ensures { result ≡ self.now.unchanged }
     {

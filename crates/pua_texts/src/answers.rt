@@ -42,8 +42,8 @@ fn push_word(text: &mut String, answer: Answer) -> Result<(), AllocError>
     }
 }
 
-/// What stands before the lines of the pairs: the answers and the heading, except in an audit that is
-/// resumed, which doesn't write them again.
+/// What stands before the lines of the pairs: the answers and the heading, except in an audit that
+/// is resumed, which doesn't write them again.
 pub fn front_text(
     alloc: Global,
     answers: &[Answer],

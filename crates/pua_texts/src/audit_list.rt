@@ -38,8 +38,8 @@ impl<'t, T: FileTree> Model for AuditList<'t, T> {
 }
 
 impl<'t, T: FileTree> AuditList<'t, T> {
-    /// Begins the audit of a process over a tree, as [`Audit::begin`] does, and answers each `AuditFault`
-    /// where that one does.
+    /// Begins the audit of a process over a tree, as [`Audit::begin`] does, and answers each
+    /// `AuditFault` where that one does.
     pub fn begin(
         alloc: Global,
         tree: &'t T,
@@ -66,8 +66,8 @@ impl<'t, T: FileTree> AuditList<'t, T> {
         Ok(AuditList { probe, audit })
     }
 
-    /// Adds the front of a text to a block, and then a line for each pair that the audit has still to
-    /// give. The front is put before the audit is asked for its first pair.
+    /// Adds the front of a text to a block, and then a line for each pair that the audit has still
+    /// to give. The front is put before the audit is asked for its first pair.
     fn add_to<S: Sink>(
         &mut self,
         front: &str,
@@ -83,8 +83,8 @@ impl<'t, T: FileTree> AuditList<'t, T> {
 }
 
 /// Writes the front of a text, and then a line for each pair that an audit has still to give.
-/// `OutOfMemory` where the room of a block was refused, before anything is written. `Write` only where
-/// a put failed in this call, after a front of the text.
+/// `OutOfMemory` where the room of a block was refused, before anything is written. `Write` only
+/// where a put failed in this call, after a front of the text.
 pub fn write_audit<T: FileTree, S: Sink>(
     alloc: Global,
     front: &str,

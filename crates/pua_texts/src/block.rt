@@ -37,8 +37,8 @@ pub(crate) const BLOCK: usize = 65_536;
 /// How many bytes more than are needed are set to zero at one time.
 const AHEAD: usize = 1_024;
 
-/// Bytes that are still to be put into a sink, many at one time. Its room is reserved when it is made,
-/// so nothing that is added takes memory. Contracts see the bytes.
+/// Bytes that are still to be put into a sink, many at one time. Its room is reserved when it is
+/// made, so nothing that is added takes memory. Contracts see the bytes.
 #[derive(Drop)]
 pub(crate) struct Block {
     /// The bytes, and zeros or bytes of before behind them: others are copied over those.
@@ -58,7 +58,7 @@ impl Model for Block {
 }
 
 impl Block {
-    /// An empty block. The only error is that its room was refused.
+    /// An empty block. The only error is that a growth was refused.
     pub(crate) fn new(alloc: Global) -> Result<Block, OutOfMemory>
         ensures { IfOk result (λ block. block ≡ []) }
     {
@@ -188,8 +188,8 @@ impl Block {
         put_all(sink, self.bytes())
     }
 
-    /// Puts all bytes where a text was added whole, and answers what became of it. `Write` where a put
-    /// failed, now or while it was added.
+    /// Puts all bytes where a text was added whole, and answers what became of it. `Write` where a
+    /// put failed, now or while it was added.
     pub(crate) fn finish<S: Sink>(
         &self,
         added: Result<(), PutFault>,
@@ -209,7 +209,8 @@ impl Block {
     }
 }
 
-/// Sets zeros behind bytes where there are fewer than so many, but no more than a block has room for.
+/// Sets zeros behind bytes where there are fewer than so many, but no more than a block has room
+/// for.
 #[inline(always)]
 fn fill_to(bytes: &mut Vec<u8>, len: usize)
     ensures { BLOCK ≤ vec_capacity bytes.old → len ≤ BLOCK →
@@ -220,8 +221,8 @@ fn fill_to(bytes: &mut Vec<u8>, len: usize)
     }
 }
 
-/// Sets zeros behind bytes, so many that few such calls fill a block. Memory behind them is left alone:
-/// a short text needs none of it.
+/// Sets zeros behind bytes, so many that few such calls fill a block. Memory behind them is left
+/// alone: a short text needs none of it.
 #[cold]
 #[inline(never)]
 fn fill_ahead(bytes: &mut Vec<u8>, len: usize)

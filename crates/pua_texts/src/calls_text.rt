@@ -15,8 +15,8 @@ use pua_tree::OutOfMemory;
 use std::alloc::Global;
 use std::marker::Model;
 
-/// The names of some calls with commas between them. A line that has the calls of the line before does
-/// not spell them again. Contracts see the calls.
+/// The names of some calls with commas between them. A line that has the calls of the line before
+/// does not spell them again. Contracts see the calls.
 #[derive(Drop)]
 struct CallsText {
     calls: Calls,
@@ -38,7 +38,7 @@ impl Model for CallsText {
 }
 
 impl CallsText {
-    /// The text of no calls. The only error is that its room was refused.
+    /// The text of no calls. The only error is that a growth was refused.
     fn new(alloc: Global) -> Result<CallsText, OutOfMemory> {
         let text = Block::new(alloc)?;
         Ok(CallsText {
@@ -83,7 +83,7 @@ pub(crate) struct CallsTexts {
 }
 
 impl CallsTexts {
-    /// The texts of no calls. The only error is that their room was refused.
+    /// The texts of no calls. The only error is that a growth was refused.
     pub(crate) fn new(alloc: Global) -> Result<CallsTexts, OutOfMemory> {
         let things = CallsText::new(alloc)?;
         let others = CallsText::new(alloc)?;

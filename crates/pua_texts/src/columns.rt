@@ -1,5 +1,5 @@
-//! What stands behind the calls of a line: LF alone, or the promises on which they rest, and the veil
-//! that covers what the line is about.
+//! What stands behind the calls of a line: LF alone, or the promises on which they rest, and the
+//! veil that covers what the line is about.
 
 ghost use Rattle.std.specs.Prelude.{◌≡◌, ◌<◌, ◌++◌, ◌∷◌, [], IfOk, IfSome, codes, get_or, length, map};
 ghost use Rattle.std.specs.Prelude.{string_bytes};
@@ -24,8 +24,8 @@ struct Resting {
     text: String,
 }
 
-/// What stands behind the calls of lines, by the number of promises, and by a veil. Contracts see the
-/// texts.
+/// What stands behind the calls of lines, by the number of promises, and by a veil. Contracts see
+/// the texts.
 #[derive(Drop)]
 pub(crate) struct Columns {
     resting: Vec<Resting>,
@@ -87,8 +87,8 @@ impl Columns {
         }
     }
 
-    /// The number of the column of these promises, which is added if there is none. The only error is
-    /// that a growth was refused.
+    /// The number of the column of these promises, which is added if there is none. The only error
+    /// is that a growth was refused.
     pub(crate) fn number_of(
         &mut self,
         alloc: Global,
@@ -122,8 +122,8 @@ impl Columns {
         None
     }
 
-    /// Adds what stands behind the calls of a line whose promises have this number, and that this veil
-    /// covers.
+    /// Adds what stands behind the calls of a line whose promises have this number, and that this
+    /// veil covers.
     pub(crate) fn add_to<S: Sink>(
         &self,
         block: &mut Block,

@@ -22,10 +22,10 @@ use pua_tree::{FileTree, OutOfMemory};
 use std::alloc::Global;
 use std::collections::VecDeque;
 
-/// Writes the front of a text, and then this list, which is that of the process with this number, with a
-/// text behind the calls of each row, which ends the line. Its state says whose rules the table of calls is by.
-/// `OutOfMemory` where a growth was refused, before anything is written. `Write` only where a put failed
-/// in this call, after a front of the text.
+/// Writes the front of a text, and then this list, which is that of the process with this number,
+/// with a text behind the calls of each row, which ends the line. Its state says whose rules the
+/// table of calls is by. `OutOfMemory` where a growth was refused, before anything is written.
+/// `Write` only where a put failed in this call, after a front of the text.
 pub fn write_ever_how<'t, T: FileTree, S: Sink>(
     alloc: Global,
     tree: &'t T,
@@ -60,7 +60,8 @@ pub fn write_ever_how<'t, T: FileTree, S: Sink>(
     write_all(alloc, tree, front, &mut lists, sink)
 }
 
-/// The lines of these rows, each with its number among them. The only error is that a growth was refused.
+/// The lines of these rows, each with its number among them. The only error is that a growth was
+/// refused.
 fn numbered_lines<'t>(alloc: Global, rows: &[EverRow<'t>]) -> Result<Vec<ListLine<'t>>, OutOfMemory>
     ensures { IfOk result (λ lines. lines.items ≡ lines_numbered 0 rows.now) }
 {

@@ -26,10 +26,10 @@ use pua_tree::{FileTree, OutOfMemory};
 use std::alloc::Global;
 use std::collections::VecDeque;
 
-/// Writes the front of a text, and then this list, which is that of the process with this number; its
-/// state says whose rules the table of calls is by.
-/// `OutOfMemory` where a growth was refused, before anything is written. `Write` only where a put
-/// failed in this call, after a front of the text.
+/// Writes the front of a text, and then this list, which is that of the process with this number;
+/// its state says whose rules the table of calls is by. `OutOfMemory` where a growth was refused,
+/// before anything is written. `Write` only where a put failed in this call, after a front of the
+/// text.
 pub fn write_ever<'t, T: FileTree, S: Sink>(
     alloc: Global,
     tree: &'t T,

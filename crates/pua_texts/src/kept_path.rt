@@ -36,7 +36,7 @@ impl Model for KeptPath {
 }
 
 impl KeptPath {
-    /// A path of which nothing is kept. The only error is that its room was refused.
+    /// A path of which nothing is kept. The only error is that a growth was refused.
     pub(crate) fn new(alloc: Global) -> Result<KeptPath, OutOfMemory>
         ensures { IfOk result (λ path. path ≡ record { text = []; starts = [] }) }
     {

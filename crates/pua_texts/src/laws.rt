@@ -2,12 +2,13 @@
 
 ghost use Rattle.pua_texts.specs.States.{ConfinedIsPrinted, StateIsPrinted, VeilsArePrinted};
 
-/// The state of a process that has not ended has four lines, the line `rules openbsd` by those rules and
-/// then one for each opening of its promises, and one for each of its veils or `no veils`. The line
-/// `promises` has the keyword of each promise that was given and not given up, and no other keyword,
-/// or `-` where none were ever given; so has `execpromises` of those for an exec. A process that is
-/// locked or doesn't hold `unveil`, and so can put no veil any more, has the line `unveil locked` or
-/// `unveil given-up`, and only such a process has one of them. Each veil has its line.
+/// The state of a process that has not ended has four lines, the line `rules openbsd` by those
+/// rules and then one for each opening of its promises, and one for each of its veils or `no
+/// veils`. The line `promises` has the keyword of each promise that was given and not given up, and
+/// no other keyword, or `-` where none were ever given; so has `execpromises` of those for an exec.
+/// A process that is locked or doesn't hold `unveil`, and so can put no veil any more, has the line
+/// `unveil locked` or `unveil given-up`, and only such a process has one of them. Each veil has its
+/// line.
 #[tactic(auto, using(crate::proofs::States::confined_is_printed, crate::proofs::StateLaw::state_is_printed, crate::proofs::StateLaw::veils_are_printed))]
 pub fn state_law()
     ensures confined { ConfinedIsPrinted }

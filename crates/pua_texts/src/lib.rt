@@ -1,6 +1,6 @@
-//! The lines of texts, added to blocks of bytes on their way to a sink, and the lists that they make:
-//! of answers, of pairs, of objects, of now and for ever, of the state of a process, and of reasons.
-//! Each list is written by one call, which takes all its memory before it writes.
+//! The lines of texts, added to blocks of bytes on their way to a sink, and the lists that they
+//! make: of answers, of pairs, of objects, of now and for ever, of the state of a process, and of
+//! reasons. Each list is written by one call, which takes all its memory before it writes.
 #![tactic(auto)]
 
 mod answers;

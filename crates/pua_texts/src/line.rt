@@ -21,8 +21,8 @@ use pua_tree::{are_plain, byte_spelling};
 /// How many bytes the name of a call has at most.
 pub(crate) const MOST_CALL_NAME: usize = MOST_CALL_LINE - 2;
 
-/// Adds a line for each pair that an audit has still to give to a block, which is put where the next
-/// line might not fit. Its memory is used again.
+/// Adds a line for each pair that an audit has still to give to a block, which is put where the
+/// next line might not fit. Its memory is used again.
 pub(crate) fn add_pairs<'t, P: Probe<'t>, S: Sink>(
     audit: &mut Audit,
     probe: &mut P,
@@ -124,8 +124,8 @@ fn copy_line(buffer: &mut [u8], at: usize, path: &[u8], call: Call) -> usize
     end + (call.name().len() + 2)
 }
 
-/// Adds a path, or a name of one, to a block as it is printed. Where each byte is spelled by itself, it
-/// is copied at one time; what is known to be plain is not looked over.
+/// Adds a path, or a name of one, to a block as it is printed. Where each byte is spelled by
+/// itself, it is copied at one time; what is known to be plain is not looked over.
 #[tactic(auto, using(crate::proofs::Pairs::spelling_plain))]
 #[inline(always)]
 pub(crate) fn add_printed(block: &mut Block, plain: bool, path: &[u8])

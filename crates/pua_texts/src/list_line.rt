@@ -94,7 +94,8 @@ fn add_last<S: Sink>(
     add_line(block, line, lines, columns, texts, sink)
 }
 
-/// Adds the line that came last, about what stands at the end of these names, or is still to be made.
+/// Adds the line that came last, about what stands at the end of these names, or is still to be
+/// made.
 fn add_line<S: Sink>(
     block: &mut Block,
     line: &ListLine<'_>,

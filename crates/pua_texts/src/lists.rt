@@ -16,9 +16,9 @@ use pua_tree::FileTree;
 use std::alloc::Global;
 use std::collections::VecDeque;
 
-/// Writes the front of a text, and then these lists, one after another. `OutOfMemory` where a growth
-/// was refused, before anything is written. `Write` only where a put failed in this call, after a front
-/// of the text.
+/// Writes the front of a text, and then these lists, one after another. `OutOfMemory` where a
+/// growth was refused, before anything is written. `Write` only where a put failed in this call,
+/// after a front of the text.
 pub(crate) fn write_all<'t, T: FileTree, S: Sink>(
     alloc: Global,
     tree: &'t T,

@@ -12,8 +12,8 @@ use pua_calls::Rules;
 use std::alloc::{AllocError, Global};
 use std::fmt::Write;
 
-/// The heading of a list of these processes, and the state of each of them. The only error is that a
-/// growth was refused.
+/// The heading of a list of these processes, and the state of each of them. The only error is that
+/// a growth was refused.
 pub(crate) fn states_text(
     alloc: Global,
     rules: Rules,

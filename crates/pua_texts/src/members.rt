@@ -12,7 +12,8 @@ pub struct Member<'t> {
     pub process: &'t Process,
 }
 
-/// The process that stands for several, as [`join`](pua_ever::join) makes it, and what it can ever touch.
+/// The process that stands for several, as [`join`](pua_ever::join) makes it, and what it can ever
+/// touch.
 #[derive(Clone, Copy)]
 pub struct Joint<'t, 'l> {
     /// The process that stands for them.

@@ -32,7 +32,8 @@ impl<'t> Model for ListLines<'t> {
 }
 
 impl<'t> ListLines<'t> {
-    /// These lines. The only error is that the room was refused: a line goes on by one name at most.
+    /// These lines. The only error is that a growth was refused: a line goes on by one name at
+    /// most.
     pub(crate) fn new(alloc: Global, lines: Vec<ListLine<'t>>) -> Result<ListLines<'t>, OutOfMemory>
         ensures { IfOk result (λ list. list ≡ lines.entry.items) }
     {
@@ -43,9 +44,10 @@ impl<'t> ListLines<'t> {
     }
 }
 
-/// The lines of a list one after another, with the names that lead to what the last of them is about.
-/// The first of these names are kept as they are printed, so that what a path shares with that of the
-/// line before is not spelled again. Contracts see the names, and the lines that are still to come.
+/// The lines of a list one after another, with the names that lead to what the last of them is
+/// about. The first of these names are kept as they are printed, so that what a path shares with
+/// that of the line before is not spelled again. Contracts see the names, and the lines that are
+/// still to come.
 #[derive(Drop)]
 pub(crate) struct NamedLines<'t> {
     lines: Vec<ListLine<'t>>,
@@ -97,8 +99,8 @@ impl<'t> NamedLines<'t> {
         self.path.clear();
     }
 
-    /// Goes on to the names of the next line, and answers it; None where no line is left. Of the path
-    /// stays what these names share with those before.
+    /// Goes on to the names of the next line, and answers it; None where no line is left. Of the
+    /// path stays what these names share with those before.
     pub(crate) fn next_line(&mut self) -> Option<ListLine<'t>>
         ensures { MatchOption result (self.old.left ≡ [])
             (λ line. (self.old.left ≡ line ∷ self.new.left)
@@ -129,8 +131,8 @@ impl<'t> NamedLines<'t> {
         self.word.is_empty()
     }
 
-    /// The path from the root to what the last line is about: its first names as they are printed, and
-    /// those behind them.
+    /// The path from the root to what the last line is about: its first names as they are printed,
+    /// and those behind them.
     pub(crate) fn path(&self) -> (&[u8], &[&'t Name])
         ensures path { result.0.now ++ spelling (from_root (map (λ name. name.now) result.1.now))
             ≡ spelling (from_root self.now.word) }

@@ -53,8 +53,8 @@ pub(crate) fn object_lines<'t>(
     Ok(lines)
 }
 
-/// The lines of these items with the promises on which their calls rest, whose columns are added, and
-/// the veils that cover them. The only error is that a growth was refused.
+/// The lines of these items with the promises on which their calls rest, whose columns are added,
+/// and the veils that cover them. The only error is that a growth was refused.
 pub(crate) fn why_lines<'t>(
     alloc: Global,
     process: &Process,

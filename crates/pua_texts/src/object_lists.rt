@@ -22,10 +22,10 @@ use pua_tree::{FileTree, OutOfMemory};
 use std::alloc::Global;
 use std::collections::VecDeque;
 
-/// Writes the front of a text, and then the lists of these processes, one after another, of which those
-/// are left out that were never made; their states say whose rules the table of calls is by.
-/// `OutOfMemory` where a growth was refused, before anything is written. `Write` only where a put failed
-/// in this call, after a front of the text.
+/// Writes the front of a text, and then the lists of these processes, one after another, of which
+/// those are left out that were never made; their states say whose rules the table of calls is by.
+/// `OutOfMemory` where a growth was refused, before anything is written. `Write` only where a put
+/// failed in this call, after a front of the text.
 pub fn write_lists<T: FileTree, S: Sink>(
     alloc: Global,
     world: &World<T>,
@@ -42,7 +42,8 @@ pub fn write_lists<T: FileTree, S: Sink>(
     write_all(alloc, world.tree(), front, &mut lists, sink)
 }
 
-/// The list of each of these processes that was ever made. The only error is that a growth was refused.
+/// The list of each of these processes that was ever made. The only error is that a growth was
+/// refused.
 fn begin_lists<'t, T: FileTree>(
     alloc: Global,
     world: &'t World<T>,

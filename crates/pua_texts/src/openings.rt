@@ -15,8 +15,8 @@ use pua_why::{Opening, openings};
 use std::alloc::{AllocError, Global};
 use std::fmt::Write;
 
-/// Adds a line for each opening of these promises, in their order. The only error is that a growth was
-/// refused.
+/// Adds a line for each opening of these promises, in their order. The only error is that a growth
+/// was refused.
 pub(crate) fn push_openings(
     alloc: Global,
     text: &mut String,

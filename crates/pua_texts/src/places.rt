@@ -39,8 +39,8 @@ impl<'t, T: FileTree> Places<'t, T> {
         Ok(Places { tree, paths })
     }
 
-    /// Looks for where a place stands now, and keeps the names that lead there from the root. Whether
-    /// it stands: its directory may have been removed.
+    /// Looks for where a place stands now, and keeps the names that lead there from the root.
+    /// Whether it stands: its directory may have been removed.
     pub(crate) fn find(&mut self, place: &'t Place) -> bool
         ensures tree { self.new.tree ≡ self.old.tree }
         ensures stands { result ≡ is_dir self.old.tree (place_dir place.now) }

@@ -34,8 +34,8 @@ pub(crate) struct Heading {
     pub(crate) number: u32,
 }
 
-/// The heading of a list, and the lines of the state of its process before those of its veils. The only
-/// error is that a growth was refused.
+/// The heading of a list, and the lines of the state of its process before those of its veils. The
+/// only error is that a growth was refused.
 pub(crate) fn state_text(
     alloc: Global,
     heading: Heading,
@@ -98,8 +98,8 @@ fn push_living(
     push_bounds(alloc, text, heading.rules, heading.span, process)
 }
 
-/// Adds by which rules it is, what a process holds, and whether it may put veils. The only error is that
-/// a growth was refused.
+/// Adds by which rules it is, what a process holds, and whether it may put veils. The only error is
+/// that a growth was refused.
 pub(crate) fn push_held(
     alloc: Global,
     text: &mut String,
@@ -117,8 +117,8 @@ pub(crate) fn push_held(
     push_line(text, "unveil ", unveil_state(process))
 }
 
-/// Adds what becomes of a list for ever at an exec, what promises open by themselves, and that there is
-/// no veil. The only error is that a growth was refused.
+/// Adds what becomes of a list for ever at an exec, what promises open by themselves, and that
+/// there is no veil. The only error is that a growth was refused.
 pub(crate) fn push_bounds(
     alloc: Global,
     text: &mut String,
@@ -174,8 +174,8 @@ fn push_opened(
     }
 }
 
-/// The promises by which something is opened: those that were pledged; and at some time each one that
-/// can still be, also by what is started, where the list has what that can touch.
+/// The promises by which something is opened: those that were pledged; and at some time each one
+/// that can still be, also by what is started, where the list has what that can touch.
 fn opening_promises(span: Span, process: &Process) -> Promises
     ensures { result ≡ opening_set span process.now }
 {

@@ -1,4 +1,5 @@
-//! The list for ever of several processes together: its heading, their states, and what they can touch.
+//! The list for ever of several processes together: its heading, their states, and what they can
+//! touch.
 
 ghost use Rattle.std.specs.Prelude.{◌≡◌, ◌++◌, IfOk};
 ghost use Rattle.pua_calls.specs.Calls.{CallTable};
@@ -23,11 +24,11 @@ use pua_tree::{FileTree, OutOfMemory};
 use std::alloc::Global;
 use std::collections::VecDeque;
 
-/// Writes the front of a text, and then the list of what these processes can ever touch together, which
-/// is that of the one that stands for those of them that live; without one no process lives, and the
-/// list has only their states. It says whose rules the table of calls is by. `OutOfMemory` where a
-/// growth was refused, before anything is written. `Write` only where a put failed in this call, after a
-/// front of the text.
+/// Writes the front of a text, and then the list of what these processes can ever touch together,
+/// which is that of the one that stands for those of them that live; without one no process lives,
+/// and the list has only their states. It says whose rules the table of calls is by. `OutOfMemory`
+/// where a growth was refused, before anything is written. `Write` only where a put failed in this
+/// call, after a front of the text.
 pub fn write_together<'t, T: FileTree, S: Sink>(
     alloc: Global,
     tree: &'t T,
@@ -51,8 +52,8 @@ pub fn write_together<'t, T: FileTree, S: Sink>(
     write_all(alloc, tree, front, &mut lists, sink)
 }
 
-/// The list of these processes, with all memory that writing it takes. The only error is that a growth
-/// was refused.
+/// The list of these processes, with all memory that writing it takes. The only error is that a
+/// growth was refused.
 fn begin_list<'t>(
     alloc: Global,
     rules: Rules,

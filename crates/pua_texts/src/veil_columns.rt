@@ -15,8 +15,8 @@ use pua_why::{TreePaths, letters, push_place};
 use std::alloc::{AllocError, Global};
 use std::fmt::Write;
 
-/// The columns of the veils that a process keeps, in their order, which are so since these lines. The
-/// only error is that a growth was refused.
+/// The columns of the veils that a process keeps, in their order, which are so since these lines.
+/// The only error is that a growth was refused.
 pub(crate) fn veil_columns<T: FileTree>(
     alloc: Global,
     tree: &T,

@@ -25,10 +25,11 @@ use pua_tree::{FileTree, OutOfMemory};
 use std::alloc::Global;
 use std::collections::VecDeque;
 
-/// Writes the front of a text, and then the lists of these processes with reasons, one after another,
-/// of which those are left out that were never made, where their veils are so since these lines; their
-/// states say whose rules the table of calls is by. `OutOfMemory` where a growth was refused, before
-/// anything is written. `Write` only where a put failed in this call, after a front of the text.
+/// Writes the front of a text, and then the lists of these processes with reasons, one after
+/// another, of which those are left out that were never made, where their veils are so since these
+/// lines; their states say whose rules the table of calls is by. `OutOfMemory` where a growth was
+/// refused, before anything is written. `Write` only where a put failed in this call, after a front
+/// of the text.
 pub fn write_why_lists<T: FileTree, S: Sink>(
     alloc: Global,
     world: &World<T>,
@@ -48,8 +49,8 @@ pub fn write_why_lists<T: FileTree, S: Sink>(
     write_all(alloc, world.tree(), front, &mut lists, sink)
 }
 
-/// The list of each of these processes that was ever made, whose veils are so since these lines. The
-/// only error is that a growth was refused.
+/// The list of each of these processes that was ever made, whose veils are so since these lines.
+/// The only error is that a growth was refused.
 fn begin_lists<'t, T: FileTree>(
     alloc: Global,
     world: &'t World<T>,
@@ -99,8 +100,8 @@ fn split_lines<'l>(
     Ok(left.split_at(places.len().min(left.len())))
 }
 
-/// The list of a process with this heading, whose veils are so since these lines. The only error is that
-/// a growth was refused.
+/// The list of a process with this heading, whose veils are so since these lines. The only error is
+/// that a growth was refused.
 fn begin_list<'t, T: FileTree>(
     alloc: Global,
     tree: &'t T,

@@ -23,12 +23,12 @@ use Rattle.pua_policy.specs.declared.answer.May.TheVariants as may
 use Rattle.pua_policy.specs.declared.answer.Cover.{Cover}
 use Rattle.pua_policy.specs.declared.answer.Refusal.{Refusal}
 use Rattle.pua_policy.specs.declared.answer.UnveilFault.TheVariants.{NotPermitted, TooManyPlaces}
-use Rattle.pua_script.specs.Decide.{Change, AddEvent, CopyAs, Decision, refusals, asker_of, decide, object_by}
+use Rattle.pua_script.specs.Decide.{NoChange, Change, AddEvent, CopyAs, Decision, refusals, asker_of, decide, object_by}
 use Rattle.pua_script.specs.Decide.{objects_by, rename_by, link_by, veil_by, unless_refused, change_by, adding}
 use Rattle.pua_script.specs.Decide.{link_node, fault_if, is_unknown, given_set, unveil_errno}
 use Rattle.pua_script.specs.declared.request.Given.{Given}
 use Rattle.pua_script.specs.declared.request.Action.{Action}
-use Rattle.pua_script.specs.declared.request.Action.TheVariants.{OnPath, Symlink, Rename, Link, Pledge, Unveil, Lock, Fork, Exit}
+use Rattle.pua_script.specs.declared.request.Action.TheVariants.{OnPath, Symlink, Rename, Link, Pledge, Unveil, Lock, Fork, Exit, Uses}
 use Rattle.pua_tight.specs.Narrower.{StateWithin}
 use Rattle.pua_policy.proofs.ForCallers.{holds_through}
 use Rattle.pua_tight.proofs.Within.{held_within, as_many}
@@ -309,6 +309,8 @@ module _ (table : CallTable) (t : Tree) (l m s : ProcessState) (w : StateThree l
   same_agrees (Fork new) one = promises (proc ∷ []) (omega arith) (Ok (CopyAs new)) (Ok (CopyAs new)) (Ok (CopyAs new))
       (granted_agree (CopyAs new)) (plain_late (Ok (CopyAs new)) (Ok (CopyAs new)) refl)
   same_agrees Exit one = granted_agree (AddEvent Ended)
+  same_agrees (Uses sets) one = promises sets one (Ok NoChange) (Ok NoChange) (Ok NoChange) (granted_agree NoChange)
+      (plain_late (Ok NoChange) (Ok NoChange) refl)
 
   -- the first one asks for no less
   pub agrees : {y x : Action} → ActionWithin y x → RestsOnOne table y → Agree (decide table t l x) (decide table t m y) (decide table t s y)

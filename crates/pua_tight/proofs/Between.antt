@@ -23,11 +23,11 @@ use Rattle.pua_policy.specs.declared.answer.Cover.{Cover}
 use Rattle.pua_policy.specs.declared.answer.Refusal.{Refusal}
 use Rattle.pua_policy.specs.declared.answer.Refusal.TheVariants.{Failed, Killed}
 use Rattle.pua_policy.specs.declared.answer.UnveilFault.TheVariants.{NotPermitted, TooManyPlaces}
-use Rattle.pua_script.specs.Decide.{AddEvent, CopyAs, Decision, refusals, asker_of, decide, object_by}
+use Rattle.pua_script.specs.Decide.{NoChange, AddEvent, CopyAs, Decision, refusals, asker_of, decide, object_by}
 use Rattle.pua_script.specs.Decide.{objects_by, rename_by, link_by, veil_by, unless_refused, unless_failed, change_by, adding}
 use Rattle.pua_script.specs.Decide.{link_node, fault_if, is_unknown, given_set, unveil_errno}
 use Rattle.pua_script.specs.declared.request.Action.{Action}
-use Rattle.pua_script.specs.declared.request.Action.TheVariants.{OnPath, Symlink, Rename, Link, Pledge, Unveil, Lock, Fork, Exit}
+use Rattle.pua_script.specs.declared.request.Action.TheVariants.{OnPath, Symlink, Rename, Link, Pledge, Unveil, Lock, Fork, Exit, Uses}
 use Rattle.pua_tight.specs.Narrower.{SetWithin, unset, within, StateWithin}
 use Rattle.pua_policy.proofs.ForCallers.{holds_through}
 use Rattle.pua_tight.proofs.Sets.{two_bools}
@@ -220,3 +220,4 @@ module _ (table : CallTable) (t : Tree) (g h k : ProcessState) (v : StateWithin 
   between (Fork new) = promised_one (proc ∷ []) (Ok (CopyAs new)) (Ok (CopyAs new)) (Ok (CopyAs new))
       (λ e. refl) (plain_late refl)
   between Exit = λ e. refl
+  between (Uses sets) = promised_one sets (Ok NoChange) (Ok NoChange) (Ok NoChange) (λ e. refl) (plain_late refl)

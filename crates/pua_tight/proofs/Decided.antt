@@ -31,7 +31,7 @@ use Rattle.pua_script.specs.Decide.{pledge_by, pledging_by, unless_refused, unle
 use Rattle.pua_script.specs.Decide.{is_unknown, given_set, unveil_errno}
 use Rattle.pua_script.specs.declared.request.Given.{Given}
 use Rattle.pua_script.specs.declared.request.Action.{Action}
-use Rattle.pua_script.specs.declared.request.Action.TheVariants.{OnPath, Symlink, Rename, Link, Pledge, Unveil, Lock, Fork, Exit}
+use Rattle.pua_script.specs.declared.request.Action.TheVariants.{OnPath, Symlink, Rename, Link, Pledge, Unveil, Lock, Fork, Exit, Uses}
 use Rattle.pua_tight.specs.Narrower.{SetWithin, unset, within, StateWithin, GivenWithin, given_none, given_less, given_unknown}
 use Rattle.pua_tight.specs.Narrower.{ActionWithin, as_given, less_pledged, less_unveiled}
 use Rattle.pua_policy.proofs.ForCallers.{holds_through}
@@ -155,6 +155,7 @@ module _ (table : CallTable) (t : Tree) (a b : Asking) (easier : Easier a b) (c 
   granted_more Lock = past_refused c (a.promises (unveil ∷ [])) (b.promises (unveil ∷ [])) _ _ (easier.promises (unveil ∷ [])) (λ e. e)
   granted_more (Fork new) = past_refused c (a.promises (proc ∷ [])) (b.promises (proc ∷ [])) _ _ (easier.promises (proc ∷ [])) (λ e. e)
   granted_more Exit = λ e. e
+  granted_more (Uses sets) = past_refused c (a.promises sets) (b.promises sets) _ _ (easier.promises sets) (λ e. e)
 
 -- one that passes every check, in a directory
 abbrev pub free : ℕ → Asking

@@ -31,7 +31,7 @@ use Rattle.pua_script.specs.Replay.{come_of, answer_to, do_decided, answer_and_w
 use Rattle.pua_script.specs.declared.answer.Answer.{Answer}
 use Rattle.pua_script.specs.declared.answer.Answer.TheVariants as answer
 use Rattle.pua_script.specs.declared.request.Action.{Action}
-use Rattle.pua_script.specs.declared.request.Action.TheVariants.{OnPath, Symlink, Rename, Link, Pledge, Unveil, Lock, Fork, Exit}
+use Rattle.pua_script.specs.declared.request.Action.TheVariants.{OnPath, Symlink, Rename, Link, Pledge, Unveil, Lock, Fork, Exit, Uses}
 use Rattle.pua_tight.specs.Narrower.{StateWithin, ProcessesWithin, WorldWithin, AskWithin, AsksWithin, no_asks, asks}
 use Rattle.pua_tight.proofs.Sets.{three_bools}
 use Rattle.pua_tight.proofs.Decided.{easier, granted_more}
@@ -100,6 +100,7 @@ decide_full table t h (Unveil path perms) = promise_full (may_any h (unveil ∷ 
 decide_full table t h Lock = promise_full (may_any h (unveil ∷ [])) _ refl
 decide_full table t h (Fork new) = promise_full (may_any h (proc ∷ [])) _ refl
 decide_full table t h Exit = refl
+decide_full table t h (Uses sets) = promise_full (may_any h sets) _ refl
 
 okay_not : {A : Type 0} (r : Refusal) → answer.Okay ≡ answer_to (refusal_effect r) → A
 okay_not r e = not_okay r (ap is_okay (sym e))

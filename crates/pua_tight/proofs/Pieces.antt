@@ -4,7 +4,7 @@ use Rattle.std.proofs.lemmas.Bool.{false≢true, eqb-true, and_parts}
 use Rattle.std.proofs.lemmas.Nat.Bits.{bit_at_and, bit_at-lt, bit_at-zero, same_from_bits}
 use Rattle.std.specs.Int.{bit_at}
 use Rattle.std.specs.List.{list_all}
-use Rattle.std.specs.Prelude.{Some, bit_and, ◌==◌, filter}
+use Rattle.std.specs.Prelude.{Some, bit_and, bit_or, ◌==◌, filter}
 use Rattle.pua_calls.specs.Promises.{holds, lacking, error, keyword_rows}
 use Rattle.pua_calls.specs.Calls.{CallTable}
 use Rattle.pua_policy.proofs.ForCallers.{second_holds}
@@ -17,7 +17,8 @@ use Rattle.pua_script.specs.declared.request.Given.{Given}
 use Rattle.pua_script.specs.declared.request.Given.TheVariants.{Null, Good, Unknown}
 use Rattle.pua_script.specs.declared.request.Action.{Action}
 use Rattle.pua_script.specs.declared.request.Action.TheVariants.{Pledge, Unveil}
-use Rattle.pua_tight.specs.Tight.{Piece, InPromises, InExecpromises, InVeil, asks_of, all_asked, asked_for, bits_in, pieces_of, lines_of}
+use Rattle.pua_tight.specs.Tight.{Piece, InPromises, InExecpromises, InVeil, asks_of, all_asked, all_used, asked_in, bits_in, pieces_of}
+use Rattle.pua_tight.specs.Tight.{lines_asked}
 use Rattle.pua_tight.specs.Laws.{IsPieceOf, AreOkay, AreSpareable, bit_of, ScriptsAreTightened}
 use Rattle.pua_tight.proofs.Less.{lack_at}
 
@@ -27,12 +28,12 @@ okay_is answer.Killed e = absurd (false≢true e)
 okay_is answer.Gone e = absurd (false≢true e)
 okay_is (answer.Failed errno) e = absurd (false≢true e)
 
-lines_okay : (table : CallTable) (w : World) (more : List Asked) → AreOkay table w (lines_of table w more)
-lines_okay table w [] = tt
-lines_okay table w (ask ∷ more) =
-    ((λ piece among. by piece (is_okay (apply table w ask).0) refl among), lines_okay table (apply table w ask).1 more)
+lines_okay : (asked : ℕ) (table : CallTable) (w : World) (more : List Asked) → AreOkay table w (lines_asked asked table w more)
+lines_okay asked table w [] = tt
+lines_okay asked table w (ask ∷ more) =
+    ((λ piece among. by piece (is_okay (apply table w ask).0) refl among), lines_okay asked table (apply table w ask).1 more)
   where
-    by : (piece : Piece) (b : Bool) → is_okay (apply table w ask).0 ≡ b → IsPieceOf (cond b (pieces_of (asked_for table) ask.action) []) piece →
+    by : (piece : Piece) (b : Bool) → is_okay (apply table w ask).0 ≡ b → IsPieceOf (cond b (pieces_of asked ask.action) []) piece →
         (apply table w ask).0 ≡ answer.Okay
     by piece true e among = okay_is (apply table w ask).0 e
     by piece false e among = absurd among
@@ -113,22 +114,22 @@ pieces_apart asked apart (Unveil path (Some perms)) piece among =
     mapped InVeil (λ b. refl) (filter (holds perms) (1 ∷ 2 ∷ 4 ∷ 8 ∷ [])) (letters_apart (holds perms) (1 ∷ 2 ∷ 4 ∷ 8 ∷ []) refl) piece among
 pieces_apart asked apart _ piece among = absurd among
 
-lines_spare : (table : CallTable) (w : World) (more : List Asked) → AreSpareable (lines_of table w more)
-lines_spare table w [] = tt
-lines_spare table w (ask ∷ more) =
-    ((λ piece among. by piece (is_okay (apply table w ask).0) among), lines_spare table (apply table w ask).1 more)
+lines_spare : (asked : ℕ) → IsApart asked → (table : CallTable) (w : World) (more : List Asked) → AreSpareable (lines_asked asked table w more)
+lines_spare asked apart table w [] = tt
+lines_spare asked apart table w (ask ∷ more) =
+    ((λ piece among. by piece (is_okay (apply table w ask).0) among), lines_spare asked apart table (apply table w ask).1 more)
   where
-    by : (piece : Piece) (b : Bool) → IsPieceOf (cond b (pieces_of (asked_for table) ask.action) []) piece → IsApart (bit_of piece)
-    by piece true among = pieces_apart (asked_for table) (lacks_error (all_asked table)) ask.action piece among
+    by : (piece : Piece) (b : Bool) → IsPieceOf (cond b (pieces_of asked ask.action) []) piece → IsApart (bit_of piece)
+    by piece true among = pieces_apart asked apart ask.action piece among
     by piece false among = absurd among
 
-lines_are : (table : CallTable) (w : World) (more : List Asked) → asks_of (lines_of table w more) ≡ more
-lines_are table w [] = refl
-lines_are table w (ask ∷ more) = ap (λ l. ask ∷ l) (lines_are table (apply table w ask).1 more)
+lines_are : (asked : ℕ) (table : CallTable) (w : World) (more : List Asked) → asks_of (lines_asked asked table w more) ≡ more
+lines_are asked table w [] = refl
+lines_are asked table w (ask ∷ more) = ap (λ l. ask ∷ l) (lines_are asked table (apply table w ask).1 more)
 
 pub scripts_are_tightened : ScriptsAreTightened
 scripts_are_tightened table w more = record {
-  asks = lines_are table w more;
-  okay = lines_okay table w more;
-  spare = lines_spare table w more;
+  asks = lines_are (asked_in table more) table w more;
+  okay = lines_okay (asked_in table more) table w more;
+  spare = lines_spare (asked_in table more) (lacks_error (bit_or (all_asked table) (all_used more))) table w more;
 }

@@ -14,7 +14,7 @@ use Rattle.pua_script.specs.Replay.{World, new_world, apply, answers_to}
 use Rattle.pua_script.specs.declared.answer.Answer.{Answer}
 use Rattle.pua_script.specs.declared.answer.Answer.TheVariants.{Okay}
 use Rattle.pua_tight.specs.Narrower.{AskWithin, WorldWithin}
-use Rattle.pua_tight.specs.Tight.{Piece, InVeil, Line, asked_for, asks_of, lines_of, same_answers, without}
+use Rattle.pua_tight.specs.Tight.{Piece, InVeil, Line, asked_in, asks_of, lines_of, same_answers, without}
 use Rattle.pua_tight.specs.Laws.{IsPieceOf, AreOkay, leave_out}
 use Rattle.pua_tight.specs.Left.{lines_by, put_back_at}
 use Rattle.pua_tight.specs.Trials.{Trial, trials_from, all_tried}
@@ -255,7 +255,7 @@ module _ (want : List Answer) where
       (pieces_up_to line one.pieces)
 
 pub to_try : (table : CallTable) (t : Tree) (answers : List Answer) (trials : List Trial) (asks : List Asked) →
-    answers ≡ answers_to table (new_world t) asks → trials ≡ trials_from 0 (lines_by (asked_for table) asks answers) →
+    answers ≡ answers_to table (new_world t) asks → trials ≡ trials_from 0 (lines_by (asked_in table asks) asks answers) →
     IsToTry table (new_world t) answers trials asks
 to_try table t answers trials asks told are =
     let w : World = new_world t in
@@ -265,7 +265,7 @@ to_try table t answers trials asks told are =
     record {
       same = sym told;
       descend = subst (Descend answers)
-          (sym (are ∙ ap (λ l. trials_from 0 (lines_by (asked_for table) asks l)) told ∙ ap (trials_from 0) (lines_told table w asks)))
+          (sym (are ∙ ap (λ l. trials_from 0 (lines_by (asked_in table asks) asks l)) told ∙ ap (trials_from 0) (lines_told table w asks)))
           (lines_descend answers table w 0 lines
           (λ n. let none : 0 + n ≡ n = omega arith in ap (slice_get answers) none ∙ ap (λ l. slice_get l n) want) own.okay);
     }

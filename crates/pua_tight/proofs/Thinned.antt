@@ -11,7 +11,7 @@ use Rattle.pua_script.specs.Requests.{Asked}
 use Rattle.pua_script.specs.Scripts.{has_empty_word}
 use Rattle.pua_calls.specs.declared.rules.Rules.{Rules}
 use Rattle.pua_script.specs.ScriptGrammar.{SpellsGiven, nothing, known, SpellsPerms, no_letter, letters}
-use Rattle.pua_script.specs.ScriptGrammar.{SpellsAction, on_path, symlink, rename, link, pledge, unveil, lock, fork, exit, SpellsRequest}
+use Rattle.pua_script.specs.ScriptGrammar.{SpellsAction, on_path, symlink, rename, link, pledge, unveil, lock, fork, exit, uses, SpellsRequest}
 use Rattle.pua_script.specs.declared.request.Given.{Given}
 use Rattle.pua_script.specs.declared.request.Given.TheVariants.{Null, Good, Unknown}
 use Rattle.pua_script.specs.declared.request.Action.{Action}
@@ -184,6 +184,7 @@ module _ {rules : Rules} (process : List ℕ) where
   thin_fields more as_given visible (lock named x y) = as_they_are more refl visible (lock named x y)
   thin_fields more as_given visible (fork named x low high) = as_they_are more refl visible (fork named x low high)
   thin_fields more as_given visible (exit named) = as_they_are more refl visible (exit named)
+  thin_fields more as_given visible (uses there named x) = as_they_are more refl visible (uses there named x)
 
 -- fields with spaces between them are the fields of the line
 fields_of_joined : (w : List ℕ) (ws : List (List ℕ)) → list_all is_field (w ∷ ws) ≡ true → fields (join_with_byte 32 (w ∷ ws)) ≡ w ∷ ws

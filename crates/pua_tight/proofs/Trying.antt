@@ -21,10 +21,10 @@ use Rattle.pua_script.specs.Replay.{World, new_world, apply, answers_to}
 use Rattle.pua_script.specs.declared.answer.Answer.{Answer}
 use Rattle.pua_script.specs.declared.fault.ScriptFault.{ScriptFault}
 use Rattle.pua_script.specs.declared.request.Action.{Action}
-use Rattle.pua_script.specs.declared.request.Action.TheVariants.{OnPath, Symlink, Rename, Link, Pledge, Unveil, Lock, Fork, Exit}
+use Rattle.pua_script.specs.declared.request.Action.TheVariants.{OnPath, Symlink, Rename, Link, Pledge, Unveil, Lock, Fork, Exit, Uses}
 use Rattle.pua_tight.specs.declared.fault.TightFault.{TightFault}
 use Rattle.pua_tight.specs.declared.arguments.Arguments.{Arguments}
-use Rattle.pua_tight.specs.Tight.{Piece, InPromises, InExecpromises, InVeil, Line, without, asked_for, asks_of, lines_of}
+use Rattle.pua_tight.specs.Tight.{Piece, InPromises, InExecpromises, InVeil, Line, without, asked_in, asks_of, lines_asked, lines_of}
 use Rattle.pua_tight.specs.Laws.{leave_out}
 use Rattle.pua_tight.specs.Left.{arguments_of, arguments_left, with_arguments, put_back_at, pieces_by, lines_by, IsGiven, IsFaultOf}
 use Rattle.pua_tight.specs.Texts.{as_listing, as_script, text_over, thinned_text, tightened}
@@ -37,10 +37,16 @@ use Rattle.pua_tight.proofs.Served.{dropped, gone_by}
 use Rattle.pua_tight.proofs.Tightened.{tightens}
 
 -- the lines of a script by what it was answered
-pub lines_told : (table : CallTable) (w : World) (asks : List Asked) → lines_by (asked_for table) asks (answers_to table w asks) ≡ lines_of table w asks
-lines_told table w [] = refl
-lines_told table w (ask ∷ asks) =
-    ap (λ ls. record { ask = ask; pieces = pieces_by (asked_for table) ask (Some (apply table w ask).0) } ∷ ls) (lines_told table (apply table w ask).1 asks)
+lines_asked_told : (asked : ℕ) (table : CallTable) (w : World) (asks : List Asked) →
+    lines_by asked asks (answers_to table w asks) ≡ lines_asked asked table w asks
+lines_asked_told asked table w [] = refl
+lines_asked_told asked table w (ask ∷ asks) =
+    ap (λ ls. record { ask = ask; pieces = pieces_by asked ask (Some (apply table w ask).0) } ∷ ls)
+    (lines_asked_told asked table (apply table w ask).1 asks)
+
+pub lines_told : (table : CallTable) (w : World) (asks : List Asked) →
+    lines_by (asked_in table asks) asks (answers_to table w asks) ≡ lines_of table w asks
+lines_told table w asks = lines_asked_told (asked_in table asks) table w asks
 
 abbrev pub line_by : ℕ → Asked → Option Answer → Line
 line_by asked ask answer = record { ask = ask; pieces = pieces_by asked ask answer }
@@ -121,6 +127,9 @@ given_left piece ask = by piece ask.action
     by (InPromises bit) Exit = refl
     by (InExecpromises bit) Exit = refl
     by (InVeil bit) Exit = refl
+    by (InPromises bit) (Uses sets) = refl
+    by (InExecpromises bit) (Uses sets) = refl
+    by (InVeil bit) (Uses sets) = refl
 
 pub given_back : (piece : Piece) (ask : Asked) → with_arguments (arguments_of ask.action) (without piece ask) ≡ ask
 given_back piece ask = by piece ask.action
@@ -155,6 +164,9 @@ given_back piece ask = by piece ask.action
     by (InPromises bit) Exit = refl
     by (InExecpromises bit) Exit = refl
     by (InVeil bit) Exit = refl
+    by (InPromises bit) (Uses sets) = refl
+    by (InExecpromises bit) (Uses sets) = refl
+    by (InVeil bit) (Uses sets) = refl
 
 given_kept : (ask : Asked) → with_arguments (arguments_of ask.action) ask ≡ ask
 given_kept ask = by ask.action
@@ -170,6 +182,7 @@ given_kept ask = by ask.action
     by Lock = refl
     by (Fork new) = refl
     by Exit = refl
+    by (Uses sets) = refl
 
 -- a piece that a line doesn't have
 pub nothing_left : (asks : List Asked) (index : ℕ) (piece : Piece) (ask : Asked) → slice_get asks index ≡ Some ask →
@@ -185,13 +198,13 @@ nothing_left asks index piece ask there same =
 
 -- all trials tighten a script
 pub tightens_all : (table : CallTable) (t : Tree) (answers : List Answer) (trials : List Trial) (asks left : List Asked) →
-    answers ≡ answers_to table (new_world t) asks → trials ≡ trials_from 0 (lines_by (asked_for table) asks answers) →
+    answers ≡ answers_to table (new_world t) asks → trials ≡ trials_from 0 (lines_by (asked_in table asks) asks answers) →
     left ≡ all_tried table (new_world t) answers trials asks → left ≡ tightened table t asks
 tightens_all table t answers trials asks left told are is =
     let w : World = new_world t in
     let lines : List Line = lines_of table w asks in
     let own : asks_of lines ≡ asks = (scripts_are_tightened table w asks).asks in
-    is ∙ ap (λ l. all_tried table w answers l asks) (are ∙ ap (λ l. trials_from 0 (lines_by (asked_for table) asks l)) told
+    is ∙ ap (λ l. all_tried table w answers l asks) (are ∙ ap (λ l. trials_from 0 (lines_by (asked_in table asks) asks l)) told
     ∙ ap (trials_from 0) (lines_told table w asks))
     ∙ ap (λ l. all_tried table w l (trials_from 0 lines) asks) told
     ∙ ap (λ l. all_tried table w (answers_to table w l) (trials_from 0 lines) l) (sym own) ∙ tried_one_by_one table w lines
@@ -335,7 +348,7 @@ module _ (rules : Rules) (table own_table : CallTable) (tree_bytes script_bytes 
       ∙ ap Ok (ap (λ l. thinned_text l script_bytes) (sym is_tight) ∙ sym is)
 
   -- what its words are needed for
-  pub uses_made : (words : List Trial) (told : List WordUse) → words ≡ words_from 0 (lines_by (asked_for table) asks answers) →
+  pub uses_made : (words : List Trial) (told : List WordUse) → words ≡ words_from 0 (lines_by (asked_in table asks) asks answers) →
       (answers_to own_table (new_world t) left ≡ answers → told ≡ map (use_by own_table (new_world t) answers left) words) →
       uses_over rules table tree_bytes script_bytes ≡ Ok told
   uses_made words told are is =
@@ -343,7 +356,7 @@ module _ (rules : Rules) (table own_table : CallTable) (tree_bytes script_bytes 
       let lines : List Line = lines_of table w asks in
       let own : asks_of lines ≡ asks = (scripts_are_tightened table w asks).asks in
       let all : words ≡ words_from 0 lines =
-      are ∙ ap (λ l. words_from 0 (lines_by (asked_for table) asks l)) given.told ∙ ap (words_from 0) (lines_told table w asks) in
+      are ∙ ap (λ l. words_from 0 (lines_by (asked_in table asks) asks l)) given.told ∙ ap (words_from 0) (lines_told table w asks) in
       let wanted : answers ≡ answers_to table w (asks_of lines) = given.told ∙ ap (answers_to table w) (sym own) in
       let same : answers_to own_table w left ≡ answers =
       (λ j. answers_to (same_table j) w (is_tight j)) ∙ (tightens table w lines).same ∙ sym wanted in

@@ -1,5 +1,6 @@
 -- What a thinned script that is answered as the given one leaves to its processes.
-use Rattle.std.specs.Prelude.{None, Ok, ◌≡◌, ◌≢◌, ◌≤◌, ℕ, zero, suc, List, [], ◌∷◌, map, bit_and, length, IsTrue, ◌⊎◌, Bool, true, false}
+use Rattle.std.specs.Prelude.{None, Ok, ◌≡◌, ◌≢◌, ◌≤◌, ℕ, zero, suc, List, [], ◌∷◌, map, bit_and, length, nat_lt, IsTrue, ◌⊎◌, Bool, true}
+use Rattle.std.specs.Prelude.{false}
 use Rattle.pua_tree.specs.Tree.{Tree, WellFormed}
 use Rattle.pua_calls.specs.Calls.{CallTable, Rule, rule_of, table_by_rules}
 use Rattle.pua_calls.specs.declared.rules.Rules.{Rules}
@@ -18,7 +19,7 @@ use Rattle.pua_script.specs.Requests.{Asked}
 use Rattle.pua_script.specs.Replay.{World, new_world, apply, answers_to, world_after}
 use Rattle.pua_script.specs.declared.answer.Answer.TheVariants.{Okay}
 use Rattle.pua_script.specs.declared.request.Action.{Action}
-use Rattle.pua_script.specs.declared.request.Action.TheVariants.{OnPath, Symlink, Rename, Link}
+use Rattle.pua_script.specs.declared.request.Action.TheVariants.{OnPath, Symlink, Rename, Link, Uses}
 use Rattle.pua_tight.specs.Narrower.{WorldWithin, StateWithin, AskWithin, AsksWithin}
 use Rattle.pua_script.specs.Scripts.{script_by}
 use Rattle.pua_tight.specs.Texts.{thinned_text, tight_text}
@@ -142,6 +143,7 @@ RestsOnOne table (OnPath call path) = HasOneSet (rule_of table call)
 RestsOnOne table (Symlink target path) = HasOneSet (rule_of table call.Symlink)
 RestsOnOne table (Rename old new) = HasOneSet table.rename.old.needs × HasOneSet table.rename.new.needs
 RestsOnOne table (Link old new) = HasOneSet table.link.old.needs × HasOneSet table.link.new.needs
+RestsOnOne table (Uses sets) = length sets ≤ 1
 RestsOnOne table action = Unit {0}
 
 -- so does each request of a script
@@ -166,18 +168,20 @@ TightIsLeast = (table : CallTable) (w : World) (lines : List Line) (less : List 
     AreOkay table w lines → AreSpareable lines → LeavesOut less lines → answers_to table w less ≡ answers_to table w (asks_of lines) →
     AsksWithin (tight table w lines) less
 
--- an owner is changed by either of two promises, by OpenBSD's rules
-abbrev pub is_chown : Action → Bool
-is_chown (OnPath call.Chown path) = true
-is_chown (OnPath call.Fchown path) = true
-is_chown action = false
+-- by OpenBSD's rules an owner is changed by either of two promises, and a call without a path may ask for one of several
+abbrev pub has_choice : Action → Bool
+has_choice (OnPath call.Chown path) = true
+has_choice (OnPath call.Fchown path) = true
+has_choice (Uses sets) = nat_lt 1 (length sets)
+has_choice action = false
 
-abbrev pub HasNoChown : List Asked → Type 0
-HasNoChown asks = list_any (λ ask. is_chown ask.action) asks ≡ false
+abbrev pub HasNoChoice : List Asked → Type 0
+HasNoChoice asks = list_any (λ ask. has_choice ask.action) asks ≡ false
 
--- by the rules that a command names each script is such a one: by the standard ones each, by OpenBSD's each without chown and fchown
+-- by the rules that a command names each script is such a one: by the standard ones each, by OpenBSD's each without such requests
 abbrev pub RulesRestOnOne : Type 0
-RulesRestOnOne = (rules : Rules) (asks : List Asked) → (rules ≡ Standard) ⊎ HasNoChown asks → RestOnOne (table_by_rules rules) asks
+RulesRestOnOne = (rules : Rules) (bytes : List ℕ) (asks : List Asked) → script_by rules bytes ≡ Ok asks →
+    (rules ≡ Standard) ⊎ HasNoChoice asks → RestOnOne (table_by_rules rules) asks
 
 -- what may be left out of a script's requests meets what these laws ask of lines
 pub record IsScriptOfLines (table : CallTable) (w : World) (more : List Asked) : Type 0 where

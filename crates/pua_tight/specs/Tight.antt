@@ -15,7 +15,7 @@ use Rattle.pua_script.specs.declared.answer.Answer.TheVariants.{Okay, Failed, Ki
 use Rattle.pua_script.specs.declared.request.Given.{Given}
 use Rattle.pua_script.specs.declared.request.Given.TheVariants.{Good}
 use Rattle.pua_script.specs.declared.request.Action.{Action}
-use Rattle.pua_script.specs.declared.request.Action.TheVariants.{Pledge, Unveil}
+use Rattle.pua_script.specs.declared.request.Action.TheVariants.{Pledge, Unveil, Uses}
 pub use Rattle.pua_tight.specs.declared.piece.Piece.{Piece}
 pub use Rattle.pua_tight.specs.declared.piece.Piece.TheVariants.{InPromises, InExecpromises, InVeil}
 
@@ -95,7 +95,7 @@ thin table w want before (line ∷ lines) =
 abbrev pub tight : CallTable → World → List Line → List Asked
 tight table w lines = thin table w (answers_to table w (asks_of lines)) [] lines
 
--- the promises that some call asks for, but `error`
+-- the promises of sets
 abbrev pub union : List ℕ → ℕ
 union [] = 0
 union (set ∷ sets) = bit_or set (union sets)
@@ -104,8 +104,17 @@ abbrev pub all_asked : CallTable → ℕ
 all_asked table = union (proc ∷ unveil ∷ table.rename.old.needs.alternatives ++ table.rename.new.needs.alternatives
     ++ table.link.old.needs.alternatives ++ table.link.new.needs.alternatives ++ flat_map (λ call. (rule_of table call).alternatives) calls)
 
-abbrev pub asked_for : CallTable → ℕ
-asked_for table = lacking error (all_asked table)
+-- the sets of which a call without a path asks for one
+abbrev pub used_by : Action → List ℕ
+used_by (Uses sets) = sets
+used_by action = []
+
+abbrev pub all_used : List Asked → ℕ
+all_used asks = union (flat_map (λ ask. used_by ask.action) asks)
+
+-- the promises that some call asks for, or some request without a path, but `error`
+abbrev pub asked_in : CallTable → List Asked → ℕ
+asked_in table asks = lacking error (bit_or (all_asked table) (all_used asks))
 
 abbrev pub bits_in : ℕ → Given → List ℕ
 bits_in asked (Good set) = filter (holds (bit_and set asked)) (map (λ row. row.1) keyword_rows)
@@ -117,8 +126,12 @@ pieces_of asked (Pledge promises execpromises) = map InPromises (bits_in asked p
 pieces_of asked (Unveil path (Some perms)) = map InVeil (filter (holds perms) (1 ∷ 2 ∷ 4 ∷ 8 ∷ []))
 pieces_of asked action = []
 
+-- the lines of requests, where these promises are asked for
+abbrev pub lines_asked : ℕ → CallTable → World → List Asked → List Line
+lines_asked asked table w [] = []
+lines_asked asked table w (ask ∷ more) =
+    record { ask = ask; pieces = if is_okay (apply table w ask).0 then pieces_of asked ask.action else [] }
+    ∷ lines_asked asked table (apply table w ask).1 more
+
 abbrev pub lines_of : CallTable → World → List Asked → List Line
-lines_of table w [] = []
-lines_of table w (ask ∷ more) =
-    record { ask = ask; pieces = if is_okay (apply table w ask).0 then pieces_of (asked_for table) ask.action else [] }
-    ∷ lines_of table (apply table w ask).1 more
+lines_of table w asks = lines_asked (asked_in table asks) table w asks

@@ -2,15 +2,39 @@
 
 ghost use Rattle.std.specs.Prelude.{◌≡◌, bit_or, flat_map};
 ghost use Rattle.pua_calls.specs.Calls.{calls, rule_of};
-ghost use Rattle.pua_tight.specs.Tight.{all_asked, asked_for, union};
+ghost use Rattle.pua_tight.specs.Tight.{all_asked, all_used, asked_in, union, used_by};
 
 use pua_calls::{Call, CallTable, Promises};
+use pua_script::{Action, Request};
 
-/// The promises that some call asks for by a table, but `error`.
-pub(crate) fn asked_for(table: &CallTable) -> Promises
-    ensures { result ≡ asked_for table.now }
+/// The promises that some call asks for by a table, or some request without a path, but `error`.
+pub(crate) fn asked_in(table: &CallTable, requests: &[Request]) -> Promises
+    ensures { result ≡ asked_in table.now requests.now }
 {
-    all_asked(table).without(Promises::ERROR)
+    all_asked(table)
+        .union(all_used(requests))
+        .without(Promises::ERROR)
+}
+
+/// The promises for which requests without a path ask.
+fn all_used(requests: &[Request]) -> Promises
+    ensures { result ≡ all_used requests.now }
+{
+    let mut used = Promises::NONE;
+    for request in requests {
+        used = with_sets(used_by(request.action()), used);
+    }
+    used
+}
+
+/// The sets of which a call without a path asks for one.
+fn used_by(action: &Action) -> &[Promises]
+    ensures { result.now ≡ used_by action.now }
+{
+    match action {
+        Action::Uses(any) => any.sets(),
+        _ => &[],
+    }
 }
 
 /// The promises that some call asks for, by its path, or as rename, link, fork or unveil.

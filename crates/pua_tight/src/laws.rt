@@ -1,4 +1,5 @@
-//! Laws and worked examples of tightened scripts, each the contract of a function that does nothing.
+//! Laws and worked examples of tightened scripts, each the contract of a function that does
+//! nothing.
 
 ghost use Rattle.pua_tight.specs.Examples.{TightRows, UseRows, WithoutRows, WrittenRows};
 ghost use Rattle.pua_tight.specs.Laws.{RulesRestOnOne, ScriptsAreTightened};
@@ -9,8 +10,8 @@ ghost use Rattle.pua_tight.specs.Trials.{TriedOneByOne};
 ghost use Rattle.pua_tight.specs.Laws.{WithinAllowsNoMore, WithinGrantsNoMore, WithinListsNoMore};
 ghost use Rattle.pua_tight.specs.Laws.{WithinLastsNoMore, WithinListsNoMoreForEver};
 
-/// Examples of scripts with the tightened ones, of the bytes that are written of them, and of what their
-/// words are needed for.
+/// Examples of scripts with the tightened ones, of the bytes that are written of them, and of what
+/// their words are needed for.
 #[tactic(auto, using(crate::specs::Examples::tight_rows, crate::specs::Examples::written_rows, crate::specs::Examples::without_rows, crate::specs::Examples::use_rows))]
 pub fn tight_examples()
     ensures words { TightRows }
@@ -33,32 +34,33 @@ pub fn narrower_law()
     ensures futures { FuturesAreWithin }
 {}
 
-/// A tightened script is the given one but for what was left out, is answered as it line by line, and
-/// leaves the same tree and the same processes, each of which may do nothing more. It is what trials
-/// leave, one after another, each of the whole script that those before it left.
+/// A tightened script is the given one but for what was left out, is answered as it line by line,
+/// and leaves the same tree and the same processes, each of which may do nothing more. It is what
+/// trials leave, one after another, each of the whole script that those before it left.
 pub fn tight_law()
     ensures tightens { TightensScripts }
     ensures trials { TriedOneByOne }
 {}
 
-/// Without any one keyword or letter more that may be left out, some line is answered otherwise: one
-/// pass, from the last line to the first, leaves nothing to a second.
+/// Without any one keyword or letter more that may be left out, some line is answered otherwise:
+/// one pass, from the last line to the first, leaves nothing to a second.
 pub fn minimal_law()
     ensures { TightIsMinimal }
 {}
 
-/// Where each request of a script rests on one set of promises, if it is allowed at all, nothing else
-/// that may be left out of the script, so that it is answered as before, leaves less than the tightened
-/// one has. By the standard rules each request does, and by OpenBSD's each but a chown or fchown.
+/// Where each request of a script rests on one set of promises, if it is allowed at all, nothing
+/// else that may be left out of the script, so that it is answered as before, leaves less than the
+/// tightened one has. By the standard rules each request does, and by OpenBSD's each but a chown or
+/// fchown, and a call without a path that asks for one of several promises.
 pub fn least_law()
     ensures least { TightIsLeast }
     ensures rules { RulesRestOnOne }
     ensures lines { ScriptsAreTightened }
 {}
 
-/// What is written of a tightened script is read as the tightened requests, so that these laws are of
-/// its bytes: whatever keywords and letters requests are given without, the bytes without them are a
-/// script of these requests.
+/// What is written of a tightened script is read as the tightened requests, so that these laws are
+/// of its bytes: whatever keywords and letters requests are given without, the bytes without them
+/// are a script of these requests.
 pub fn text_law()
     ensures written { TextsAreRead }
     ensures tight { TightTextsAreRead }

@@ -28,8 +28,8 @@ pub(crate) fn line_pieces(
     }
 }
 
-/// What may be left out of a request that is answered ok, where these promises are asked for by some
-/// call: keywords in their order, of the promises first, and letters in the order r, w, x, c.
+/// What may be left out of a request that is answered ok, where these promises are asked for by
+/// some call: keywords in their order, of the promises first, and letters in the order r, w, x, c.
 fn pieces_of(alloc: Global, asked: Promises, action: &Action) -> Result<Vec<Piece>, AllocError>
     ensures { IfOk result (λ pieces. pieces.items ≡ pieces_of asked action.now) }
 {

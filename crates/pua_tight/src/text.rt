@@ -10,8 +10,8 @@ use crate::words::copied;
 use pua_script::Request;
 use std::alloc::{AllocError, Global};
 
-/// The bytes of a script whose lines have these requests, each with the words that it has of those that
-/// stand there.
+/// The bytes of a script whose lines have these requests, each with the words that it has of those
+/// that stand there.
 pub(crate) fn thinned_text(
     alloc: Global,
     requests: &[Request],

@@ -7,7 +7,7 @@ ghost use Rattle.pua_script.specs.Scripts.{script_by};
 ghost use Rattle.pua_tight.specs.Texts.{as_listing, as_script, text_over, tightened};
 ghost use Rattle.pua_tight.specs.Left.{IsFaultOf, IsGiven};
 
-use crate::asked::asked_for;
+use crate::asked::asked_in;
 use crate::fault::TightFault;
 use crate::text::thinned_text;
 use crate::together::try_all;
@@ -18,14 +18,15 @@ use pua_script::{Request, Script, ScriptFault, read_script_by};
 use pua_tree::{ListingFault, OutOfMemory, SlabTree, read_listing_slab};
 use std::alloc::Global;
 
-/// The bytes of a script without the promises and letters that none of its answers needs, where it is
-/// read by these rules and served over the tree of a listing by a table. From the last line to the
-/// first, and in a line in the order of keywords and of the letters r, w, x, c, each is left out without
-/// which every line is answered as before; of lines that are answered ok alone, and of promises those
-/// that some call asks for, but `error`. All other bytes stay, and where nothing is left of an argument
-/// it is `=`.
+/// The bytes of a script without the promises and letters that none of its answers needs, where it
+/// is read by these rules and served over the tree of a listing by a table. From the last line to
+/// the first, and in a line in the order of keywords and of the letters r, w, x, c, each is left
+/// out without which every line is answered as before; of lines that are answered ok alone, and of
+/// promises those that some call asks for, or a request without a path, but `error`. All other bytes stay, and where nothing is
+/// left of an argument it is `=`.
 ///
-/// The first that holds of `Listing` and `Script` is answered; `OutOfMemory` where a growth was refused.
+/// The first that holds of `Listing` and `Script` is answered; `OutOfMemory` where a growth was
+/// refused.
 pub fn tight_text(
     alloc: Global,
     tree_bytes: &[u8],
@@ -43,8 +44,8 @@ pub fn tight_text(
     Ok(thinned_text(alloc, requests.as_slice(), script_bytes)?)
 }
 
-/// The requests of a script that is read by these rules, and what they are answered over the tree of a
-/// listing.
+/// The requests of a script that is read by these rules, and what they are answered over the tree
+/// of a listing.
 pub(crate) fn begin<'a>(
     alloc: Global,
     tree_bytes: &[u8],
@@ -70,7 +71,7 @@ pub(crate) fn tighten(wanted: &Wanted<'_>, requests: &mut Vec<Request>) -> Resul
         ≡ answers_to wanted.now.table.now (new_world wanted.now.tree) requests.old.items →
         requests.new.items ≡ tightened wanted.now.table.now wanted.now.tree requests.old.items) }
 {
-    let asked = asked_for(wanted.table);
+    let asked = asked_in(wanted.table, requests.as_slice());
     let trials = trials_of(
         wanted.alloc,
         asked,

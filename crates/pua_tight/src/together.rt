@@ -1,5 +1,5 @@
-//! Trials of several words at once: what a script is answered as before without all of, it is answered
-//! as before without each.
+//! Trials of several words at once: what a script is answered as before without all of, it is
+//! answered as before without each.
 
 ghost use Rattle.std.specs.Prelude.{◌≡◌, ◌≤◌, ◌<◌, IfOk, if◌then◌else◌, length};
 ghost use Rattle.pua_script.specs.Replay.{answers_to, new_world};
@@ -21,8 +21,8 @@ pub(crate) struct Kept {
     pub(crate) arguments: Arguments,
 }
 
-/// Leaves out of a script one piece after another, where all of it is then answered as is wanted: the
-/// last line's first, of lines that are answered ok.
+/// Leaves out of a script one piece after another, where all of it is then answered as is wanted:
+/// the last line's first, of lines that are answered ok.
 pub(crate) fn try_all(
     wanted: &Wanted<'_>,
     trials: &[Trial],
@@ -40,8 +40,8 @@ pub(crate) fn try_all(
     Ok(())
 }
 
-/// Tries the first pieces, up to the first that can't be left out, and answers how many were tried. Of
-/// those that can, it tries at most twice as many at once as it has left out.
+/// Tries the first pieces, up to the first that can't be left out, and answers how many were tried.
+/// Of those that can, it tries at most twice as many at once as it has left out.
 fn try_front(
     wanted: &Wanted<'_>,
     trials: &[Trial],

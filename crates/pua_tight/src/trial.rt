@@ -23,8 +23,8 @@ pub(crate) struct Trial {
     pub(crate) piece: Piece,
 }
 
-/// What may be left out of a script's requests, the last line's first, where some call asks for these
-/// promises: nothing of a line that was not answered ok.
+/// What may be left out of a script's requests, the last line's first, where some call asks for
+/// these promises: nothing of a line that was not answered ok.
 pub(crate) fn trials_of(
     alloc: Global,
     asked: Promises,
@@ -58,9 +58,9 @@ pub(crate) fn add_trials(
     Ok(())
 }
 
-/// The index of the first request that is answered otherwise than is wanted, where this piece is left out
-/// of a script that is answered as is wanted, if there is one. The requests are as before, unless an error
-/// is answered.
+/// The index of the first request that is answered otherwise than is wanted, where this piece is
+/// left out of a script that is answered as is wanted, if there is one. The requests are as before,
+/// unless an error is answered.
 pub(crate) fn other_without(
     wanted: &Wanted<'_>,
     trial: &Trial,

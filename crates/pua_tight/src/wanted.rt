@@ -10,8 +10,8 @@ use pua_script::{Answer, Request, Script, World, WorldFault};
 use pua_tree::{CopiedTree, OutOfMemory, SlabTree};
 use std::alloc::Global;
 
-/// A tree, a table, and what a script is answered by it over that tree. The only error of its functions
-/// is that a growth was refused.
+/// A tree, a table, and what a script is answered by it over that tree. The only error of its
+/// functions is that a growth was refused.
 #[derive(Drop)]
 pub(crate) struct Wanted<'a> {
     pub(crate) alloc: Global,
@@ -71,12 +71,13 @@ fn begun(alloc: Global, tree: &SlabTree, table: &CallTable) -> Result<World<Slab
     World::new(alloc, tree, *table)
 }
 
-/// Gives back the memory of a world: one call, where the world's drop would else be walked and proved
-/// at each exit behind it.
+/// Gives back the memory of a world: one call, where the world's drop would else be walked and
+/// proved at each exit behind it.
 fn release(world: World<SlabTree>) {}
 
-/// Serves requests in a world up to the first that is answered otherwise than is wanted, and answers its
-/// index. Where the lists have other lengths, it is the first that only one of them has.
+/// Serves requests in a world up to the first that is answered otherwise than is wanted, and
+/// answers its index. Where the lists have other lengths, it is the first that only one of them
+/// has.
 fn served_otherwise(
     world: &mut World<SlabTree>,
     requests: &[Request],

@@ -5,7 +5,7 @@ ghost use Rattle.pua_script.specs.Replay.{answers_to, new_world};
 ghost use Rattle.pua_tight.specs.Uses.{use_by, uses_over, words_from};
 ghost use Rattle.pua_tight.specs.Left.{lines_by};
 
-use crate::asked::asked_for;
+use crate::asked::asked_in;
 use crate::fault::TightFault;
 use crate::line_pieces::line_pieces;
 use crate::piece::Piece;
@@ -24,14 +24,15 @@ pub struct WordUse {
     pub line: usize,
     /// The word.
     pub word: Piece,
-    /// The index of the first line that is answered otherwise, where it is left out of the tightened
-    /// script; None where none is, since the tightened script doesn't have it.
+    /// The index of the first line that is answered otherwise, where it is left out of the
+    /// tightened script; None where none is, since the tightened script doesn't have it.
     pub needed_by: Option<usize>,
 }
 
-/// What each word of a script is needed for that may be left out, in the order of the lines, and in a line
-/// in the order of keywords, of the promises first, and of the letters r, w, x, c. Which may be left out,
-/// and what the tightened script is, is as for [`tight_text`](crate::tight_text), and so are the errors.
+/// What each word of a script is needed for that may be left out, in the order of the lines, and in
+/// a line in the order of keywords, of the promises first, and of the letters r, w, x, c. Which may
+/// be left out, and what the tightened script is, is as for [`tight_text`](crate::tight_text), and
+/// so are the errors.
 pub fn word_uses(
     alloc: Global,
     tree_bytes: &[u8],
@@ -47,7 +48,7 @@ pub fn word_uses(
     let (wanted, mut requests) = begin(alloc, tree_bytes, script_bytes, rules, table)?;
     let words = words_of(
         alloc,
-        asked_for(table),
+        asked_in(table, requests.as_slice()),
         requests.as_slice(),
         wanted.answers.as_slice(),
     )?;

@@ -131,7 +131,8 @@ module _ (choice : Chosen) (tree_bytes script_bytes : List ℕ) (table : CallTab
         tight_is_least table w lines less (subst (λ (asks : List Asked). RestOnOne table asks) (sym is_script.asks) one) is_script.okay
         is_script.spare leaves (alike ∙ ap (answers_to table w) (sym is_script.asks));
     one_set = λ none some.
-        subst (λ (other : CallTable). RestOnOne other given) (rules_alone choice table chosen none) (rules_rest choice.rules given some);
+        subst (λ (other : CallTable). RestOnOne other given) (rules_alone choice table chosen none) (rules_rest choice.rules script_bytes given
+        scripted some);
   }
 
 pub tight_as_written : TightAsWritten

@@ -3,7 +3,7 @@ use Rattle.pua_tool.proofs.Common.{◌≡◌, ◌∙◌, ◌∷◌, [], ℕ, Lis
 use Rattle.pua_tool.proofs.Common.{ProcessState, kept_at, new_world, answers_to, world_after, answer_lines, with_end, listing, script_by, Chosen}
 use Rattle.pua_tool.proofs.Common.{Replayed, Result, table_by, as_listing, as_script, replay_of, ToolFault, arith, flat_map}
 use Rattle.std.proofs.Common.{zero, suc, append_assoc, append-nil}
-use Rattle.std.specs.Prelude.{ok_or, option_map}
+use Rattle.std.specs.Prelude.{◌&&◌, true, Err, if◌then◌else◌, is_some}
 use Rattle.std.specs.Option.{option_map_or}
 use Rattle.std.specs.List.{Contains}
 use Rattle.pua_tree.specs.Steps.{◌>>=◌}
@@ -60,7 +60,8 @@ module _ (complete : Complete) (sound : SoundLines) (choice : Chosen) (tree_byte
   front = answer_lines 1 done.answers
 
   abbrev asked_by : Option ProcessState → Result (List ℕ) ToolFault
-  asked_by made = ok_or (option_map (λ h. process ∷ []) made) NoProcess >>= λ numbers. Ok (objects_after choice.rules table done.answers w numbers)
+  asked_by made = (if is_some made && true then Ok (process ∷ []) else Err NoProcess)
+      >>= λ numbers. Ok (objects_after choice.rules table done.answers w numbers)
 
   after : asked_by (kept_at w process) ≡ Ok text
   after = sym (list_is choice tree_bytes script_bytes (One process) done

@@ -8,7 +8,7 @@ use Rattle.std.proofs.lemmas.List.{length-append}
 use Rattle.std.proofs.lemmas.List.Folds.{list_all-append}
 use Rattle.std.specs.List.{Contains}
 use Rattle.std.specs.Option.{option_map_or}
-use Rattle.std.specs.Prelude.{◌&&◌, IsTrue, bit_or, codes, decimal, ok_or, option_map, unwrap_or}
+use Rattle.std.specs.Prelude.{◌&&◌, IsTrue, bit_or, codes, decimal, if◌then◌else◌, is_some, unwrap_or}
 use Rattle.pua_tree.specs.Tree.{WellFormed, climb}
 use Rattle.pua_tree.proofs.ForCallers.{None≢Some, same_Ok, same_Some, Err≢Ok}
 use Rattle.pua_path.specs.declared.found.Found.{Found}
@@ -270,7 +270,7 @@ module _ (choice : Chosen) (tree_bytes script_bytes : List ℕ) (table : CallTab
 
   module _ (process : ℕ) (is : objects_why_text choice tree_bytes script_bytes (One process) ≡ Ok text) where
     abbrev asked_by : Option ProcessState → Result (List ℕ) ToolFault
-    asked_by made = ok_or (option_map (λ h. process ∷ []) made) NoProcess
+    asked_by made = (if is_some made && true then Ok (process ∷ []) else Err NoProcess)
         >>= λ numbers. Ok (reason_lines choice.rules posed ++ why_lists_of choice.rules posed numbers)
 
     after : asked_by (kept_at left process) ≡ Ok text

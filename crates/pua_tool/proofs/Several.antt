@@ -20,7 +20,7 @@ use Rattle.pua_ever.proofs.ForCallers.{unrefused_table, unrefused_process}
 use Rattle.pua_texts.specs.EverLines.{heading_ever}
 use Rattle.pua_texts.specs.States.{bound_lines, veil_lines}
 use Rattle.pua_texts.specs.TogetherLines.{joint_list, living, member_lines, one_for, one_of, together_heading, together_list}
-use Rattle.pua_words.specs.declared.command.Members.{Members}
+use Rattle.pua_words.specs.declared.command.Processes.{Processes}
 use Rattle.pua_tool.specs.EverTexts.{ever_fault}
 use Rattle.pua_tool.specs.Forever.{IsForeseenBehind}
 use Rattle.pua_tool.specs.Listed.{HasLine}
@@ -135,7 +135,7 @@ no_other first (Some other) e = absurd (Some≢None (OtherVeils first.0 other) e
 -- ---- the text
 
 module _ (together : TogetherAfterRead) (choice : Chosen) (tree_bytes script_bytes : List ℕ) (table : CallTable) (t : Tree) (first : List Asked)
-    (which : Members) (text : List ℕ) (given : table_by choice ≡ Ok table) (read : listing tree_bytes ≡ Ok t)
+    (which : Processes) (text : List ℕ) (given : table_by choice ≡ Ok table) (read : listing tree_bytes ≡ Ok t)
     (scripted : script_by choice.rules script_bytes ≡ Ok first) (told : together_text choice tree_bytes script_bytes which ≡ Ok text) where
   abbrev w : World
   w = world_after table (new_world t) first

@@ -15,7 +15,6 @@ use Rattle.pua_objects.specs.declared.kind.ObjectKind.{ObjectKind}
 use Rattle.pua_objects.specs.declared.kind.ObjectKind.TheVariants as kind
 use Rattle.pua_tree.specs.declared.node.Kind.TheVariants.{Link}
 use Rattle.pua_why.specs.Texts.{promises_text}
-use Rattle.pua_words.specs.declared.command.Members.TheVariants as members
 use Rattle.pua_words.specs.declared.command.Processes.TheVariants.{One, All}
 use Rattle.pua_tool.specs.Texts.{Chosen, Wanted, by_standard, replay_of, run_text, audit_text}
 use Rattle.pua_tool.specs.ObjectTexts.{objects_text}
@@ -142,13 +141,13 @@ pub record TextRows : Type 0 where
   pub ever : ever_text by_standard root_listing pairing 7
       ≡ Ok (text_of_lines (codes "1 ok" ∷ codes "2 ok" ∷ codes "3 ok" ∷ codes "ever 7" ∷ codes "process alive" ∷ codes "promises ="
       ∷ codes "execpromises -" ∷ codes "unveil given-up" ∷ codes "no veils" ∷ []))
-  pub together : together_text by_standard root_listing sharing members.All
+  pub together : together_text by_standard root_listing sharing All
       ≡ Ok (text_of_lines (codes "1 ok" ∷ codes "2 ok" ∷ codes "3 ok" ∷ codes "4 ok" ∷ codes "5 ok" ∷ codes "ever 1,2,3"
       ∷ codes "process 1 alive" ∷ codes "promises rpath" ∷ codes "execpromises -" ∷ codes "unveil given-up"
       ∷ codes "process 2 alive" ∷ codes "promises cpath" ∷ codes "execpromises -" ∷ codes "unveil given-up"
       ∷ codes "process 3 ended" ∷ codes "no veils" ∷ codes "dir / stat,lstat,open-r,chdir" ∷ codes "other / mkdir,symlink"
       ∷ codes "dir new stat,lstat,open-r,rmdir,chdir" ∷ codes "other new mkdir,symlink" ∷ codes "link new lstat,readlink,unlink" ∷ []))
-  pub other_veils : together_text by_standard two_directories parting members.All ≡ Err (OtherVeils 1 2)
+  pub other_veils : together_text by_standard two_directories parting All ≡ Err (OtherVeils 1 2)
   pub opened_past_veils : objects_text by_openbsd root_listing opening_past_veils (One 1)
       ≡ Ok (text_of_lines (codes "1 ok" ∷ codes "2 ok" ∷ codes "objects 1" ∷ codes "process alive" ∷ codes "rules openbsd"
       ∷ codes "promises dns,stdio" ∷ codes "execpromises -" ∷ codes "unveil given-up"

@@ -18,7 +18,7 @@ use Rattle.pua_ever.specs.Through.{bound_of, ever_lasting}
 use Rattle.pua_tight.specs.declared.piece.Piece.{Piece}
 use Rattle.pua_tight.specs.Tight.{lines_of}
 use Rattle.pua_tight.specs.Narrower.{AsksWithin}
-use Rattle.pua_tight.specs.Laws.{IsListed, IsListedForEver, LeavesOut, MayLeaveOut, leave_out, RestOnOne, HasNoChown}
+use Rattle.pua_tight.specs.Laws.{IsListed, IsListedForEver, LeavesOut, MayLeaveOut, leave_out, RestOnOne, HasNoChoice}
 use Rattle.pua_tool.specs.Texts.{Chosen, run_text, table_by}
 use Rattle.pua_tool.specs.TightTexts.{tight_text}
 
@@ -65,8 +65,9 @@ pub record IsTightWritten (choice : Chosen) (tree_bytes script_bytes : List ℕ)
   -- where each request rests on one set of promises, whatever else is left out so that all is answered as before has all that it has
   pub least : RestOnOne table given → (less : List Asked) → LeavesOut less (lines_of table (new_world t) given) →
       answers_to table (new_world t) less ≡ answers_to table (new_world t) given → AsksWithin left less
-  -- which they do by the rules alone: by the standard ones of every script, by OpenBSD's of every script without chown and fchown
-  pub one_set : choice.rows ≡ None → (choice.rules ≡ Standard) ⊎ HasNoChown given → RestOnOne table given
+  -- which they do by the rules alone: by the standard ones of every script, by OpenBSD's of every script without chown and fchown, and
+  -- without a call that has no path and asks for one of several promises
+  pub one_set : choice.rows ≡ None → (choice.rules ≡ Standard) ⊎ HasNoChoice given → RestOnOne table given
 
 abbrev pub TightAsWritten : Type 0
 TightAsWritten = (choice : Chosen) (tree_bytes script_bytes : List ℕ) (table : CallTable) (t : Tree) (given : List Asked) (text : List ℕ) →

@@ -6,6 +6,7 @@ pub mod TogetherTexts
 pub mod WhyTexts
 pub mod HowTexts
 pub mod EverHowTexts
+pub mod ListTexts
 pub mod TightTexts
 pub mod Answers
 pub mod Statuses

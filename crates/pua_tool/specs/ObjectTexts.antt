@@ -1,5 +1,6 @@
 -- The text of the lists of processes, and what refuses it.
-use Rattle.std.specs.Prelude.{ℕ, List, [], ◌∷◌, ◌++◌, option_map, Result, Ok, ok_or}
+use Rattle.std.specs.Prelude.{ℕ, List, [], ◌∷◌, ◌++◌, if◌then◌else◌, is_some, Result, Ok, Err}
+use Rattle.std.specs.List.{list_all}
 use Rattle.std.specs.FinMap.{put}
 use Rattle.std.specs.Map.{keys_of}
 use Rattle.std.specs.Ordering.{nat_cmp}
@@ -9,7 +10,7 @@ use Rattle.pua_calls.specs.declared.rules.Rules.{Rules}
 use Rattle.pua_script.specs.Replay.{World, kept_at}
 use Rattle.pua_script.specs.declared.answer.Answer.{Answer}
 use Rattle.pua_words.specs.declared.command.Processes.{Processes}
-use Rattle.pua_words.specs.declared.command.Processes.TheVariants.{One, All}
+use Rattle.pua_words.specs.declared.command.Processes.TheVariants.{One, Named, All}
 use Rattle.pua_tool.specs.Texts.{Chosen, Replayed, replay_of}
 use Rattle.pua_texts.specs.Lines.{answer_lines}
 use Rattle.pua_tool.specs.declared.fault.ToolFault.{ToolFault}
@@ -25,9 +26,14 @@ in_order (made ∷ more) = put nat_cmp made.0 made.1 (in_order more)
 abbrev pub numbers_of : World → List ℕ
 numbers_of w = keys_of (in_order w.processes)
 
--- the number that is asked for, if it was made; or those of all
+-- these numbers, if all were made
+abbrev pub numbers_made : World → List ℕ → Result (List ℕ) ToolFault
+numbers_made w numbers = if list_all (λ process. is_some (kept_at w process)) numbers then Ok numbers else Err NoProcess
+
+-- the numbers that are asked for, if they were made; or those of all
 abbrev pub numbers_asked : World → Processes → Result (List ℕ) ToolFault
-numbers_asked w (One process) = ok_or (option_map (λ h. process ∷ []) (kept_at w process)) NoProcess
+numbers_asked w (One process) = numbers_made w (process ∷ [])
+numbers_asked w (Named numbers) = numbers_made w numbers.items
 numbers_asked w All = Ok (numbers_of w)
 
 -- the answers, and then the lists

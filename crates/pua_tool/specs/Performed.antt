@@ -7,8 +7,8 @@ use Rattle.pua_words.specs.Usages.{AsksAbout}
 use Rattle.pua_words.specs.Plain.{IsMeantBy}
 use Rattle.pua_words.specs.declared.command.Command.{Command}
 use Rattle.pua_words.specs.declared.command.Text.{Text}
-use Rattle.pua_words.specs.declared.command.Text.TheVariants.{Run, RunWhy, Why, Audit, Objects, ObjectsWhy, Ever, EverHow, Together}
-use Rattle.pua_words.specs.declared.command.Text.TheVariants.{How, Tight, TightWhy}
+use Rattle.pua_words.specs.declared.command.Text.TheVariants.{Run, RunWhy, Why, Audit, How, Tight, TightWhy}
+use Rattle.pua_words.specs.declared.command.Text.TheVariants as text
 use Rattle.pua_tool.specs.declared.fault.ToolFault.{ToolFault}
 use Rattle.pua_tool.specs.declared.fault.ToolFault.TheVariants.{Write, OutOfMemory}
 use Rattle.pua_tool.specs.declared.outcome.CommandFault.{CommandFault}
@@ -18,12 +18,9 @@ use Rattle.pua_io.specs.Held.{Asked, AsksFor, AsksForFront, Held, Holds, HoldsNo
 use Rattle.pua_io.specs.Sinks.{Adds, AddsFront, HasFailed}
 use Rattle.pua_tool.specs.Statuses.{status_of}
 use Rattle.pua_tool.specs.Texts.{Chosen, given_bytes, run_text, audit_text, wanted_by}
-use Rattle.pua_tool.specs.ObjectTexts.{objects_text}
-use Rattle.pua_tool.specs.EverTexts.{ever_text}
-use Rattle.pua_tool.specs.TogetherTexts.{together_text}
 use Rattle.pua_tool.specs.HowTexts.{IsHowText, way_wanted}
-use Rattle.pua_tool.specs.EverHowTexts.{IsEverHowText}
-use Rattle.pua_tool.specs.WhyTexts.{objects_why_text, run_why_text, why_text}
+use Rattle.pua_tool.specs.ListTexts.{IsListText}
+use Rattle.pua_tool.specs.WhyTexts.{run_why_text, why_text}
 use Rattle.pua_tool.specs.TightTexts.{tight_text, tight_why_text}
 
 -- this is the text that is asked for, of a table, a listing and a script, or what refuses it; of a way, and of
@@ -34,11 +31,7 @@ IsTextAsked RunWhy choice tree script answer = run_why_text choice tree script �
 IsTextAsked (Why words) choice tree script answer =
     why_text choice tree script words.process (map (λ field. field.now) words.fields.items) ≡ answer
 IsTextAsked (Audit words) choice tree script answer = audit_text choice tree script (wanted_by words) ≡ answer
-IsTextAsked (Objects words) choice tree script answer = objects_text choice tree script words.processes ≡ answer
-IsTextAsked (ObjectsWhy words) choice tree script answer = objects_why_text choice tree script words.processes ≡ answer
-IsTextAsked (Ever words) choice tree script answer = ever_text choice tree script words.process ≡ answer
-IsTextAsked (EverHow words) choice tree script answer = IsEverHowText choice tree script words.process answer
-IsTextAsked (Together words) choice tree script answer = together_text choice tree script words.members ≡ answer
+IsTextAsked (text.List words) choice tree script answer = IsListText choice tree script words answer
 IsTextAsked (How words) choice tree script answer = IsHowText choice tree script (way_wanted words) answer
 IsTextAsked Tight choice tree script answer = tight_text choice tree script ≡ answer
 IsTextAsked TightWhy choice tree script answer = tight_why_text choice tree script ≡ answer

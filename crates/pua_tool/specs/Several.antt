@@ -13,7 +13,7 @@ use Rattle.pua_ever.specs.Ever.{EverLine, ever_line_text}
 use Rattle.pua_ever.specs.Through.{ever_lasting}
 use Rattle.pua_texts.specs.Lines.{answer_lines}
 use Rattle.pua_texts.specs.TogetherLines.{living, one_of, together_list}
-use Rattle.pua_words.specs.declared.command.Members.{Members}
+use Rattle.pua_words.specs.declared.command.Processes.{Processes}
 use Rattle.pua_tool.specs.Forever.{IsForeseenBehind}
 use Rattle.pua_tool.specs.Listed.{HasLine}
 use Rattle.pua_tool.specs.Texts.{Chosen, table_by}
@@ -24,7 +24,7 @@ abbrev pub numbers : List (ℕ × ProcessState) → List ℕ
 numbers members = map (λ member. member.0) members
 
 -- the text is the answers, and the states of the processes that are asked for and the list of those that live, which is complete
-pub record IsTogetherWritten (rules : Rules) (table : CallTable) (t : Tree) (first : List Asked) (which : Members) (text : List ℕ) : Type 0
+pub record IsTogetherWritten (rules : Rules) (table : CallTable) (t : Tree) (first : List Asked) (which : Processes) (text : List ℕ) : Type 0
   where
     -- those that are asked for, each with what it keeps where the script ends
     pub members : List (ℕ × ProcessState)
@@ -43,6 +43,6 @@ pub record IsTogetherWritten (rules : Rules) (table : CallTable) (t : Tree) (fir
 
 abbrev pub TogetherAsWritten : Type 0
 TogetherAsWritten = (choice : Chosen) (tree_bytes script_bytes : List ℕ) (table : CallTable) (t : Tree) (first : List Asked)
-    (which : Members) (text : List ℕ) →
+    (which : Processes) (text : List ℕ) →
     table_by choice ≡ Ok table → listing tree_bytes ≡ Ok t → script_by choice.rules script_bytes ≡ Ok first →
     together_text choice tree_bytes script_bytes which ≡ Ok text → IsTogetherWritten choice.rules table t first which text

@@ -9,8 +9,8 @@ use Rattle.pua_policy.specs.declared.place.Place.{Place}
 use Rattle.pua_script.specs.Replay.{World, kept_at}
 use Rattle.pua_ever.specs.Refusals.{refusal}
 use Rattle.pua_ever.specs.declared.refusal.Refusal.{Refusal}
-use Rattle.pua_words.specs.declared.command.Members.{Members}
-use Rattle.pua_words.specs.declared.command.Members.TheVariants.{Named, All}
+use Rattle.pua_words.specs.declared.command.Processes.{Processes}
+use Rattle.pua_words.specs.declared.command.Processes.TheVariants.{One, Named, All}
 use Rattle.pua_texts.specs.Lines.{answer_lines}
 use Rattle.pua_texts.specs.TogetherLines.{living, together_list}
 use Rattle.pua_tool.specs.Texts.{Chosen, Replayed, replay_of}
@@ -20,7 +20,8 @@ use Rattle.pua_tool.specs.declared.fault.ToolFault.{ToolFault}
 use Rattle.pua_tool.specs.declared.fault.ToolFault.TheVariants.{NoProcess, OtherVeils}
 
 -- the numbers that are asked for, or those of all processes that were ever made, in ascending order
-abbrev pub numbers_in : World → Members → List ℕ
+abbrev pub numbers_in : World → Processes → List ℕ
+numbers_in w (One process) = process ∷ []
 numbers_in w (Named numbers) = numbers.items
 numbers_in w All = numbers_of w
 
@@ -84,11 +85,11 @@ together_of rules done members = unless_fault (together_fault done.table members
 
 -- the answers, and then the list of the processes that are asked for, or what refuses it: one was never made, there is a reason
 -- for no list of one, or two that live have other veils
-abbrev pub together_after : Rules → Replayed → Members → Result (List ℕ) ToolFault
+abbrev pub together_after : Rules → Replayed → Processes → Result (List ℕ) ToolFault
 together_after rules done which = all_made done.world (numbers_in done.world which) >>= λ members. together_of rules done members
 
 -- the list for ever of several processes at the end of a script over a listing, or the first fault: the table's, the
 -- listing's, the script's, or what refuses the list
-unfoldable pub together_text : Chosen → List ℕ → List ℕ → Members → Result (List ℕ) ToolFault
+unfoldable pub together_text : Chosen → List ℕ → List ℕ → Processes → Result (List ℕ) ToolFault
 together_text choice tree_bytes script_bytes which =
     replay_of choice tree_bytes script_bytes >>= λ done. together_after choice.rules done which

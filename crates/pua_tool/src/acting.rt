@@ -15,7 +15,7 @@ use pua_policy::{Place, Process};
 use pua_script::World;
 use pua_texts::Member;
 use pua_tree::{FileTree, OutOfMemory};
-use pua_words::Members;
+use pua_words::Processes;
 use std::alloc::Global;
 
 /// The processes that are asked for: `NoProcess` where one was never made. The only other fault is
@@ -24,21 +24,20 @@ use std::alloc::Global;
 pub(crate) fn members_of<'t, T: FileTree>(
     alloc: Global,
     world: &'t World<T>,
-    which: &Members,
+    whose: &Processes,
 ) -> Result<Vec<Member<'t>>, ToolFault>
     ensures made { IfOk result (λ members.
-        all_made (world_of world.now) (numbers_in (world_of world.now) which.now)
+        all_made (world_of world.now) (numbers_in (world_of world.now) whose.now)
         ≡ Ok (named_by members.items)) }
     ensures refused { IfErr result (λ fault. fault ≢ ToolFault.OutOfMemory →
-        all_made (world_of world.now) (numbers_in (world_of world.now) which.now) ≡ Err fault) }
+        all_made (world_of world.now) (numbers_in (world_of world.now) whose.now) ≡ Err fault) }
     ensures unwritten { IfErr result (λ fault. fault ≢ ToolFault.Write) }
 {
-    match which {
-        Members::Named(numbers) => made_of(alloc, world, numbers.as_slice()),
-        Members::All => {
-            let Ok(numbers) = world.numbers(alloc) else {
-                return Err(ToolFault::OutOfMemory);
-            };
+    match whose {
+        Processes::One(number) => made_of(alloc, world, &[*number]),
+        Processes::Named(numbers) => made_of(alloc, world, numbers.as_slice()),
+        Processes::All => {
+            let numbers = world.numbers(alloc)?;
             made_of(alloc, world, numbers.as_slice())
         }
     }
@@ -87,7 +86,7 @@ pub(crate) fn check_members(members: &[Member<'_>], table: &CallTable) -> Result
     Ok(())
 }
 
-/// Those of these processes that live. The only fault is that a growth was refused.
+/// Those of these processes that live. The only error is that a growth was refused.
 pub(crate) fn living_of<'t>(
     alloc: Global,
     members: &[Member<'t>],
@@ -108,8 +107,8 @@ pub(crate) fn living_of<'t>(
     Ok(left)
 }
 
-/// Answers `OtherVeils` where one of these processes, which live, has other veils than the first. The
-/// only other fault is that a growth was refused.
+/// Answers `OtherVeils` where one of these processes, which live, has other veils than the first.
+/// The only other fault is that a growth was refused.
 pub(crate) fn check_veils(alloc: Global, members: &[Member<'_>]) -> Result<(), ToolFault>
     ensures alike { OnOk result (other_veils (named_by members.now) ≡ None) }
     ensures refused { IfErr result (λ fault. fault ≢ ToolFault.OutOfMemory →
@@ -126,8 +125,8 @@ pub(crate) fn check_veils(alloc: Global, members: &[Member<'_>]) -> Result<(), T
     }
 }
 
-/// The number of the first of these processes that has other veils than one. The only error is that a
-/// growth was refused.
+/// The number of the first of these processes that has other veils than one. The only error is that
+/// a growth was refused.
 fn first_other(
     alloc: Global,
     first: &Process,
@@ -144,8 +143,8 @@ fn first_other(
     Ok(None)
 }
 
-/// Whether two processes keep veils on the same places, with the same letters. The only error is that a
-/// growth was refused.
+/// Whether two processes keep veils on the same places, with the same letters. The only error is
+/// that a growth was refused.
 fn have_same_veils(alloc: Global, first: &Process, other: &Process) -> Result<bool, OutOfMemory>
     ensures { IfOk result (λ same. same ≡ same_veils first.now other.now) }
 {

@@ -38,14 +38,14 @@ pub fn audit_to<S: Sink>(
 
 /// Writes the text of an audit: for each line of the script its number and what it was answered,
 /// then `reach P`, and then a line for each pair of a path and a call that the process is allowed
-/// where the script ends, over all paths of at most so many letters, each pair once, in the order of
-/// the paths' letters and then of the calls. An audit that is resumed after a pair writes the lines
-/// of the pairs after it alone. What a call needs is said by these rules, where the job's
+/// where the script ends, over all paths of at most so many letters, each pair once, in the order
+/// of the paths' letters and then of the calls. An audit that is resumed after a pair writes the
+/// lines of the pairs after it alone. What a call needs is said by these rules, where the job's
 /// text with rows may stand in the place of some.
 ///
-/// The first that holds of `Table`, `Listing`, `Script`, `NoProcess` and `Audit` is answered before anything
-/// is written. So is `OutOfMemory`, wherever a growth was refused. `Write` is answered only where a
-/// put failed in this call, and a front of the text is then written.
+/// The first that holds of `Table`, `Listing`, `Script`, `NoProcess` and `Audit` is answered before
+/// anything is written. So is `OutOfMemory`, wherever a growth was refused. `Write` is answered
+/// only where a put failed in this call, and a front of the text is then written.
 #[tactic(auto, unfolding(crate::specs::Texts::audit_text))]
 pub fn audit_by<S: Sink>(
     alloc: Global,

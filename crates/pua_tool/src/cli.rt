@@ -80,15 +80,15 @@ fn at_end<E: Sink>(status: u8, flushed: Result<(), PutFault>, err: &mut E) -> u8
 }
 
 /// Does what the words after the program's name ask for: [`perform`], of the command that they say,
-/// or a text about the program, for words alone of which one asks for that. Of words in a plain form
-/// ([`read_words`] says which) the command is the one that they name; which other words are one, and which
-/// are none, is `clap`'s to say and in no contract.
+/// or a text about the program, for words alone of which one asks for that. Of words in a plain
+/// form ([`read_words`] says which) the command is the one that they name; which other words are
+/// one, and which are none, is `clap`'s to say and in no contract.
 ///
 /// It answers the status: [`DONE`] where it is done, [`REFUSED`] where an input was refused,
-/// [`USAGE`] where the words are no command, [`DEVICE`] where a file can't be read or the text can't
-/// be written, and [`MEMORY`] where a growth of memory was refused. Help is asked for by `--help`,
-/// `-h` or `help`, and the version of the program and of its toolchain by `--version` or `-V`; both
-/// go to `out`.
+/// [`USAGE`] where the words are no command, [`DEVICE`] where a file can't be read or the text
+/// can't be written, and [`MEMORY`] where a growth of memory was refused. Help is asked for by
+/// `--help`, `-h` or `help`, and the version of the program and of its toolchain by `--version` or
+/// `-V`; both go to `out`.
 pub fn command<I: Inputs, O: Sink, E: Sink>(
     alloc: Global,
     words: &[&str],

@@ -1,5 +1,5 @@
-//! What stands behind the calls of a line of a list for ever: how many steps a way has to each call that
-//! the list of now lacks.
+//! What stands behind the calls of a line of a list for ever: how many steps a way has to each call
+//! that the list of now lacks.
 
 ghost use Rattle.std.specs.Prelude.{◌≡◌, ◌&&◌, ◌++◌, ◌∷◌, [], IfErr, IfOk, OnOk, Some};
 ghost use Rattle.std.specs.Prelude.{map, not, string_bytes};
@@ -28,8 +28,8 @@ use pua_policy::Process;
 use pua_tree::{FileTree, Name};
 use std::alloc::{AllocError, Global};
 
-/// What a script left, the rules by which its lines are read, and the number of the process whose list it
-/// is.
+/// What a script left, the rules by which its lines are read, and the number of the process whose
+/// list it is.
 #[derive(Clone, Copy)]
 pub(crate) struct Behind<'a> {
     pub(crate) replay: &'a Replay,
@@ -37,8 +37,9 @@ pub(crate) struct Behind<'a> {
     pub(crate) number: u32,
 }
 
-/// The columns of rows, each with the LF at the end of its line. Plans for each call in them are served in
-/// copies of the world that the script left. `OutOfMemory` where a growth was refused, as of all here.
+/// The columns of rows, each with the LF at the end of its line. Plans for each call in them are
+/// served in copies of the world that the script left. `OutOfMemory` where a growth was refused, as
+/// of all here.
 pub(crate) fn columns_of(
     alloc: Global,
     behind: &Behind<'_>,
@@ -116,8 +117,9 @@ fn is_left(calls: Calls, others: Calls, call: Call) -> bool
     calls.contains(call) && !others.contains(call)
 }
 
-/// These calls on what a line at the end of these names is about, in their order, each with the number
-/// of steps of a way to it, or with plans of which none comes to one. Without calls nothing is asked.
+/// These calls on what a line at the end of these names is about, in their order, each with the
+/// number of steps of a way to it, or with plans of which none comes to one. Without calls nothing
+/// is asked.
 fn counts_on(
     alloc: Global,
     behind: &Behind<'_>,
@@ -191,8 +193,8 @@ fn asking_on(alloc: Global, names: &[&Name], thing: EverThing) -> Result<Asking,
     Ok(Asking::Standing(copies))
 }
 
-/// The number of steps of a way to a call on something that is meant; [`NoWay`] exactly where none of the
-/// plans that are laid comes to one.
+/// The number of steps of a way to a call on something that is meant; [`NoWay`] exactly where none
+/// of the plans that are laid comes to one.
 pub(crate) fn steps_to(
     alloc: Global,
     behind: &Behind<'_>,
@@ -215,8 +217,8 @@ pub(crate) fn steps_to(
     }
 }
 
-/// What stands behind the calls of a line: a blank, and calls with the numbers of steps, with commas
-/// between them; and LF. The only error is that a growth was refused.
+/// What stands behind the calls of a line: a blank, and calls with the numbers of steps, with
+/// commas between them; and LF. The only error is that a growth was refused.
 fn text_of(alloc: Global, counts: &[(Call, Result<usize, NoWay>)]) -> Result<String, AllocError>
     ensures { IfOk result (λ text. string_bytes text
         ≡ with_end (counts_text 32 counts.now)) }

@@ -17,17 +17,8 @@ use pua_io::Sink;
 use pua_texts::{answer_text, write_ever_how};
 use std::alloc::Global;
 
-/// Writes the list for ever of a process as [`ever_to`](crate::ever_to) does, and behind the calls of
-/// each line that has calls which the list of now lacks on what the line is about a blank and these
-/// calls in their order, with commas between them, each with a blank and the number of steps of a way
-/// to it on what the line's path and kind mean, as [`how_to`](crate::how_to) writes one; or `?`, where
-/// none was found. Each plan is served in a copy of the world that the script left.
-///
-/// The first that holds of `Table`, `Listing`, `Script`, `NoProcess`, `CanUnveil`, `LacksC`,
-/// `RenameLacksC` and `LinkLacksC` is answered before anything is written. So is `OutOfMemory`,
-/// wherever a growth was refused. `Write` is answered only where a put failed in this call, and a
-/// front of the text is then written.
-pub fn ever_how_to<S: Sink>(
+/// Writes the list for ever of a process with the number of steps of ways.
+pub(crate) fn ever_how_to<S: Sink>(
     alloc: Global,
     tree_bytes: &[u8],
     script_bytes: &[u8],
@@ -50,8 +41,8 @@ pub fn ever_how_to<S: Sink>(
     written
 }
 
-/// Writes the answers of a script, and then the list for ever of the process where the script ends, with
-/// its columns. Every fault but `Write` is answered before anything is written.
+/// Writes the answers of a script, and then the list for ever of the process where the script ends,
+/// with its columns. Every fault but `Write` is answered before anything is written.
 fn list_to<S: Sink>(alloc: Global, behind: &Behind<'_>, sink: &mut S) -> Result<(), ToolFault>
     ensures { (answer : Result (List ℕ) ToolFault)
         × IsEverHowAfter behind.now.rules (done_behind behind.now) behind.now.number answer

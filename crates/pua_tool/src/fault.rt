@@ -1,5 +1,5 @@
-//! Why runs, audits, lists of objects, ways and tightened scripts are refused, each with the line that
-//! reports it.
+//! Why runs, audits, lists of objects, ways and tightened scripts are refused, each with the line
+//! that reports it.
 
 ghost use Rattle.std.specs.Prelude.{◌≡◌, ◌++◌, codes};
 ghost use Rattle.pua_tool.specs.FaultTexts.{blame_line, fault_line, place_line, row_line};
@@ -17,7 +17,8 @@ use std::alloc::{AllocError, AllocFailed};
 use std::fmt;
 
 /// Why the text of a run, of an audit, of a list of objects, of now or for ever, of a way, or of a
-/// tightened script was not written, or not whole. It is displayed as the line that the program prints.
+/// tightened script was not written, or not whole. It is displayed as the line that the program
+/// prints.
 #[derive(Clone, Copy, Debug, PartialEq, Eq)]
 pub enum ToolFault {
     /// The tree's bytes are no listing.
@@ -36,25 +37,32 @@ pub enum ToolFault {
     OutOfMemory,
     /// The table's bytes give no table of calls.
     Table(TableFault),
-    /// There is no list for ever of the process with this number, which can still put veils: it is not
-    /// locked, and has the promise `unveil`.
+    /// There is no list for ever of the process with this number, which can still put veils: it is
+    /// not locked, and has the promise `unveil`.
     CanUnveil(u32),
-    /// There is no list for ever by a table by which this call, one that makes a name or takes one away,
-    /// does not need `c`.
+    /// There is no list for ever by a table by which this call, one that makes a name or takes one
+    /// away, does not need `c`.
     LacksC(Call),
     /// The same of rename(2), by one of its two names.
     RenameLacksC,
     /// The same of link(2), by its new name.
     LinkLacksC,
-    /// There is no list of what the processes with these numbers can ever touch together: the second
-    /// has a veil on another place than the first, or other letters at one.
+    /// There is no list of what the processes with these numbers can ever touch together: the
+    /// second has a veil on another place than the first, or other letters at one.
     OtherVeils(u32, u32),
+    /// There is no list for ever with what lets calls through: of where a thing can come to stand
+    /// it is not told.
+    EverWhy,
+    /// There is no list of now with ways: each of its calls comes in one step.
+    NowHow,
+    /// There is no list for ever of several processes with ways, since a way is of one.
+    SeveralHow,
     /// What a way is asked for is none of the calls on one path.
     HowCall,
     /// Where it is to lead is no path as a list for ever prints it.
     HowPath,
-    /// A name before the last one of the path is no directory's, or nothing there is of the kind that was
-    /// asked for.
+    /// A name before the last one of the path is no directory's, or nothing there is of the kind
+    /// that was asked for.
     HowThing,
     /// A link is meant, and this call is on what a link leads to, never on the link.
     HowLink(Call),
@@ -129,6 +137,9 @@ impl ToolFault {
                 let rest = " have other veils";
                 five("pua: processes ", first, " and ", other, rest)
             }
+            ToolFault::EverWhy => one("pua: objects: no list for ever with --why"),
+            ToolFault::NowHow => one("pua: objects: no list of now with --how"),
+            ToolFault::SeveralHow => one("pua: objects: no list of several with --how"),
             ToolFault::HowCall => one("pua: how: bad call"),
             ToolFault::HowPath => one("pua: how: bad path"),
             ToolFault::HowThing => one("pua: how: no such thing"),

@@ -20,7 +20,7 @@ use crate::objects::put_text;
 use crate::script::{Replay, replay_script};
 use crate::table::TableChoice;
 use pua_calls::{Call, CallTable, Rules};
-use pua_ever::{ExecBound, both_of, why_refused};
+use pua_ever::{ExecBound, both_of, list_lasting, why_refused};
 use pua_how::{Asking, Meant, NoWay, Outlook, Planner, Target, WayLine, find_meant, find_outlook};
 use pua_io::Sink;
 use pua_path::Last;
@@ -30,19 +30,20 @@ use pua_words::HowWords;
 use std::alloc::{AllocError, Global};
 
 /// Writes a way by which a process comes to a call on something, where the script has been served:
-/// lines of a script, each of this process, each answered `ok` behind the script and the lines before
-/// it, none an exec but the last one, which is the call, on a path that leads to what was asked about
-/// wherever that is then. What is asked about is what a line of the list for ever is about, by the path
-/// that the line has: what stands there, by any of its names, or the missing name; where several are
-/// meant, any of them, or that of the kind that is given. Without a way it writes one line: `never`,
-/// where no line of the list for ever about it has the call, and so none ever comes;
-/// `never before an exec`, where the list holds until a program is started; or `no way found`, where a
-/// line has the call, and none of the plans that were laid comes to it, which says nothing of other ways.
+/// lines of a script, each of this process, each answered `ok` behind the script and the lines
+/// before it, none an exec but the last one, which is the call, on a path that leads to what was
+/// asked about wherever that is then. What is asked about is what a line of the list for ever is
+/// about, by the path that the line has: what stands there, by any of its names, or the missing
+/// name; where several are meant, any of them, or that of the kind that is given. Without a way it
+/// writes one line: `never`, where no line of the list for ever about it has the call, and so none
+/// ever comes; `never before an exec`, where the list holds until a program is started; or `no way
+/// found`, where a line has the call, and none of the plans that were laid comes to it, which says
+/// nothing of other ways.
 ///
 /// The first that holds of `Table`, `Listing`, `Script`, `NoProcess`, `CanUnveil`, `LacksC`,
 /// `RenameLacksC`, `LinkLacksC`, `HowCall`, `HowPath`, `HowThing` and `HowLink` is answered before
-/// anything is written. So is `OutOfMemory`, wherever a growth was refused. `Write` is answered only
-/// where a put failed in this call, and a front of the text is then written.
+/// anything is written. So is `OutOfMemory`, wherever a growth was refused. `Write` is answered
+/// only where a put failed in this call, and a front of the text is then written.
 pub fn how_to<S: Sink>(
     alloc: Global,
     tree_bytes: &[u8],
@@ -170,8 +171,8 @@ fn meant_by<T: FileTree>(
     Ok(meant)
 }
 
-/// Whether a link is meant and the call is on what a link leads to. What stands at a name is the first that
-/// may be meant by it.
+/// Whether a link is meant and the call is on what a link leads to. What stands at a name is the
+/// first that may be meant by it.
 fn follows_link<T: FileTree>(tree: &T, call: Call, things: &[Target]) -> bool
     ensures { result ≡ is_link_followed (T.content tree.now) call things.now }
 {
@@ -197,17 +198,16 @@ fn outlook_of<T: FileTree>(
     ensures memory { IfErr result (λ fault. fault ≡ ToolFault.OutOfMemory) }
     ensures unwritten { IfErr result (λ fault. fault ≢ ToolFault.Write) }
 {
-    let Ok(both) = both_of(alloc, process, table) else {
+    let both = both_of(alloc, process, table)?;
+    let Ok(list) = list_lasting(alloc, tree, process, both.as_ref(), table) else {
         return Err(ToolFault::OutOfMemory);
     };
-    let Ok(outlook) = find_outlook(alloc, tree, process, both.as_ref(), table, things, call) else {
-        return Err(ToolFault::OutOfMemory);
-    };
-    Ok(outlook)
+    Ok(find_outlook(tree, &list, things, call))
 }
 
-/// A way to what is asked about, behind the script; [`NoWay`] exactly where none of the plans that are laid
-/// is one. `NoProcess` where the process was never made, and `OutOfMemory` where a growth was refused.
+/// A way to what is asked about, behind the script; [`NoWay`] exactly where none of the plans that
+/// are laid is one. `NoProcess` where the process was never made, and `OutOfMemory` where a growth
+/// was refused.
 pub(crate) fn find(
     alloc: Global,
     replay: &Replay,

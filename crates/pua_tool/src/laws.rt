@@ -59,9 +59,10 @@ pub fn confined()
     ensures rules { RulesNarrow }
 {}
 
-/// Where there is a text of a list of objects of a process, it is the answers and the list of the process, each line of which stands
-/// in it; and whatever path is spelled, if a call is allowed on it, what it names has a line with the call.
-/// And each call of each line is allowed on the line's own path, or on that of each further name.
+/// Where there is a text of a list of objects of a process, it is the answers and the list of the
+/// process, each line of which stands in it; and whatever path is spelled, if a call is allowed on
+/// it, what it names has a line with the call. And each call of each line is allowed on the line's
+/// own path, or on that of each further name.
 pub fn objects_text_law()
     ensures { ObjectsAsWritten }
 {
@@ -69,52 +70,59 @@ pub fn objects_text_law()
     soundness_law();
 }
 
-/// Where there is a text of a list for ever, it is the answers and the list of the process, which is complete: whatever is
-/// asked behind the script, as long as nobody else changes the tree, and all that the family starts is bounded or no exec of
-/// theirs succeeds.
+/// Where there is a text of a list for ever, it is the answers and the list of the process, which
+/// is complete: whatever is asked behind the script, as long as nobody else changes the tree, and
+/// all that the family starts is bounded or no exec of theirs succeeds.
 pub fn ever_text_law()
     ensures { EverAsWritten }
 {}
 
-/// Where there is a text of a list for ever of several processes, it is the answers, their states and the list of the one that stands
-/// for those that live, which is complete: whatever these and what they fork ask for, as long as nobody else changes the tree, and all
-/// that they start is bounded or no exec of theirs succeeds, each call that is then allowed to one of them has a line in the text.
+/// Where there is a text of a list for ever of several processes, it is the answers, their states
+/// and the list of the one that stands for those that live, which is complete: whatever these and
+/// what they fork ask for, as long as nobody else changes the tree, and all that they start is
+/// bounded or no exec of theirs succeeds, each call that is then allowed to one of them has a line
+/// in the text.
 pub fn together_text_law()
     ensures { TogetherAsWritten }
 {
     together_law();
 }
 
-/// Where there is a text of a run with reasons, or of the list of a process with them, each line's reason is so: its answer follows
-/// from it, what it says holds of the world behind the lines before, and since the line that it names the same request had the same
-/// reason, and just before it another. In the list each line has the promises on which its calls rest, which are held, the veil that
-/// covers it, and the line since which that veil has its letters. What is told to lack is exactly what still lacked.
+/// Where there is a text of a run with reasons, or of the list of a process with them, each line's
+/// reason is so: its answer follows from it, what it says holds of the world behind the lines
+/// before, and since the line that it names the same request had the same reason, and just before
+/// it another. In the list each line has the promises on which its calls rest, which are held, the
+/// veil that covers it, and the line since which that veil has its letters. What is told to lack is
+/// exactly what still lacked.
 #[tactic(auto, using(crate::proofs::Reasoned::reasons_as_written))]
 pub fn reasons_text_law()
     ensures { ReasonsAsWritten }
 {}
 
-/// Where the text of a way says `never`, or `never before an exec`, the call is allowed to no member of the process's family on anything
-/// that is meant, by whatever path from wherever: whatever is asked behind the script, as long as nobody else changes the tree; and where
-/// it says the latter, as long as no exec of theirs succeeds.
+/// Where the text of a way says `never`, or `never before an exec`, the call is allowed to no
+/// member of the process's family on anything that is meant, by whatever path from wherever:
+/// whatever is asked behind the script, as long as nobody else changes the tree; and where it says
+/// the latter, as long as no exec of theirs succeeds.
 #[tactic(auto, using(crate::proofs::Never::never_as_written))]
 pub fn never_text_law()
     ensures { NeverAsWritten }
 {}
 
-/// Where there is a text of a tightened script, it is a script again, the given one but for words that were left out: its run has
-/// the same text, each process may do no more, and without any one word more some line is answered otherwise. Where each request
-/// rests on one set of promises, whatever else is left out so that all is answered as before has all that it has: by the rules
-/// alone, without a table's rows, by the standard ones of every script, by OpenBSD's of every script without chown and
-/// fchown.
+/// Where there is a text of a tightened script, it is a script again, the given one but for words
+/// that were left out: its run has the same text, each process may do no more, and without any one
+/// word more some line is answered otherwise. Where each request rests on one set of promises,
+/// whatever else is left out so that all is answered as before has all that it has: by the rules
+/// alone, without a table's rows, by the standard ones of every script, by OpenBSD's of every
+/// script without chown and fchown.
 #[tactic(auto, using(crate::proofs::Fewest::tight_as_written))]
 pub fn tight_text_law()
     ensures { TightAsWritten }
 {}
 
-/// What `narrowing`, `confined`, and the laws of texts say of what processes keep is so of histories: wherever a
-/// script ends, what a process keeps is what is left of its history, by a replay that keeps the events of each
-/// process. So a reader who believes histories alone has each of them, word by word.
+/// What `narrowing`, `confined`, and the laws of texts say of what processes keep is so of
+/// histories: wherever a script ends, what a process keeps is what is left of its history, by a
+/// replay that keeps the events of each process. So a reader who believes histories alone has each
+/// of them, word by word.
 pub fn headline_law()
     ensures { IsOfHistories }
 {

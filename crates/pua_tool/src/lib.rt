@@ -1,5 +1,5 @@
-//! Whole texts of runs, of audits, of lists of objects, of now and for ever, of ways, and of tightened
-//! scripts, or what refuses them, and the whole program as a function over its inputs.
+//! Whole texts of runs, of audits, of lists of objects, of now and for ever, of ways, and of
+//! tightened scripts, or what refuses them, and the whole program as a function over its inputs.
 #![tactic(auto)]
 
 mod acting;
@@ -14,6 +14,7 @@ mod how;
 mod job;
 mod laws;
 mod line;
+mod lists;
 mod now;
 mod objects;
 mod objects_why;
@@ -33,8 +34,6 @@ mod why;
 
 pub use audit::{audit_by, audit_to};
 pub use cli::{command, program};
-pub use ever::ever_to;
-pub use ever_how::ever_how_to;
 pub use fault::ToolFault;
 pub use how::how_to;
 pub use job::Job;
@@ -43,16 +42,14 @@ pub use laws::{
     objects_text_law, reasons_text_law, text_examples, tight_text_law, together_text_law,
     trees_alike,
 };
-pub use objects::objects_to;
-pub use objects_why::objects_why_to;
+pub use lists::list_to;
 pub use pua_io::{
     DiskInputs, InputFault, Inputs, MOST_INPUT_BYTES, MemoryInputs, MemorySink, PutFault,
     ReadFault, ReadSource, Sink, Source, StreamSink, put_all, read_bytes, read_file,
 };
 pub use pua_texts::state_law;
 pub use pua_words::{
-    AuditWords, Command, EverWords, HowWords, Members, ObjectWords, Processes, Text, TogetherWords,
-    UsageLine, WhyWords,
+    AuditWords, Columns, Command, HowWords, ListWords, Processes, Span, Text, UsageLine, WhyWords,
 };
 pub use run::{run_by, run_to};
 pub use run_why::run_why_to;
@@ -61,5 +58,4 @@ pub use status::{DEVICE, DONE, MEMORY, REFUSED, USAGE};
 pub use table::TableChoice;
 pub use tight::tight_to;
 pub use tight_why::tight_why_to;
-pub use together::together_to;
 pub use why::why_to;

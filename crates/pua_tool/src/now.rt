@@ -24,8 +24,8 @@ use pua_path::{Counted, Found, Way};
 use pua_policy::{Object, Process, judge};
 use pua_tree::{FileTree, Kind, Name, NodeId};
 
-/// The calls on what a line at the end of these names is about, as the list of now has them: none on what
-/// is still to be made, nor on a name at which something stands, once that is taken away.
+/// The calls on what a line at the end of these names is about, as the list of now has them: none
+/// on what is still to be made, nor on a name at which something stands, once that is taken away.
 pub(crate) fn calls_now<T: FileTree>(
     tree: &T,
     process: &Process,
@@ -195,7 +195,8 @@ fn object_on<T: FileTree>(tree: &T, subject: &Subject<'_>, found: &Found) -> Obj
     }
 }
 
-/// An object that is covered as what a line is about: that itself, or the directory of further names.
+/// An object that is covered as what a line is about: that itself, or the directory of further
+/// names.
 fn found_for<T: FileTree>(tree: &T, subject: &Subject<'_>) -> Found
     ensures { result
         ≡ is_found_for (subject_given (T.content tree.now) subject.now) }

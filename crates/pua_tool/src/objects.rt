@@ -1,10 +1,11 @@
 //! The text of the lists of processes.
 
-ghost use Rattle.std.specs.Prelude.{◌≡◌, ◌≢◌, ℕ, List, Option, Ok, Err, IfOk, IfErr};
+ghost use Rattle.std.specs.Prelude.{◌≡◌, ◌≢◌, ℕ, List, Option, Ok, Err, IfOk, IfErr, is_some};
+ghost use Rattle.std.specs.List.{list_all};
+ghost use Rattle.pua_script.specs.Replay.{kept_at};
 ghost use Rattle.pua_script.specs.Worlds.{world_of};
-ghost use Rattle.pua_words.specs.declared.command.Processes.TheVariants as which;
-ghost use Rattle.pua_tool.specs.ObjectTexts.{lists_asked, numbers_asked, objects_text};
 ghost use Rattle.pua_texts.specs.Tells.{Tells};
+ghost use Rattle.pua_tool.specs.ObjectTexts.{lists_asked, numbers_asked, numbers_made, objects_text};
 ghost use Rattle.pua_tool.specs.Begun.{as_replayed};
 ghost use Rattle.pua_tool.specs.Answers.{Answers, AnswersTo};
 ghost use Rattle.pua_tool.specs.Texts.{choice_of};
@@ -16,62 +17,44 @@ use pua_calls::Rules;
 use pua_io::{Sink, put_all};
 use pua_script::World;
 use pua_texts::{TextFault, answer_text, write_lists};
-use pua_tree::{FileTree, OutOfMemory};
+use pua_tree::FileTree;
 use pua_words::Processes;
 use std::alloc::Global;
 
-/// Writes the lists of processes, of one or of all that were ever made, in the order of their numbers:
-/// for each line of the script its number and what it was answered, then for each process `objects P`,
-/// the lines of its state where the script ends, and a line `KIND PATH CALLS` for each object on which
-/// a call is allowed, each once: a directory, its further names, then what has or could have a name in
-/// it by the bytes of the names, each directory followed by what is below it. Paths begin at the root
-/// and may have any length.
-///
-/// The state of a process that has ended is `process ended`, and it has no objects. Otherwise it is
-/// `process alive`; `rules openbsd` where the rules that are chosen are those; `promises` and
-/// `execpromises` with the keywords, `=` for none, and `-` where no pledge gave any; `unveil` with
-/// `locked`, with `given-up` where it isn't locked and lacks the promise `unveil`, or with `open`; by
-/// OpenBSD's rules `opening PATH CALLS` for each path that a promise opens by itself, with `veils`
-/// behind it where the veils are asked for it; and for each veil that is kept, in the order in which
-/// their places were first kept, `veil PATH LETTERS`: where its place stands now, `-` where its
-/// directory was removed, and its letters, `=` for none; or `no veils`. What a call needs is said by the
-/// table of calls that is chosen.
-///
-/// The first that holds of `Table`, `Listing`, `Script` and `NoProcess` is answered before anything is
-/// written. So is `OutOfMemory`, wherever a growth was refused. `Write` is answered only where a put
-/// failed in this call, and a front of the text is then written.
+/// Writes the lists of processes, of one, of several, or of all that were ever made, one after
+/// another.
 #[tactic(auto, unfolding(crate::specs::ObjectTexts::objects_text))]
-pub fn objects_to<S: Sink>(
+pub(crate) fn objects_to<S: Sink>(
     alloc: Global,
     tree_bytes: &[u8],
     script_bytes: &[u8],
     table: TableChoice<'_>,
-    processes: Processes,
+    whose: &Processes,
     sink: &mut S,
 ) -> Result<(), ToolFault>
     ensures text { AnswersTo S.written S.failed
-        (objects_text (choice_of table.entry) tree_bytes.now script_bytes.now processes)
+        (objects_text (choice_of table.entry) tree_bytes.now script_bytes.now whose.now)
         result sink.old sink.new }
 {
     let replay = replay_script(alloc, tree_bytes, script_bytes, table)?;
-    let written = asked_to(alloc, &replay, table.rules, processes, sink);
+    let written = asked_to(alloc, &replay, table.rules, whose, sink);
     replay.release();
     written
 }
 
-/// Writes the answers of a script, and then the lists of the processes that are asked for, where the
-/// script ends. Every fault but `Write` is answered before anything is written.
+/// Writes the answers of a script, and then the lists of the processes that are asked for, where
+/// the script ends. Every fault but `Write` is answered before anything is written.
 fn asked_to<S: Sink>(
     alloc: Global,
     replay: &Replay,
     rules: Rules,
-    processes: Processes,
+    whose: &Processes,
     sink: &mut S,
 ) -> Result<(), ToolFault>
     ensures { AnswersTo S.written S.failed
-        (lists_asked rules (as_replayed replay.now) processes) result sink.old sink.new }
+        (lists_asked rules (as_replayed replay.now) whose.now) result sink.old sink.new }
 {
-    let numbers = numbers_of(alloc, &replay.world, processes)?;
+    let numbers = numbers_of(alloc, &replay.world, whose)?;
     let Ok(front) = answer_text(alloc, replay.answers.as_slice()) else {
         return Err(ToolFault::OutOfMemory);
     };
@@ -85,47 +68,53 @@ fn asked_to<S: Sink>(
     ))
 }
 
-/// The numbers of the processes that are asked for: `NoProcess` where the one that is named was never
+/// The numbers of the processes that are asked for: `NoProcess` where one that is named was never
 /// made. The only other fault is `OutOfMemory`, where a growth was refused.
 pub(crate) fn numbers_of<T: FileTree>(
     alloc: Global,
     world: &World<T>,
-    processes: Processes,
+    whose: &Processes,
 ) -> Result<Vec<u32>, ToolFault>
     ensures asked { IfOk result (λ numbers.
-        numbers_asked (world_of world.now) processes ≡ Ok numbers.items) }
+        numbers_asked (world_of world.now) whose.now ≡ Ok numbers.items) }
     ensures refused { IfErr result (λ fault. fault ≢ ToolFault.OutOfMemory →
-        numbers_asked (world_of world.now) processes ≡ Err fault) }
+        numbers_asked (world_of world.now) whose.now ≡ Err fault) }
     ensures unwritten { IfErr result (λ fault. fault ≢ ToolFault.Write) }
 {
-    match processes {
-        Processes::One(number) => one_number(alloc, world, number),
-        Processes::All => match world.numbers(alloc) {
-            Ok(numbers) => Ok(numbers),
-            Err(OutOfMemory) => Err(ToolFault::OutOfMemory),
-        },
+    match whose {
+        Processes::One(number) => numbers_made(alloc, world, &[*number]),
+        Processes::Named(numbers) => numbers_made(alloc, world, numbers.as_slice()),
+        Processes::All => Ok(world.numbers(alloc)?),
     }
 }
 
-/// The number of a process that was made.
-fn one_number<T: FileTree>(
+/// These numbers, where all were made.
+fn numbers_made<T: FileTree>(
     alloc: Global,
     world: &World<T>,
-    number: u32,
+    numbers: &[u32],
 ) -> Result<Vec<u32>, ToolFault>
-    ensures asked { IfOk result (λ numbers.
-        numbers_asked (world_of world.now) (which.One number) ≡ Ok numbers.items) }
+    ensures asked { IfOk result (λ made.
+        numbers_made (world_of world.now) numbers.now ≡ Ok made.items) }
     ensures refused { IfErr result (λ fault. fault ≢ ToolFault.OutOfMemory →
-        numbers_asked (world_of world.now) (which.One number) ≡ Err fault) }
+        numbers_made (world_of world.now) numbers.now ≡ Err fault) }
     ensures unwritten { IfErr result (λ fault. fault ≢ ToolFault.Write) }
 {
-    if world.process(number).is_none() {
+    if !are_made(world, numbers) {
         return Err(ToolFault::NoProcess);
     }
-    let Ok(numbers) = vec![in alloc; number] else {
-        return Err(ToolFault::OutOfMemory);
-    };
-    Ok(numbers)
+    let mut made = Vec::new(alloc);
+    made.extend_from_slice(numbers)?;
+    Ok(made)
+}
+
+/// Whether the processes with these numbers were all made.
+fn are_made<T: FileTree>(world: &World<T>, numbers: &[u32]) -> bool
+    ensures { result ≡ list_all (λ n. is_some (kept_at (world_of world.now) n)) numbers.now }
+{
+    numbers
+        .iter()
+        .all(|number| world.process(*number).is_some())
 }
 
 /// What the writing of a text left, as the tool reports it.

@@ -20,63 +20,48 @@ use pua_texts::{TextFault, write_why_lists};
 use pua_words::Processes;
 use std::alloc::Global;
 
-/// Writes the lists of processes with reasons: what [`objects_to`](crate::objects_to) writes, with the
-/// answers as [`run_why_to`](crate::run_why_to) has them, and behind each object's line
-/// `PROMISES PLACE LETTERS LINE`: the promises on which its calls rest, of each call the first set that
-/// is held, `=` for none; and of the veil that covers it where it is, its letters, `=` for none, and
-/// since which line it has them there; three times `-` where the process has no veils.
-///
-/// The first that holds of `Table`, `Listing`, `Script` and `NoProcess` is answered before anything is
-/// written. So is `OutOfMemory`, wherever a growth was refused. `Write` is answered only where a put
-/// failed in this call, and a front of the text is then written.
+/// Writes the lists of processes with reasons, one after another.
 #[tactic(auto, unfolding(crate::specs::WhyTexts::objects_why_text))]
-pub fn objects_why_to<S: Sink>(
+pub(crate) fn objects_why_to<S: Sink>(
     alloc: Global,
     tree_bytes: &[u8],
     script_bytes: &[u8],
     table: TableChoice<'_>,
-    processes: Processes,
+    whose: &Processes,
     sink: &mut S,
 ) -> Result<(), ToolFault>
     ensures text { AnswersTo S.written S.failed
-        (objects_why_text (choice_of table.entry) tree_bytes.now script_bytes.now processes)
+        (objects_why_text (choice_of table.entry) tree_bytes.now script_bytes.now whose.now)
         result sink.old sink.new }
 {
     let mut posed = pose(alloc, tree_bytes, script_bytes, table)?;
-    let written = write_asked(
-        alloc,
-        script_bytes,
-        &mut posed,
-        table.rules,
-        processes,
-        sink,
-    );
+    let written = write_asked(alloc, script_bytes, &mut posed, table.rules, whose, sink);
     posed.release();
     written
 }
 
-/// Writes the lines of a script with reasons, and then the lists of the processes that are asked for.
-/// Every fault but `Write` is answered before anything is written.
+/// Writes the lines of a script with reasons, and then the lists of the processes that are asked
+/// for. Every fault but `Write` is answered before anything is written.
 fn write_asked<S: Sink>(
     alloc: Global,
     script_bytes: &[u8],
     posed: &mut Posed,
     rules: Rules,
-    processes: Processes,
+    whose: &Processes,
     sink: &mut S,
 ) -> Result<(), ToolFault>
     ensures { script_by rules script_bytes.now ≡ Ok posed.old.script → IsPosed posed.old →
-        AnswersTo S.written S.failed (why_lists_asked rules (as_asking posed.old) processes)
+        AnswersTo S.written S.failed (why_lists_asked rules (as_asking posed.old) whose.now)
         result sink.old sink.new }
 {
-    let numbers = numbers_of(alloc, &posed.after, processes)?;
+    let numbers = numbers_of(alloc, &posed.after, whose)?;
     let numbers = numbers.as_slice();
     told(write_all(alloc, script_bytes, posed, rules, numbers, sink))
 }
 
-/// Writes the lines of a script with reasons, and then the lists of these processes. `OutOfMemory` where
-/// a growth was refused, before anything is written. `Write` only where a put failed in this call, after
-/// a front of the text.
+/// Writes the lines of a script with reasons, and then the lists of these processes. `OutOfMemory`
+/// where a growth was refused, before anything is written. `Write` only where a put failed in this
+/// call, after a front of the text.
 fn write_all<S: Sink>(
     alloc: Global,
     script_bytes: &[u8],

@@ -17,8 +17,8 @@ use pua_script::{Answer, Script, World};
 use pua_tree::{CopiedTree, OutOfMemory};
 use std::alloc::Global;
 
-/// A script, what its lines were answered, and the worlds before and after it. The listing is read once,
-/// and the second world has a copy of the first one's tree.
+/// A script, what its lines were answered, and the worlds before and after it. The listing is read
+/// once, and the second world has a copy of the first one's tree.
 #[derive(Drop)]
 pub(crate) struct Posed {
     pub(crate) script: Script,
@@ -35,9 +35,9 @@ impl Posed {
     }
 }
 
-/// Serves a script over the tree of a listing, by the table that is chosen, and keeps the world before
-/// it too; or answers the first fault: the table's, the listing's, or the script's. `OutOfMemory` where
-/// a growth was refused.
+/// Serves a script over the tree of a listing, by the table that is chosen, and keeps the world
+/// before it too; or answers the first fault: the table's, the listing's, or the script's.
+/// `OutOfMemory` where a growth was refused.
 pub(crate) fn pose(
     alloc: Global,
     tree_bytes: &[u8],
@@ -97,7 +97,8 @@ fn world_over(
     World::new(alloc, copy, table)
 }
 
-/// Serves requests in the second of two worlds that are alike. `OutOfMemory` where a growth was refused.
+/// Serves requests in the second of two worlds that are alike. `OutOfMemory` where a growth was
+/// refused.
 fn serve(
     alloc: Global,
     requests: Script,

@@ -1,5 +1,5 @@
-//! Wrong bodies of functions that no other crate calls: each claim meets what such a body would answer,
-//! and is proved never to, by the contracts of what it calls.
+//! Wrong bodies of functions that no other crate calls: each claim meets what such a body would
+//! answer, and is proved never to, by the contracts of what it calls.
 
 use crate::columns::{Behind, steps_to};
 use crate::how::{Question, find};
@@ -8,8 +8,8 @@ use pua_calls::{Call, Rules};
 use pua_how::{Meant, Planner};
 use std::alloc::Global;
 
-/// Where memory was refused, plans may come to a way: of those that were served before `no way found` is
-/// told, none does when it is served again.
+/// Where memory was refused, plans may come to a way: of those that were served before `no way
+/// found` is told, none does when it is served again.
 fn no_way_found_for_want_of_memory(
     alloc: Global,
     replay: &Replay,

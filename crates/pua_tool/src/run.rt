@@ -34,12 +34,12 @@ pub fn run_to<S: Sink>(
 }
 
 /// Writes the text of a run: for each line of the script its number and what it was answered, where
-/// all lines are served one after another over the tree of the listing. What a call needs is said by
-/// the table of calls that is chosen.
+/// all lines are served one after another over the tree of the listing. What a call needs is said
+/// by the table of calls that is chosen.
 ///
-/// The first that holds of `Table`, `Listing` and `Script` is answered before anything is written. So is
-/// `OutOfMemory`, wherever a growth was refused. `Write` is answered only where a put failed in this
-/// call, and a front of the text is then written.
+/// The first that holds of `Table`, `Listing` and `Script` is answered before anything is written.
+/// So is `OutOfMemory`, wherever a growth was refused. `Write` is answered only where a put failed
+/// in this call, and a front of the text is then written.
 pub fn run_by<S: Sink>(
     alloc: Global,
     tree_bytes: &[u8],
@@ -55,8 +55,8 @@ pub fn run_by<S: Sink>(
     put_text(text.as_str(), sink)
 }
 
-/// The text of a run, or the first fault: the table's, the listing's, or the script's. `OutOfMemory`
-/// where a growth was refused.
+/// The text of a run, or the first fault: the table's, the listing's, or the script's.
+/// `OutOfMemory` where a growth was refused.
 fn text_of(
     alloc: Global,
     tree_bytes: &[u8],

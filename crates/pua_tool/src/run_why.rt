@@ -17,16 +17,17 @@ use pua_since::reason_text;
 use pua_tree::OutOfMemory;
 use std::alloc::Global;
 
-/// Writes the text of a run with reasons: what [`run_by`](crate::run_by) writes, and in each line whose
-/// answer is not `ok` behind it a blank and the reason, and then ` since line M`, if it was not so from
-/// the start: before line M of the script the same request would have had another reason, after it and
-/// after each later line before this one it would have had this one. A process asked by its parent
-/// before the fork that made it. By OpenBSD's rules `, a kernel opens it by PROMISE` stands at the end of
-/// the line, where a promise that the process holds opens the path by itself, and nothing else refuses it.
+/// Writes the text of a run with reasons: what [`run_by`](crate::run_by) writes, and in each line
+/// whose answer is not `ok` behind it a blank and the reason, and then ` since line M`, if it was
+/// not so from the start: before line M of the script the same request would have had another
+/// reason, after it and after each later line before this one it would have had this one. A process
+/// asked by its parent before the fork that made it. By OpenBSD's rules `, a kernel opens it by
+/// PROMISE` stands at the end of the line, where a promise that the process holds opens the path by
+/// itself, and nothing else refuses it.
 ///
-/// The first that holds of `Table`, `Listing` and `Script` is answered before anything is written. So is
-/// `OutOfMemory`, wherever a growth was refused. `Write` is answered only where a put failed in this
-/// call, and a front of the text is then written.
+/// The first that holds of `Table`, `Listing` and `Script` is answered before anything is written.
+/// So is `OutOfMemory`, wherever a growth was refused. `Write` is answered only where a put failed
+/// in this call, and a front of the text is then written.
 pub fn run_why_to<S: Sink>(
     alloc: Global,
     tree_bytes: &[u8],

@@ -32,8 +32,8 @@ impl Replay {
     }
 }
 
-/// Gives back the memory of a world: one call, where the world's drop would else be walked and proved at each
-/// exit behind it.
+/// Gives back the memory of a world: one call, where the world's drop would else be walked and
+/// proved at each exit behind it.
 pub(crate) fn release(world: World<ProgramTree>) {}
 
 /// Serves a script over the tree of a listing, by the table that is chosen, or
@@ -58,8 +58,8 @@ pub(crate) fn replay_script(
     replay_over(alloc, tree, table, rules, script_bytes)
 }
 
-/// Serves a script that is read by these rules over a tree, by a table, or answers the script's fault.
-/// `OutOfMemory` where a growth was refused.
+/// Serves a script that is read by these rules over a tree, by a table, or answers the script's
+/// fault. `OutOfMemory` where a growth was refused.
 fn replay_over(
     alloc: Global,
     tree: ProgramTree,

@@ -13,13 +13,10 @@ ghost use Rattle.pua_tool.specs.Told.{IsFaultTold};
 ghost use Rattle.pua_tool.specs.declared.outcome.CommandFault.{CommandFault};
 
 use crate::audit::audit_by;
-use crate::ever::ever_to;
-use crate::ever_how::ever_how_to;
 use crate::fault::ToolFault;
 use crate::how::how_to;
 use crate::job::job_of;
-use crate::objects::objects_to;
-use crate::objects_why::objects_why_to;
+use crate::lists::list_to;
 use crate::outcome::{CommandFault, finish};
 use crate::run::run_by;
 use crate::run_why::run_why_to;
@@ -27,27 +24,27 @@ use crate::status::{DEVICE, DONE, MEMORY, REFUSED, USAGE};
 use crate::table::TableChoice;
 use crate::tight::tight_to;
 use crate::tight_why::tight_why_to;
-use crate::together::together_to;
 use crate::why::why_to;
 use pua_calls::Rules;
 use pua_io::{InputFault, Inputs, Sink};
 use pua_words::{Command, Text};
 use std::alloc::Global;
 
-/// Does what a command asks for: the text of a run, of an audit, of a list of objects, of now or for
-/// ever, of a way, or of a tightened script goes to `out`, and of a fault one line goes to `err`, which
-/// is dropped where it can't be written. The inputs are taken, first the tree's, then the script's, then
-/// the table's where one is named, before any of them is read as a listing, a script or a table; none
-/// behind one that can't be taken, and no others.
+/// Does what a command asks for: the text of a run, of an audit, of a list of objects, of now or
+/// for ever, of a way, or of a tightened script goes to `out`, and of a fault one line goes to
+/// `err`, which is dropped where it can't be written. The inputs are taken, first the tree's, then
+/// the script's, then the table's where one is named, before any of them is read as a listing, a
+/// script or a table; none behind one that can't be taken, and no others.
 ///
 /// It answers the status. [`DONE`]: the text that is asked for, of the bytes that the inputs hold
 /// under the command's names, was written, and nothing to `err`; of a way it is one of several, as
 /// which one is found is in no contract. [`REFUSED`]: these bytes, or what the audit or the way is
-/// asked for, are refused. [`DEVICE`]: an input is missing, and nothing was written; or a put failed,
-/// and a front of the text was written. [`MEMORY`]: a growth of memory was refused. After [`REFUSED`]
-/// and [`MEMORY`] nothing was written. After each but [`DONE`] the line of what stopped it went to
-/// `err`: all of it, or a front of it before a put that failed. Of an input that is refused this is the
-/// line with what is wrong, and with which line, candidate or call, if with one.
+/// asked for, are refused. [`DEVICE`]: an input is missing, and nothing was written; or a put
+/// failed, and a front of the text was written. [`MEMORY`]: a growth of memory was refused. After
+/// [`REFUSED`] and [`MEMORY`] nothing was written. After each but [`DONE`] the line of what stopped
+/// it went to `err`: all of it, or a front of it before a put that failed. Of an input that is
+/// refused this is the line with what is wrong, and with which line, candidate or call, if with
+/// one.
 pub fn perform<I: Inputs, O: Sink, E: Sink>(
     alloc: Global,
     command: &Command<'_>,
@@ -173,7 +170,8 @@ fn take_named<'c, I: Inputs>(
     }
 }
 
-/// Writes the text that is asked for, by these rules, of these bytes of a listing, a script and a table.
+/// Writes the text that is asked for, by these rules, of these bytes of a listing, a script and a
+/// table.
 fn write_text<O: Sink>(
     alloc: Global,
     rules: Rules,
@@ -198,13 +196,7 @@ fn write_text<O: Sink>(
             why_to(alloc, tree, script, table, words.process, fields, out)
         }
         Text::Audit(words) => audit_by(alloc, tree, script, rules, &job_of(words, rows), out),
-        Text::Objects(words) => objects_to(alloc, tree, script, table, words.processes, out),
-        Text::ObjectsWhy(words) => {
-            objects_why_to(alloc, tree, script, table, words.processes, out)
-        }
-        Text::Ever(words) => ever_to(alloc, tree, script, table, words.process, out),
-        Text::EverHow(words) => ever_how_to(alloc, tree, script, table, words.process, out),
-        Text::Together(words) => together_to(alloc, tree, script, table, &words.members, out),
+        Text::List(words) => list_to(alloc, tree, script, table, words, out),
         Text::How(words) => how_to(alloc, tree, script, table, words, out),
         Text::Tight => tight_to(alloc, tree, script, table, out),
         Text::TightWhy => tight_why_to(alloc, tree, script, table, out),

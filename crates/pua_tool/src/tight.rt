@@ -13,16 +13,16 @@ use pua_io::Sink;
 use pua_tight::TightFault;
 use std::alloc::Global;
 
-/// Writes a script without the promises and letters that none of its answers needs. From the last line to
-/// the first, and in a line in the order of keywords and of the letters r, w, x, c, each is left out
-/// without which every line is answered as before; of lines that are answered `ok` alone, and of promises
-/// those that some call asks for, but `error`. All other bytes of the script stay, and where nothing is
-/// left of an argument it is `=`. Which calls there are is said by the rules that are chosen, and what a
-/// call needs by the table of calls.
+/// Writes a script without the promises and letters that none of its answers needs. From the last
+/// line to the first, and in a line in the order of keywords and of the letters r, w, x, c, each is
+/// left out without which every line is answered as before; of lines that are answered `ok` alone,
+/// and of promises those that some call asks for, but `error`. All other bytes of the script stay,
+/// and where nothing is left of an argument it is `=`. Which calls there are is said by the rules
+/// that are chosen, and what a call needs by the table of calls.
 ///
-/// The first that holds of `Table`, `Listing` and `Script` is answered before anything is written. So is
-/// `OutOfMemory`, wherever a growth was refused. `Write` is answered only where a put failed in this
-/// call, and a front of the text is then written.
+/// The first that holds of `Table`, `Listing` and `Script` is answered before anything is written.
+/// So is `OutOfMemory`, wherever a growth was refused. `Write` is answered only where a put failed
+/// in this call, and a front of the text is then written.
 pub fn tight_to<S: Sink>(
     alloc: Global,
     tree_bytes: &[u8],
@@ -38,8 +38,8 @@ pub fn tight_to<S: Sink>(
     put_bytes(text.as_slice(), sink)
 }
 
-/// The tightened script, or the first fault: the table's, the listing's, or the script's. `OutOfMemory`
-/// where a growth was refused.
+/// The tightened script, or the first fault: the table's, the listing's, or the script's.
+/// `OutOfMemory` where a growth was refused.
 fn text_of(
     alloc: Global,
     tree_bytes: &[u8],

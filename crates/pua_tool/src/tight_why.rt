@@ -18,15 +18,16 @@ use pua_why::{letters, push_promises};
 use std::alloc::{AllocError, Global};
 use std::fmt::Write;
 
-/// Writes what each promise and letter of a script is needed by, of those that [`tight_to`](crate::tight_to)
-/// may leave out, in the order of the script's lines, and in a line in the order in which that one tries
-/// them: `N promises WORD needed by M`, where M is the first line that is answered otherwise without it,
-/// all else being tightened, or `N promises WORD spare`, where it is left out. It is `execpromises` for
-/// the second argument of a pledge, and `veil` for a letter.
+/// Writes what each promise and letter of a script is needed by, of those that
+/// [`tight_to`](crate::tight_to) may leave out, in the order of the script's lines, and in a line
+/// in the order in which that one tries them: `N promises WORD needed by M`, where M is the first
+/// line that is answered otherwise without it, all else being tightened, or `N promises WORD
+/// spare`, where it is left out. It is `execpromises` for the second argument of a pledge, and
+/// `veil` for a letter.
 ///
-/// The first that holds of `Table`, `Listing` and `Script` is answered before anything is written. So is
-/// `OutOfMemory`, wherever a growth was refused. `Write` is answered only where a put failed in this
-/// call, and a front of the text is then written.
+/// The first that holds of `Table`, `Listing` and `Script` is answered before anything is written.
+/// So is `OutOfMemory`, wherever a growth was refused. `Write` is answered only where a put failed
+/// in this call, and a front of the text is then written.
 pub fn tight_why_to<S: Sink>(
     alloc: Global,
     tree_bytes: &[u8],
@@ -42,8 +43,8 @@ pub fn tight_why_to<S: Sink>(
     put_text(text.as_str(), sink)
 }
 
-/// A line for each word that may be left out, or the first fault: the table's, the listing's, or the
-/// script's. `OutOfMemory` where a growth was refused.
+/// A line for each word that may be left out, or the first fault: the table's, the listing's, or
+/// the script's. `OutOfMemory` where a growth was refused.
 fn text_of(
     alloc: Global,
     tree_bytes: &[u8],
@@ -63,8 +64,8 @@ fn text_of(
     }
 }
 
-/// The words that may be left out of a script, with what needs each, or the first fault: the table's, the
-/// listing's, or the script's. `OutOfMemory` where a growth was refused.
+/// The words that may be left out of a script, with what needs each, or the first fault: the
+/// table's, the listing's, or the script's. `OutOfMemory` where a growth was refused.
 fn words_by(
     alloc: Global,
     tree_bytes: &[u8],
@@ -109,7 +110,8 @@ fn push_use(alloc: Global, text: &mut String, used: &WordUse) -> Result<(), Allo
     text.push_str("\n")
 }
 
-/// Adds the number of the line at an index. Lines are counted from 1, so it can be above the greatest index.
+/// Adds the number of the line at an index. Lines are counted from 1, so it can be above the
+/// greatest index.
 fn push_number(text: &mut String, index: usize) -> Result<(), AllocError>
     ensures { OnOk result (string_bytes text.new ≡ string_bytes text.old ++ decimal (suc index)) }
 {

@@ -22,38 +22,26 @@ use pua_policy::Process;
 use pua_script::World;
 use pua_texts::{Joint, Member, answer_text, write_together};
 use pua_tree::OutOfMemory;
-use pua_words::Members;
+use pua_words::Processes;
 use std::alloc::Global;
 
-/// Writes the list for ever of several processes together, of those of some numbers, in their order, or
-/// of all that were ever made: for each line of the script its number and what it was answered, then
-/// `ever P,Q,..`, and of each process the lines `process P alive`, `promises`, `execpromises` and
-/// `unveil`, or `process P ended`. Where one of them lives, there follows what is told once of all that
-/// live, as [`ever_to`](crate::ever_to) tells it of one: whose rules they are, what becomes of the list at
-/// an exec, what promises open by themselves, and the veils; and a line for each thing on which a call
-/// can ever be allowed to them or to what they fork, by what they do together.
-///
-/// The first that holds of `Table`, `Listing`, `Script` and `NoProcess` is answered before anything is
-/// written; then that of `CanUnveil`, `LacksC`, `RenameLacksC` and `LinkLacksC` which the first process
-/// has that has one; then `OtherVeils`, of the first that lives and the first behind it that lives and has
-/// another place with a veil, or other letters at one. So is `OutOfMemory`, wherever a growth was
-/// refused. `Write` is answered only where a put failed in this call, and a front of the text is then
-/// written. A process that has ended adds nothing to the list.
+/// Writes the list for ever of several processes together, of those of some numbers, in their
+/// order, or of all that were ever made.
 #[tactic(auto, unfolding(crate::specs::TogetherTexts::together_text))]
-pub fn together_to<S: Sink>(
+pub(crate) fn together_to<S: Sink>(
     alloc: Global,
     tree_bytes: &[u8],
     script_bytes: &[u8],
     table: TableChoice<'_>,
-    members: &Members,
+    whose: &Processes,
     sink: &mut S,
 ) -> Result<(), ToolFault>
     ensures text { AnswersTo S.written S.failed
-        (together_text (choice_of table.entry) tree_bytes.now script_bytes.now members.now)
+        (together_text (choice_of table.entry) tree_bytes.now script_bytes.now whose.now)
         result sink.old sink.new }
 {
     let replay = replay_script(alloc, tree_bytes, script_bytes, table)?;
-    let written = members_to(alloc, &replay, table.rules, members, sink);
+    let written = members_to(alloc, &replay, table.rules, whose, sink);
     replay.release();
     written
 }
@@ -64,18 +52,18 @@ fn members_to<S: Sink>(
     alloc: Global,
     replay: &Replay,
     rules: Rules,
-    which: &Members,
+    whose: &Processes,
     sink: &mut S,
 ) -> Result<(), ToolFault>
     ensures { AnswersTo S.written S.failed
-        (together_after rules (as_replayed replay.now) which.now) result sink.old sink.new }
+        (together_after rules (as_replayed replay.now) whose.now) result sink.old sink.new }
 {
-    let members = members_of(alloc, &replay.world, which)?;
+    let members = members_of(alloc, &replay.world, whose)?;
     list_to(alloc, replay, rules, members.as_slice(), sink)
 }
 
-/// Writes the answers of a script, and then the list of these processes where the script ends. Every
-/// fault but `Write` is answered before anything is written.
+/// Writes the answers of a script, and then the list of these processes where the script ends.
+/// Every fault but `Write` is answered before anything is written.
 fn list_to<S: Sink>(
     alloc: Global,
     replay: &Replay,
@@ -114,8 +102,9 @@ fn list_to<S: Sink>(
     }
 }
 
-/// Writes the front of a text, and then the list of these processes, of which the first that lives and
-/// the others that do are given. Every fault but `Write` is answered before anything is written.
+/// Writes the front of a text, and then the list of these processes, of which the first that lives
+/// and the others that do are given. Every fault but `Write` is answered before anything is
+/// written.
 fn joint_to<S: Sink>(
     alloc: Global,
     world: &World<ProgramTree>,
@@ -148,7 +137,7 @@ fn joint_to<S: Sink>(
     told(write_together(alloc, tree, rules, members, joint, front, sink))
 }
 
-/// Makes the process that stands for these. The only fault is that a growth was refused.
+/// Makes the process that stands for these. The only error is that a growth was refused.
 fn join_all(
     alloc: Global,
     first: &Member<'_>,

@@ -23,15 +23,15 @@ use std::alloc::{AllocError, Global};
 use std::fmt::Write;
 
 /// Writes what decides a request of this process, given by the fields of a script's line behind the
-/// number, where the script has been served: a line for the promises that let it through, for each link
-/// that its paths follow, for what they name and for the veil that covers that, in the order of the
-/// checks and as far as it passes them; and as the last line its answer, with the reason, since which
-/// line that is so, and what opens the path all the same, as [`run_why_to`](crate::run_why_to) would write
-/// it of the script's next line.
+/// number, where the script has been served: a line for the promises that let it through, for each
+/// link that its paths follow, for what they name and for the veil that covers that, in the order
+/// of the checks and as far as it passes them; and as the last line its answer, with the reason,
+/// since which line that is so, and what opens the path all the same, as
+/// [`run_why_to`](crate::run_why_to) would write it of the script's next line.
 ///
-/// The first that holds of `Table`, `Listing`, `Script` and `Request` is answered before anything is
-/// written. So is `OutOfMemory`, wherever a growth was refused. `Write` is answered only where a put
-/// failed in this call, and a front of the text is then written.
+/// The first that holds of `Table`, `Listing`, `Script` and `Request` is answered before anything
+/// is written. So is `OutOfMemory`, wherever a growth was refused. `Write` is answered only where a
+/// put failed in this call, and a front of the text is then written.
 #[tactic(auto, unfolding(crate::specs::WhyTexts::why_text))]
 pub fn why_to<S: Sink>(
     alloc: Global,

@@ -50,15 +50,15 @@ pub(crate) struct MadeNode {
     pub(crate) ghost fits: { IsTrue (target_fits kind (option_map (λ t. t.items) target)) },
 }
 
-/// A tree that begins as the root alone, and takes entries under numbers that rise and may leave some
-/// out. What it holds so far is its content.
+/// A tree that begins as the root alone, and takes entries under numbers that rise and may leave
+/// some out. What it holds so far is its content.
 pub(crate) trait Gathered: FileTree + Drop {
     ghost use Rattle.std.specs.Prelude.{◌≡◌, ◌≢◌, Ok, IfOk, true};
     ghost use Rattle.pua_tree.specs.Tree.{root_alone as rule_root_alone, look};
     ghost use Rattle.pua_tree.specs.Reading.{follows, tree_with, entry_at};
 
     /// The root alone, in a tree of at most so many names, with memory for so many rows. The only
-    /// error is that the memory for it is refused.
+    /// error is that a growth was refused.
     fn root_alone(alloc: Global, rows: usize, room: u32) -> Result<Self, OutOfMemory>
         ensures { IfOk result (λ tree. Self.content tree ≡ rule_root_alone room) };
 
@@ -69,7 +69,7 @@ pub(crate) trait Gathered: FileTree + Drop {
     /// Puts a node into a new row at this spot, and the node itself into the tree where the line
     /// makes it. The next number is then above the line's. What may not follow the tree's entries,
     /// as at a spot that has a row, is not put. Answers whether it was put. The only error is that
-    /// memory for it is refused. The tree is as it was where nothing is put.
+    /// a growth was refused. The tree is as it was where nothing is put.
     fn put(&mut self, spot: &Spot, stands: Standing) -> Result<bool, OutOfMemory>
         ensures follows { IfOk result (λ put. put
             ≡ follows (Self.content self.old) (entry_at spot.now.dir spot.now.name stands)) }

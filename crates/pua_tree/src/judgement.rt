@@ -8,8 +8,8 @@ use crate::node::{Kind, NodeId};
 use crate::spot::Spot;
 use crate::tree::{LentSpot, NUMBER_END};
 
-/// What a judgement asks of a tree. The edits of `FileTree` are judged by these answers, so it is no
-/// part of `FileTree`.
+/// What a judgement asks of a tree. The edits of `FileTree` are judged by these answers, so it is
+/// no part of `FileTree`.
 pub(crate) trait Judged {
     ghost use Rattle.std.specs.Prelude.{◌≡◌, ◌<◌, ◌^◌, length, option_map};
     ghost use Rattle.pua_tree.specs.LentRows.{lent_spot};
@@ -227,7 +227,8 @@ pub(crate) fn may_cut<T: Judged>(tree: &T, dir: NodeId, name: &Name) -> Result<N
     Ok(node)
 }
 
-/// The node of a row that may be moved, and the other node that stands at the new place, if one does.
+/// The node of a row that may be moved, and the other node that stands at the new place, if one
+/// does.
 pub(crate) struct Moving {
     pub(crate) node: NodeId,
     pub(crate) displaced: Option<NodeId>,

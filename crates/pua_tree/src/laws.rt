@@ -24,8 +24,8 @@ pub fn limits_law()
 {}
 
 /// Bytes are read as a tree exactly where they are a listing of it, and what a listing lists is a
-/// tree. A listing under `tree 1` lists the same tree under `tree 2`, and so does one under `tree 2`
-/// under `tree 3`.
+/// tree. A listing under `tree 1` lists the same tree under `tree 2`, and so does one under `tree
+/// 2` under `tree 3`.
 pub fn listing_law()
     ensures read { ListingsAreRead }
     ensures trees { ListingsListTrees }

@@ -8,9 +8,9 @@ use crate::field::Fields;
 use crate::node::Kind;
 
 /// A line of a listing after its second: its number, the kind of the node that it makes, the parent
-/// and the name of its row, and a last field, which is a link's target. A hard link has no kind, and
-/// its last field is a node; other lines have none, and it is empty here. All but the kind are as
-/// they are spelled.
+/// and the name of its row, and a last field, which is a link's target. A hard link has no kind,
+/// and its last field is a node; other lines have none, and it is empty here. All but the kind are
+/// as they are spelled.
 #[derive(Clone, Copy)]
 pub(crate) struct ListingLine<'a> {
     pub(crate) number: &'a [u8],
@@ -21,8 +21,8 @@ pub(crate) struct ListingLine<'a> {
 }
 
 /// The line that a text without its end is, and None where a field is empty or holds what no field
-/// may, the kind is unknown, or there are more or fewer fields than its kind has. The word `hard` is
-/// known where `hard` says so.
+/// may, the kind is unknown, or there are more or fewer fields than its kind has. The word `hard`
+/// is known where `hard` says so.
 pub(crate) fn read_line(hard: bool, text: &[u8]) -> Option<ListingLine<'_>>
     ensures { option_map line_read result ≡ listing_line hard text.now }
 {

@@ -71,8 +71,8 @@ fn read_tree<T: Gathered>(alloc: Global, bytes: &[u8]) -> Result<T, ListingFault
     Ok(tree)
 }
 
-/// As many rows as a listing of this form and of so many bytes may have, for which memory is taken at
-/// once: a line of a row has ten bytes or more with its end.
+/// As many rows as a listing of this form and of so many bytes may have, for which memory is taken
+/// at once: a line of a row has ten bytes or more with its end.
 fn most_rows(form: Form, bytes: &[u8]) -> usize
     ensures { result ≡ min (length bytes.now / 10) (most_lines_of form) }
 {

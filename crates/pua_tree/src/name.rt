@@ -103,8 +103,8 @@ impl Name {
         let _len = &self.len;
     }
 
-    /// The number that its first eight bytes write, the most significant one first, with zeros after
-    /// the last byte.
+    /// The number that its first eight bytes write, the most significant one first, with zeros
+    /// after the last byte.
     #[inline(always)]
     fn front(&self) -> u64
         ensures number { result ≡ front 8 0 self.now }
@@ -134,8 +134,8 @@ pub struct LentName<'a> {
 }
 
 impl<'a> LentName<'a> {
-    /// The name that a text spells, or the first of its faults: what `Name::read` answers. It lies in
-    /// the text, or in the room where the text has escapes.
+    /// The name that a text spells, or the first of its faults: what `Name::read` answers. It lies
+    /// in the text, or in the room where the text has escapes.
     pub(crate) fn read(
         spelling: &'a [u8],
         room: &'a mut [u8; Name::MOST],

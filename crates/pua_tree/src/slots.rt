@@ -434,7 +434,7 @@ impl Slots {
 
     /// Puts what an entry of a listing says, which may follow a tree that is held: a row at this
     /// spot, and the node that the entry makes, if it makes one. The slots of the spot's directory,
-    /// and of the node where none is made, have been looked up. The only error is that memory is
+    /// and of the node where none is made, have been looked up. The only error is that a growth was
     /// refused; the tree is then as it was.
     pub(crate) fn put_entry(
         &mut self,
@@ -490,7 +490,7 @@ impl Slots {
         }
     }
 
-    /// Makes room for a further row. The only error is that memory is refused.
+    /// Makes room for a further row. The only error is that a growth was refused.
     pub(crate) fn reserve_row(&mut self) -> Result<(), AllocError>
         ensures kept { AreConsistent self.old → AreConsistent self.new }
         ensures same { (numbering : Numbering) →
@@ -500,7 +500,8 @@ impl Slots {
         self.rows.reserve(1)
     }
 
-    /// Makes room for a further row and a further node. The only error is that memory is refused.
+    /// Makes room for a further row and a further node. The only error is that a growth was
+    /// refused.
     pub(crate) fn reserve_node(&mut self) -> Result<(), AllocError>
         ensures kept { AreConsistent self.old → AreConsistent self.new }
         ensures same { (numbering : Numbering) →
@@ -514,8 +515,8 @@ impl Slots {
         self.nodes.reserve(1)
     }
 
-    /// The root alone, with room for so many rows, and for as many nodes. The only error is that
-    /// memory is refused.
+    /// The root alone, with room for so many rows, and for as many nodes. The only error is that a
+    /// growth was refused.
     pub(crate) fn root_alone(alloc: Global, rows: usize) -> Result<Slots, AllocError>
         ensures kept { IfOk result AreConsistent }
         ensures root { IfOk result (λ slots. (room : ℕ) →
@@ -536,8 +537,8 @@ impl Slots {
         *self.rows.allocator()
     }
 
-    /// The names in the rows: each once, in the order of their bytes. The only error is that memory
-    /// is refused.
+    /// The names in the rows: each once, in the order of their bytes. The only error is that a
+    /// growth was refused.
     pub(crate) fn names(&self, alloc: Global) -> Result<Vec<Name>, AllocError>
         ensures { IfOk result
             (λ all. all.items ≡ distinct_names (map (λ row. row.0.1) (held_rows self.now))) }
@@ -558,8 +559,8 @@ impl Slots {
         Ok(names)
     }
 
-    /// The rows as a tree lends them, in the order of their spots. The only error is that memory is
-    /// refused.
+    /// The rows as a tree lends them, in the order of their spots. The only error is that a growth
+    /// was refused.
     pub(crate) fn lent_rows(&self, alloc: Global) -> Result<Vec<LentRow<'_>>, AllocError>
         ensures { IfOk result (λ rows. map lent_entry rows.items ≡ held_rows self.now) }
     {

@@ -5,8 +5,8 @@ use crate::name::{LentName, Name};
 use crate::node::{Kind, NodeId};
 use std::alloc::Global;
 
-/// How many names a tree may have, the root counted as one, if a listing of the first two forms lists
-/// it: its rows are fewer than this (this profile).
+/// How many names a tree may have, the root counted as one, if a listing of the first two forms
+/// lists it: its rows are fewer than this (this profile).
 pub const MOST_NAMES: u32 = 65_535;
 
 /// The same of a tree that a listing of the third form lists (this program's format).
@@ -87,8 +87,8 @@ pub trait FileTree {
     fn is_empty(&self, dir: NodeId) -> bool
         ensures { result ≡ is_empty (content self.now) dir };
 
-    /// How many names the tree may have, the root counted as one: 65,535, or 1,065,535 where a listing
-    /// of the third form lists it.
+    /// How many names the tree may have, the root counted as one: 65,535, or 1,065,535 where a
+    /// listing of the third form lists it.
     fn most_names(&self) -> u32
         ensures { result ≡ (content self.now).room };
 
@@ -104,7 +104,7 @@ pub trait FileTree {
         ensures memory { IfErr result (λ fault. fault ≡ TreeFault.OutOfMemory) };
 
     /// Lends all rows: each once, by directory and then by the bytes of the name. The only error is
-    /// that the memory for the list is refused.
+    /// that a growth was refused.
     fn rows(&self, alloc: Global) -> Result<Vec<LentRow<'_>>, OutOfMemory>
         ensures { IfOk result (λ rows. map lent_entry rows.items ≡ (content self.now).rows) };
 
@@ -132,8 +132,8 @@ pub trait FileTree {
     /// Gives a living node that is no directory a further name, as link(2) does; it takes no
     /// number. The faults, of which the first that holds is answered: `NotDir` where `dir` is no
     /// living directory, `Missing` where `node` is not living, `IsDir` where it is a directory,
-    /// `Taken` where `dir` has the name already, `Full` where the tree has `most_names` names, the root
-    /// counted as one, and `OutOfMemory`. After each of them the tree is as it was.
+    /// `Taken` where `dir` has the name already, `Full` where the tree has `most_names` names, the
+    /// root counted as one, and `OutOfMemory`. After each of them the tree is as it was.
     fn tie(&mut self, dir: NodeId, name: Name, node: NodeId) -> Result<(), TreeFault>
         ensures exact { let rule = tie (content self.old) dir name node in
             MatchResult result (λ _. rule ≡ Ok (content self.new)) (Refuses rule) }
@@ -173,7 +173,8 @@ pub trait FileTree {
 pub trait CopiedTree: FileTree {
     ghost use Rattle.std.specs.Prelude.{◌≡◌, IfOk};
 
-    /// A copy, which from then on is a tree of its own. The only error is that a growth was refused.
+    /// A copy, which from then on is a tree of its own. The only error is that a growth was
+    /// refused.
     fn copy(&self) -> Result<Self, OutOfMemory>
         ensures { IfOk result (λ copy. Self.content copy ≡ Self.content self.now) };
 }

@@ -7,7 +7,7 @@ use Rattle.pua_why.proofs.Common.{working_dir, object_of, or_fault, Place, Call,
 use Rattle.pua_why.proofs.Common.{ShiftRow, TieRow, BeginProgram, AddEvent, CopyAs, Outcome, Side, Sole, Old, New, unless_refused}
 use Rattle.pua_why.proofs.Common.{unless_failed, on_named, adding, link_node, change_by, shifting, fault_if, pair_by, World, kept_at}
 use Rattle.pua_why.proofs.Common.{change_effect, come_of, edit_effect, edited_tree, OnPath, Symlink, Rename, Link, Pledge, Unveil, Lock}
-use Rattle.pua_why.proofs.Common.{Fork, Exit, Answer, lacking, misfit, InView, By, Promising, Holds, HasEnded, Lacks, promising, covering}
+use Rattle.pua_why.proofs.Common.{Fork, Exit, Uses, Answer, lacking, misfit, InView, By, Promising, Holds, HasEnded, Lacks, promising, covering}
 use Rattle.pua_why.proofs.Common.{Fault, LacksLetters, Unfit, IsLocked, NumberTaken, NoProcessLeft, unpromised_fault, told_path}
 use Rattle.pua_why.proofs.Common.{uncovered_fault, place_beyond, faults, faults_of, change_or_fault, no_room, room_fault, outcome_fault}
 use Rattle.pua_why.proofs.Common.{decision_of}
@@ -305,6 +305,7 @@ reasons_give_decisions table t h (Unveil path perms) =
 reasons_give_decisions table t h Lock = refused_told _ _ _ _ (promises_told h (unveil ∷ [])) refl
 reasons_give_decisions table t h (Fork new) = refused_told _ _ _ _ (promises_told h (proc ∷ [])) refl
 reasons_give_decisions table t h Exit = refl
+reasons_give_decisions table t h (Uses sets) = refused_told _ _ _ _ (promises_told h sets) refl
 
 -- a decision on a call, as a verdict
 abbrev verdict_as : Decision → Verdict

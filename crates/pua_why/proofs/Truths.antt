@@ -6,7 +6,7 @@ use Rattle.pua_why.proofs.Common.{TextFault, holds, unveil, CallTable, PairRule,
 use Rattle.pua_why.proofs.Common.{or_fault, Place, most_processes, Change, NoChange, AddNode, CutRow, ShiftRow, TieRow, BeginProgram}
 use Rattle.pua_why.proofs.Common.{AddEvent, CopyAs, Outcome, Side, Sole, Old, New, unless_refused, unless_failed, adding, link_node}
 use Rattle.pua_why.proofs.Common.{shifting, pair_by, World, kept_at, change_effect, come_of, edit_effect, edited_tree, OnPath, Symlink}
-use Rattle.pua_why.proofs.Common.{Rename, Link, Pledge, Unveil, Lock, Fork, Exit, lacking, By, promising, covering, Fault, LacksLetters}
+use Rattle.pua_why.proofs.Common.{Rename, Link, Pledge, Unveil, Lock, Fork, Exit, Uses, lacking, By, promising, covering, Fault, LacksLetters}
 use Rattle.pua_why.proofs.Common.{Unfit, IsLocked, NumberTaken, NoProcessLeft, unpromised_fault, place_beyond, faults, faults_of}
 use Rattle.pua_why.proofs.Common.{change_or_fault, no_room, room_fault, outcome_fault, name_trace, decision_of}
 use Rattle.std.proofs.Common.{inl, inr}
@@ -270,6 +270,7 @@ check_faults_hold table t h (Unveil path letters) fault e = unveil_true table t 
 check_faults_hold table t h Lock fault e = promise_true h (unveil ∷ []) _ fault e
 check_faults_hold table t h (Fork new) fault e = promise_true h (proc ∷ []) _ fault e
 check_faults_hold table t h Exit fault e = cc
+check_faults_hold table t h (Uses sets) fault e = promise_true h sets _ fault e
 
 -- the room of a change
 edited_true : (w : World) (h : ProcessState) (fault : Fault) (r : Result (ℕ × Tree) TreeFault) → no_room (edit_effect h r) ≡ Some fault →
@@ -320,6 +321,7 @@ never_full table t h (Unveil path letters) is = is
 never_full table t h Lock is = is
 never_full table t h (Fork new) is = is
 never_full table t h Exit is = is
+never_full table t h (Uses sets) is = is
 
 full_made : (w : World) (h : ProcessState) (change : Change) → RoomFaultHolds w h change NoRoom → change_effect w h change ≡ Fails ENOSPC
 full_made w h NoChange is = is

@@ -15,7 +15,7 @@ use Rattle.pua_calls.specs.declared.call.Call.TheVariants as call
 use Rattle.pua_script.specs.Requests.{Asked}
 use Rattle.pua_script.specs.Replay.{World, kept_at}
 use Rattle.pua_script.specs.declared.request.Action.{Action}
-use Rattle.pua_script.specs.declared.request.Action.TheVariants.{OnPath, Symlink, Rename, Link, Pledge, Unveil, Lock, Fork, Exit}
+use Rattle.pua_script.specs.declared.request.Action.TheVariants.{OnPath, Symlink, Rename, Link, Pledge, Unveil, Lock, Fork, Exit, Uses}
 use Rattle.pua_policy.specs.declared.reason.Covering.{Covering}
 use Rattle.pua_policy.specs.Reasons.{Promising, Holds, promising, covering}
 use Rattle.pua_script.specs.Decide.{Side, Sole, Old, New}
@@ -94,6 +94,7 @@ facts table t h (Unveil path perms) = unveil_facts t h path
 facts table t h Lock = facts_promised (promising h (unveil ∷ [])) []
 facts table t h (Fork new) = facts_promised (promising h (proc ∷ [])) []
 facts table t h Exit = []
+facts table t h (Uses sets) = facts_promised (promising h sets) []
 
 abbrev pub facts_of : CallTable → World → Asked → List Fact
 facts_of table w ask = by (kept_at w ask.process)

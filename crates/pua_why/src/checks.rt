@@ -217,7 +217,8 @@ pub(crate) fn symlink_fault<'s, T: FileTree>(
     object_fault(tree, table, process, Call::Symlink, path, links)
 }
 
-/// The fault of an unveil: the promise, the lock, the letters, the path, and what is kept at the place.
+/// The fault of an unveil: the promise, the lock, the letters, the path, and what is kept at the
+/// place.
 pub(crate) fn unveil_fault<'s, T: FileTree>(
     alloc: Global,
     tree: &T,

@@ -2,13 +2,13 @@
 
 ghost use Rattle.std.specs.Prelude.{◌≡◌, ℕ, IfOk, option_map};
 ghost use Rattle.pua_script.specs.Decide.{CopyAs, fork_by, given_set, is_unknown};
-ghost use Rattle.pua_script.specs.Decide.{lock_by, pledge_by};
+ghost use Rattle.pua_script.specs.Decide.{lock_by, pledge_by, uses_by};
 ghost use Rattle.pua_script.specs.Worlds.{world_of};
 ghost use Rattle.pua_why.specs.Checked.{process_fault, refused_by};
 ghost use Rattle.pua_why.specs.Reasons.{asks_beyond, faults, faults_of, pledge_beyond};
 ghost use Rattle.pua_why.specs.Seen.{fault_seen};
 
-use crate::checks::promise_fault;
+use crate::checks::{promise_fault, promises_fault};
 use crate::told::Fault;
 use pua_calls::Promises;
 use pua_policy::Process;
@@ -75,6 +75,14 @@ pub(crate) fn lock_fault<'s>(process: &Process) -> Option<Fault<'s>>
     ensures { option_map fault_seen result ≡ refused_by (lock_by (faults_of process.now)) }
 {
     promise_fault(process, Promises::UNVEIL)
+}
+
+/// The fault of a call without a path: the promises.
+pub(crate) fn uses_fault<'s>(process: &Process, sets: &'s [Promises]) -> Option<Fault<'s>>
+    ensures { option_map fault_seen result
+        ≡ refused_by (uses_by (faults_of process.now) sets.now) }
+{
+    promises_fault(process, sets)
 }
 
 /// The fault of a fork: the promise.

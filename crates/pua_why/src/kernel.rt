@@ -128,8 +128,8 @@ pub fn openings() -> &'static [Opening]
     OPENINGS.as_slice()
 }
 
-/// Whether a text is this path, byte for byte, or where the path ends in a slash a longer one that begins
-/// so.
+/// Whether a text is this path, byte for byte, or where the path ends in a slash a longer one that
+/// begins so.
 fn is_opened(path: &[u8], text: &[u8]) -> bool
     ensures { result ≡ is_opened path.now text.now }
 {
@@ -171,8 +171,8 @@ fn is_opening(promises: Promises, call: Call, text: &[u8], row: &Opening) -> boo
     opens_call(call, text, row) && holds_named(promises, row.promise)
 }
 
-/// The first of some openings that has this call, whose path is this text, and whose promise is one of
-/// these.
+/// The first of some openings that has this call, whose path is this text, and whose promise is one
+/// of these.
 fn opening_of<'r>(
     rows: &'r [Opening],
     promises: Promises,
@@ -276,8 +276,8 @@ fn is_lack(fault: &Fault<'_>) -> bool
     }
 }
 
-/// By which promise a kernel does what a process of this number is refused for this reason. The only
-/// error is that a growth was refused.
+/// By which promise a kernel does what a process of this number is refused for this reason. The
+/// only error is that a growth was refused.
 fn opener_if<T: FileTree>(
     alloc: Global,
     world: &World<T>,
@@ -296,8 +296,8 @@ fn opener_if<T: FileTree>(
     }
 }
 
-/// Adds by which promise a kernel does what a process of this number is refused for this reason, if one
-/// opens it; by the standard rules none does. The only error is that a growth was refused.
+/// Adds by which promise a kernel does what a process of this number is refused for this reason, if
+/// one opens it; by the standard rules none does. The only error is that a growth was refused.
 pub fn push_opener<T: FileTree>(
     alloc: Global,
     text: &mut String,
@@ -319,8 +319,8 @@ pub fn push_opener<T: FileTree>(
     }
 }
 
-/// Adds by which promise a kernel does what a process of this number is refused for this reason, if one
-/// opens it.
+/// Adds by which promise a kernel does what a process of this number is refused for this reason, if
+/// one opens it.
 fn push_opened<T: FileTree>(
     alloc: Global,
     text: &mut String,

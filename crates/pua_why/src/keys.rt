@@ -16,8 +16,8 @@ use pua_tree::OutOfMemory;
 use std::alloc::Global;
 use std::marker::Model;
 
-/// What of a reason has to be the same for two of them to be the same: what is lacked, and for which
-/// cause. It says nothing of where a path leads. Contracts see a list of numbers.
+/// What of a reason has to be the same for two of them to be the same: what is lacked, and for
+/// which cause. It says nothing of where a path leads. Contracts see a list of numbers.
 #[derive(Drop)]
 pub struct Key {
     numbers: Vec<u64>,

@@ -74,8 +74,8 @@ pub(crate) fn link_fault<'s, T: FileTree>(
     }
 }
 
-/// What both paths name, or the fault of the promises, of the paths, and of the veils: of the old name
-/// first each time.
+/// What both paths name, or the fault of the promises, of the paths, and of the veils: of the old
+/// name first each time.
 fn judged<'s, T: FileTree>(
     tree: &T,
     need: &'s PairNeed,
@@ -174,8 +174,8 @@ fn shift_fault<'s, T: FileTree>(tree: &T, pair: &Pair) -> Option<Fault<'s>>
     kinds_fault(tree, pair)
 }
 
-/// What is wrong with the ways in which they were named: `.` or `..` on either side, then the root on
-/// either side.
+/// What is wrong with the ways in which they were named: `.` or `..` on either side, then the root
+/// on either side.
 fn ways_fault<'s>(pair: &Pair) -> Option<Fault<'s>>
     ensures { option_map fault_seen result ≡ ways_by faults.misfit pair.now.old pair.now.new }
 {

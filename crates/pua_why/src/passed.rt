@@ -101,8 +101,9 @@ impl Passed {
                 self.add_pair(tree, table.link(), process, Ending::Dot, old, new)
             }
             Action::Unveil(path, _) => self.add_unveil(tree, process, path.bytes()),
-            Action::Lock => self.add_promise(process, Promises::UNVEIL),
-            Action::Fork(_) => self.add_promise(process, Promises::PROC),
+            Action::Lock => self.add_promises(process, &[Promises::UNVEIL]),
+            Action::Fork(_) => self.add_promises(process, &[Promises::PROC]),
+            Action::Uses(any) => self.add_promises(process, any.sets()),
             Action::Pledge(_, _) | Action::Exit => Ok(()),
         }
     }
@@ -246,12 +247,12 @@ impl Passed {
         Ok(())
     }
 
-    /// Adds promises, if they are held.
-    fn add_promise(&mut self, process: &Process, set: Promises) -> Result<(), OutOfMemory>
+    /// Adds the first of these sets of promises that is held, if one is.
+    fn add_promises(&mut self, process: &Process, sets: &[Promises]) -> Result<(), OutOfMemory>
         ensures { OnOk result (self.new ≡ self.old
-            ++ facts_promised (promising process.now (set ∷ [])) []) }
+            ++ facts_promised (promising process.now sets.now) []) }
     {
-        match process.promising(&[set]) {
+        match process.promising(sets) {
             Promising::Holds(set) => self.add(Fact::Needs(set)),
             Promising::HasEnded | Promising::Lacks { .. } => Ok(()),
         }
@@ -301,7 +302,8 @@ impl Passed {
         Ok(())
     }
 
-    /// Adds what covers an object, if that leaves it these permissions, and answers whether it does.
+    /// Adds what covers an object, if that leaves it these permissions, and answers whether it
+    /// does.
     fn add_cover<'t, P: Probe<'t>>(
         &mut self,
         probe: &mut P,

@@ -9,7 +9,7 @@ ghost use Rattle.pua_why.specs.Reasons.{change_or_fault, faults, faults_of, reas
 ghost use Rattle.pua_why.specs.Seen.{fault_seen, reason_seen};
 
 use crate::checks::{call_fault, symlink_fault, unveil_fault};
-use crate::given::{fork_fault, lock_fault, pledge_fault, process_fault};
+use crate::given::{fork_fault, lock_fault, pledge_fault, process_fault, uses_fault};
 use crate::pairs::{link_fault, rename_fault};
 use crate::told::{Fault, Reason};
 use pua_calls::CallTable;
@@ -27,7 +27,7 @@ pub fn checked<'w, T: FileTree>(
     alloc: Global,
     world: &'w World<T>,
     number: u32,
-    action: &Action,
+    action: &'w Action,
 ) -> Result<Reason<'w>, OutOfMemory>
     ensures { IfOk result (λ reason. reason_seen reason
         ≡ reason_checked world.now.table (world_of world.now)
@@ -53,7 +53,7 @@ pub fn reason<'w, T: FileTree>(
     alloc: Global,
     world: &'w World<T>,
     number: u32,
-    action: &Action,
+    action: &'w Action,
     answer: Answer,
 ) -> Result<Reason<'w>, OutOfMemory>
     ensures { IfOk result (λ told.
@@ -86,7 +86,7 @@ fn request_fault<'w, T: FileTree>(
     alloc: Global,
     world: &'w World<T>,
     process: &Process,
-    action: &Action,
+    action: &'w Action,
 ) -> Result<Option<Fault<'w>>, OutOfMemory>
     ensures { IfOk result (λ fault. option_map fault_seen fault
         ≡ checks_fault (world_of world.now)
@@ -124,7 +124,7 @@ fn fault_of<'s, T: FileTree>(
     tree: &T,
     table: &'s CallTable,
     process: &Process,
-    action: &Action,
+    action: &'s Action,
 ) -> Result<Option<Fault<'s>>, OutOfMemory>
     ensures { IfOk result (λ fault. option_map fault_seen fault
         ≡ refused_by (decide_by faults table.now (T.content tree.now) (faults_of process.now)
@@ -159,6 +159,7 @@ fn fault_of<'s, T: FileTree>(
         }
         Action::Lock => Ok(lock_fault(process)),
         Action::Exit => Ok(None),
+        Action::Uses(any) => Ok(uses_fault(process, any.sets())),
         Action::Fork(_) => Ok(fork_fault(process)),
     }
 }

@@ -24,8 +24,8 @@ use pua_tree::{FileTree, Kind, Name, NodeId};
 use std::alloc::{AllocError, Global};
 use std::fmt::Write;
 
-/// Adds the words of a reason to a text: what is granted has none. Paths are those of the tree as it
-/// stands where the reason holds. The only error is that a growth was refused.
+/// Adds the words of a reason to a text: what is granted has none. Paths are those of the tree as
+/// it stands where the reason holds. The only error is that a growth was refused.
 pub fn push_reason<T: FileTree>(
     alloc: Global,
     text: &mut String,
@@ -146,8 +146,8 @@ fn push_no(alloc: Global, text: &mut String, lacks: Promises) -> Result<(), Allo
     push_promises(alloc, text, lacks)
 }
 
-/// Adds the keywords of promises with commas between them, and `=` for none. The only error is that a
-/// growth was refused.
+/// Adds the keywords of promises with commas between them, and `=` for none. The only error is that
+/// a growth was refused.
 pub fn push_promises(alloc: Global, text: &mut String, promises: Promises) -> Result<(), AllocError>
     ensures { OnOk result (string_bytes text.new
         ≡ string_bytes text.old ++ promises_text promises) }

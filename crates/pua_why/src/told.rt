@@ -26,7 +26,8 @@ pub enum Fault<'s> {
         held: Promises,
         sets: &'s [Promises],
     },
-    /// It lacks these of the promises that are needed. What it holds has `error` among it, or has not.
+    /// It lacks these of the promises that are needed. What it holds has `error` among it, or has
+    /// not.
     LacksPromise {
         error: bool,
         lacks: Promises,

@@ -86,7 +86,8 @@ impl<'t, T: FileTree> TreePaths<'t, T> {
         push_names(text, self.names.as_slice())
     }
 
-    /// Adds the path of a name in a directory to a text. The only error is that a growth was refused.
+    /// Adds the path of a name in a directory to a text. The only error is that a growth was
+    /// refused.
     pub fn push_spot(
         &mut self,
         text: &mut String,

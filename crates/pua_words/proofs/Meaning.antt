@@ -15,7 +15,7 @@ use Rattle.pua_calls.specs.Calls.{rules_named}
 use Rattle.pua_words.specs.Commands.{AreFieldsOf, IsLimitText, IsNumberText, values_found}
 use Rattle.pua_words.specs.Grammar.{Parsers, pua_app}
 use Rattle.pua_words.specs.Plain.{IsMadeOf, Meanings, IsMeantBy, means}
-use Rattle.pua_words.specs.Reading.{HasInputsOf, IsCommandOf, IsListText}
+use Rattle.pua_words.specs.Reading.{HasInputsOf, IsCommandOf, IsListRead}
 use Rattle.pua_words.specs.declared.command.Command.{Command}
 use Rattle.pua_words.specs.declared.command.Processes.TheVariants.{One}
 use Rattle.pua_words.proofs.Walking.{audit_meets, Meets, process_meets, how_meets, objects_meets, pua_is_simple, run_meets, tight_meets, why_meets}
@@ -129,17 +129,17 @@ meant p m command words met k = record {
   objects = λ ever how why tree script is is_tree is_script.
       let f = found_by p m command words _ _ tree script _ met k is (objects_meets p ever how why tree script is_tree is_script) in (
         f.is_made,
-        f.is_command.text.objects f.name_is ever how why (flag_is f.is_command.found _ f.rows _ f.rows_are f.has.0) (flag_is f.is_command.found _ f.rows _ f.rows_are f.has.1)
-            (flag_is f.is_command.found _ f.rows _ f.rows_are f.has.2) (One 1)
+        (f.is_command.text.objects f.name_is ever how why (flag_is f.is_command.found _ f.rows _ f.rows_are f.has.0)
+            (flag_is f.is_command.found _ f.rows _ f.rows_are f.has.1) (flag_is f.is_command.found _ f.rows _ f.rows_are f.has.2)).1 (One 1)
             (subst (λ (t : Option Text). IsNumberText t 1) (sym (value_is f.is_command.found _ f.rows _ f.rows_are f.has.3)) is_one),
       );
-  of_process = λ ever how why process tree script is is_process is_tree is_script processes named.
+  of_process = λ ever how why process tree script is is_process is_tree is_script.
       let f =
       found_by p m command words _ _ tree script _ met k is (process_meets p ever how why process tree script is_process is_tree is_script) in (
         f.is_made,
-        f.is_command.text.objects f.name_is ever how why (flag_is f.is_command.found _ f.rows _ f.rows_are f.has.0)
-            (flag_is f.is_command.found _ f.rows _ f.rows_are f.has.1) (flag_is f.is_command.found _ f.rows _ f.rows_are f.has.2) processes
-            (subst (λ (t : Option Text). IsListText t processes) (sym (value_is f.is_command.found _ f.rows _ f.rows_are f.has.3)) named),
+        subst (λ (t : Option Text). IsListRead ever how why t command.text) (value_is f.is_command.found _ f.rows _ f.rows_are f.has.3)
+            (f.is_command.text.objects f.name_is ever how why (flag_is f.is_command.found _ f.rows _ f.rows_are f.has.0)
+            (flag_is f.is_command.found _ f.rows _ f.rows_are f.has.1) (flag_is f.is_command.found _ f.rows _ f.rows_are f.has.2)),
       );
   how = λ tree script call path is is_tree is_script is_call is_path.
       let f = found_by p m command words _ _ tree script _ met k is (how_meets p tree script call path is_tree is_script is_call is_path) in

@@ -9,7 +9,7 @@ use Rattle.clap.specs.declared.parser.matches.ArgMatches.{ArgMatches}
 use Rattle.clap.specs.declared.parser.matches.ArgMatches.TheViews.{out-ArgMatches, out-SubCommand}
 use Rattle.clap.specs.declared.parser.matches.Found.{Found}
 use Rattle.clap.specs.declared.parser.matches.SubCommand.{SubCommand}
-use Rattle.pua_words.specs.Reading.{HasInputsOf, IsAuditOf, IsCommandOf, IsFlag, IsListText, IsReadAs, IsWhyOf, list_meant}
+use Rattle.pua_words.specs.Reading.{HasInputsOf, IsAuditOf, IsCommandOf, IsFlag, IsListOf, IsListText, IsReadAs, IsWhyOf, list_meant}
 use Rattle.pua_words.specs.declared.command.AuditWords.{AuditWords}
 use Rattle.pua_words.specs.declared.command.Command.{Command}
 use Rattle.pua_words.specs.declared.command.Processes.{Processes}
@@ -36,14 +36,16 @@ alike e n = ap first (sym e ∙ n)
 
 pub objects_read : {E : Type 0} (r : Result (Option Asked) E) (name : Text) (found : Found) → name ≡ codes "objects"
     → ((ever how why : Bool) → IsFlag found (codes "ever") ever → IsFlag found (codes "how") how → IsFlag found (codes "why") why
+    → IfOk r (λ text. IfSome text (IsListOf ever how why (first_value found (codes "process")))))
+    → ((ever how why : Bool) → IsFlag found (codes "ever") ever → IsFlag found (codes "how") how → IsFlag found (codes "why") why
     → (processes : Processes) → IsListText (first_value found (codes "process")) processes
     → IfOk r (λ text. text ≡ list_meant ever how why processes)) → IfOk r (λ text. IfSome text (IsReadAs name found))
-objects_read (Err e) name found is meant = tt
-objects_read (Ok None) name found is meant = tt
-objects_read (Ok (Some text)) name found is meant = record {
+objects_read (Err e) name found is form meant = tt
+objects_read (Ok None) name found is form meant = tt
+objects_read (Ok (Some text)) name found is form meant = record {
   run = λ n. absurd (let bad : 111 ≡ 114 = alike is n in omega arith);
   tight = λ n. absurd (let bad : 111 ≡ 116 = alike is n in omega arith);
-  objects = λ n. meant;
+  objects = λ n ever how why e h w. (form ever how why e h w, meant ever how why e h w);
   why = λ n. absurd (let bad : 111 ≡ 119 = alike is n in omega arith);
   how = λ n. absurd (let bad : 111 ≡ 104 = alike is n in omega arith);
   audit = λ n. absurd (let bad : 111 ≡ 97 = alike is n in omega arith);

@@ -6,14 +6,15 @@ use Rattle.std.specs.Str.Parse.{IsNumeral, digits_value, without_leading_plus}
 use Rattle.clap.specs.Matches.{matched_of, raw_values}
 use Rattle.clap.specs.declared.parser.matches.Found.{Found}
 use Rattle.pua_words.specs.declared.command.Text.{Text}
-use Rattle.pua_words.specs.declared.command.Text.TheVariants.{Run, RunWhy, Why, Audit, Objects, ObjectsWhy, Ever, EverHow, Together}
-use Rattle.pua_words.specs.declared.command.Text.TheVariants.{Tight, TightWhy, How}
-use Rattle.pua_words.specs.declared.command.Members.{Members}
-use Rattle.pua_words.specs.declared.command.Members.TheVariants.{Named}
-use Rattle.pua_words.specs.declared.command.Members.TheVariants as members
+use Rattle.pua_words.specs.declared.command.Text.TheVariants.{Run, RunWhy, Why, Audit, Tight, TightWhy, How}
+use Rattle.pua_words.specs.declared.command.Text.TheVariants as text
+use Rattle.pua_words.specs.declared.command.Columns.{Columns}
+use Rattle.pua_words.specs.declared.command.Columns.TheVariants as columns
 use Rattle.pua_words.specs.declared.command.Processes.{Processes}
-use Rattle.pua_words.specs.declared.command.Processes.TheVariants.{One}
+use Rattle.pua_words.specs.declared.command.Processes.TheVariants.{One, Named}
 use Rattle.pua_words.specs.declared.command.Processes.TheVariants as processes
+use Rattle.pua_words.specs.declared.command.Span.{Span}
+use Rattle.pua_words.specs.declared.command.Span.TheVariants.{Now, Ever}
 use Rattle.pua_tree.specs.Spelling.{number_within}
 use Rattle.pua_words.specs.declared.words.TheConstants.{MOST_NUMBER}
 
@@ -21,15 +22,22 @@ use Rattle.pua_words.specs.declared.words.TheConstants.{MOST_NUMBER}
 abbrev pub IsProcessNumber : ℕ → Type 0
 IsProcessNumber n = (1 ≤ n) × (n ≤ MOST_NUMBER)
 
--- a list is asked of a process that may have been made, or of all
+-- a list is asked of processes that may have been made, or of all
 abbrev pub MayBeAsked : Processes → Type 0
 MayBeAsked (One process) = IsProcessNumber process
+MayBeAsked (Named numbers) = All IsProcessNumber numbers.items
 MayBeAsked processes.All = ⊤
 
--- the text has the number of the process in decimal digits, or means all
+-- the text has these numbers in decimal, with commas between them
+abbrev pub AreIn : Option (List ℕ) → List ℕ → Type 0
+AreIn None numbers = ⊥
+AreIn (Some text) numbers = map (number_within 1 MOST_NUMBER) (slice_split (λ b. b == 44) text) ≡ map Some numbers
+
+-- the text has the number of the process in decimal digits, or the numbers with commas between them, or means all
 abbrev pub IsTextOf : Option (List ℕ) → Processes → Type 0
 IsTextOf None processes = ⊥
 IsTextOf (Some text) (One process) = digits_value 10 (without_leading_plus text) ≡ process
+IsTextOf (Some text) (Named numbers) = AreIn (Some text) numbers.items
 IsTextOf (Some text) processes.All = text ≡ codes "all"
 
 -- the text has a number that a process may have, in decimal digits, of which zeros and a plus may stand first
@@ -52,32 +60,17 @@ abbrev pub AreFieldsOf : Option (List ℕ) → List (List ℕ) → List (List �
 AreFieldsOf None arguments fields = ⊥
 AreFieldsOf (Some call) arguments fields = fields ≡ call ∷ arguments
 
--- a list of several together is asked of processes that may have been made, or of all
-abbrev pub MayBeMembers : Members → Type 0
-MayBeMembers (Named numbers) = All IsProcessNumber numbers.items
-MayBeMembers members.All = ⊤
-
--- the text has these numbers in decimal, with commas between them
-abbrev pub AreIn : Option (List ℕ) → List ℕ → Type 0
-AreIn None numbers = ⊥
-AreIn (Some text) numbers = map (number_within 1 MOST_NUMBER) (slice_split (λ b. b == 44) text) ≡ map Some numbers
-
 -- the text has no such numbers
 abbrev pub HasNoNumbers : Option (List ℕ) → Type 0
 HasNoNumbers text = (numbers : List ℕ) → AreIn text numbers → ⊥
 
--- an audit, a way, a single request and a list for ever are asked of a process that may have been made, a list of objects of
--- one or of all, and a list of several together of such processes or of all
+-- an audit, a way and a single request are asked of a process that may have been made, and a list of such processes or of all
 abbrev pub AsksSoundly : Text → Type 0
 AsksSoundly Run = ⊤
 AsksSoundly RunWhy = ⊤
 AsksSoundly (Why words) = IsProcessNumber words.process
 AsksSoundly (Audit words) = IsProcessNumber words.process
-AsksSoundly (Objects words) = MayBeAsked words.processes
-AsksSoundly (ObjectsWhy words) = MayBeAsked words.processes
-AsksSoundly (Ever words) = IsProcessNumber words.process
-AsksSoundly (EverHow words) = IsProcessNumber words.process
-AsksSoundly (Together words) = MayBeMembers words.members
+AsksSoundly (text.List words) = MayBeAsked words.whose
 AsksSoundly Tight = ⊤
 AsksSoundly TightWhy = ⊤
 AsksSoundly (How words) = IsProcessNumber words.process
@@ -92,16 +85,14 @@ abbrev pub tight_asked : Bool → Text
 tight_asked false = Tight
 tight_asked true = TightWhy
 
--- the list that is asked for of these processes, of now or for ever, with reasons or without; that for ever of all is of what
--- they can touch together, and a list for ever has no reasons
-abbrev pub list_asked : Bool → Bool → Processes → Option Text
-list_asked false false processes = Some (Objects (record { processes = processes }))
-list_asked false true processes = Some (ObjectsWhy (record { processes = processes }))
-list_asked true false (One process) = Some (Ever (record { process = process }))
-list_asked true false processes.All = Some (Together (record { members = members.All }))
-list_asked true true processes = None
+-- a list is of now, or for ever
+abbrev pub span_meant : Bool → Span
+span_meant false = Now
+span_meant true = Ever
 
--- the list for ever with the steps of ways is asked for of one process, without reasons
-abbrev pub how_list_asked : Bool → Bool → Option Processes → Option Text
-how_list_asked true false (Some (One process)) = Some (EverHow (record { process = process }))
-how_list_asked _ _ _ = None
+-- behind its calls stands nothing, what they rest on, or the steps of ways; not both
+abbrev pub columns_meant : Bool → Bool → Option Columns
+columns_meant false false = Some columns.Plain
+columns_meant false true = Some columns.Why
+columns_meant true false = Some columns.How
+columns_meant true true = None

@@ -2,10 +2,9 @@
 use Rattle.std.specs.Prelude.{ℕ, ◌≡◌, ◌==◌, Bool, true, false, not, List, [], ◌∷◌, Some, None, codes, map}
 use Rattle.pua_calls.specs.declared.Rules.TheVariants.{Standard}
 use Rattle.pua_words.specs.Commands.{run_asked, tight_asked}
-use Rattle.pua_words.specs.Reading.{IsListText, list_meant}
+use Rattle.pua_words.specs.Reading.{IsListRead, list_meant}
 use Rattle.pua_words.specs.declared.command.Command.{Command}
 use Rattle.pua_words.specs.declared.command.HowWords.{HowWords}
-use Rattle.pua_words.specs.declared.command.Processes.{Processes}
 use Rattle.pua_words.specs.declared.command.Processes.TheVariants.{One}
 use Rattle.pua_words.specs.declared.command.Text.TheVariants.{Audit, How, Why}
 use Rattle.pua_words.specs.declared.command.AuditWords.{AuditWords}
@@ -44,8 +43,7 @@ pub record Meanings (words : List (List ℕ)) (command : Command) : Type 0 where
       ≡ codes "objects"
       ∷ option_if ever (codes "--ever") (option_if how (codes "--how") (option_if why (codes "--why") (codes "--process" ∷ process ∷ tree ∷ script ∷ [])))
       → is_operand process ≡ true → is_operand tree ≡ true → is_operand script ≡ true
-      → (processes : Processes) → IsListText (Some process) processes
-      → IsMadeOf tree script command × (Some command.text ≡ list_meant ever how why processes)
+      → IsMadeOf tree script command × IsListRead ever how why (Some process) command.text
   pub how : (tree script call path : List ℕ) → words ≡ codes "how" ∷ tree ∷ script ∷ call ∷ path ∷ []
       → is_operand tree ≡ true → is_operand script ≡ true → is_operand call ≡ true → is_operand path ≡ true
       → IsMadeOf tree script command × ((w : HowWords) × (command.text ≡ How w) × (w.process ≡ 1) × (w.call.now ≡ call)

@@ -1,5 +1,5 @@
 -- What is asked for by what `clap` found.
-use Rattle.std.specs.Prelude.{ℕ, ◌≡◌, ◌↔◌, Bool, true, false, List, Option, Some, codes, map, option_map, if◌then◌else◌}
+use Rattle.std.specs.Prelude.{ℕ, ◌≡◌, ◌↔◌, Bool, List, Option, Some, codes, map, option_map, if◌then◌else◌}
 use Rattle.clap.specs.Matches.{first_value, one_text}
 use Rattle.clap.specs.Simple.{subcommand_rows_of}
 use Rattle.clap.specs.Walk.{rows_of}
@@ -8,47 +8,43 @@ use Rattle.clap.specs.declared.parser.matches.Found.{Found}
 use Rattle.pua_audit.specs.declared.Base.TheVariants.{Cwd}
 use Rattle.pua_calls.specs.Calls.{rules_named}
 use Rattle.pua_objects.specs.Lines.{kind_word}
-use Rattle.pua_words.specs.Commands.{AreFieldsOf, AreIn, IsLimitText, IsNumberText, IsTextOf, how_list_asked, list_asked, run_asked, tight_asked}
-use Rattle.pua_words.specs.Commands.{values_found}
+use Rattle.pua_words.specs.Commands.{AreFieldsOf, IsLimitText, IsNumberText, IsTextOf, columns_meant, run_asked, span_meant}
+use Rattle.pua_words.specs.Commands.{tight_asked, values_found}
 use Rattle.pua_words.specs.declared.command.AuditWords.{AuditWords}
 use Rattle.pua_words.specs.declared.command.Command.{Command}
 use Rattle.pua_words.specs.declared.command.HowWords.{HowWords}
 use Rattle.pua_words.specs.declared.command.Processes.{Processes}
-use Rattle.pua_words.specs.declared.command.Processes.TheVariants.{One, All}
+use Rattle.pua_words.specs.declared.command.Processes.TheVariants.{One, Named, All}
 use Rattle.pua_words.specs.declared.command.Text.{Text}
-use Rattle.pua_words.specs.declared.command.Text.TheVariants.{Audit, Ever, EverHow, How, Objects, ObjectsWhy, Together, Why}
-use Rattle.pua_words.specs.declared.command.Members.{Members}
-use Rattle.pua_words.specs.declared.command.Members.TheVariants.{Named}
-use Rattle.pua_words.specs.declared.command.Members.TheVariants as members
+use Rattle.pua_words.specs.declared.command.Text.TheVariants.{Audit, How, Why}
+use Rattle.pua_words.specs.declared.command.Text.TheVariants as text
 use Rattle.pua_words.specs.declared.command.WhyWords.{WhyWords}
 
 -- an option without a value was given, or was not
 abbrev pub IsFlag : Found → List ℕ → Bool → Type 0
 IsFlag found id given = one_text found id ≡ Some (if given then codes "true" else codes "false")
 
--- the text has the number of the process in decimal digits, or is `all`
+-- the text has the number of the process in decimal digits, or is `all`; of several numbers see `IsTextOf`
 abbrev pub IsListText : Option (List ℕ) → Processes → Type 0
 IsListText text (One process) = IsNumberText text process
+IsListText text (Named numbers) = ⊥
 IsListText text All = text ≡ Some (codes "all")
 
 -- the list of these processes: of now or for ever, with the steps of ways or without, with reasons or without
 abbrev pub list_meant : Bool → Bool → Bool → Processes → Option Text
 list_meant ever how why processes =
-    if how then how_list_asked ever why (Some processes) else list_asked ever why processes
-
--- the processes of a list of several together are those that the text has, or all
-abbrev pub AreTextOf : Option (List ℕ) → Members → Type 0
-AreTextOf text (Named numbers) = AreIn text numbers.items
-AreTextOf text members.All = text ≡ Some (codes "all")
+    option_map (λ columns. text.List (record { whose = processes; span = span_meant ever; columns = columns })) (columns_meant how why)
 
 -- a list is of now or for ever, with the steps of ways, and with reasons, as it was asked, and of the processes that the text has
 abbrev pub IsListOf : Bool → Bool → Bool → Option (List ℕ) → Text → Type 0
-IsListOf ever how why text (Objects words) = (ever ≡ false) × (how ≡ false) × (why ≡ false) × IsTextOf text words.processes
-IsListOf ever how why text (ObjectsWhy words) = (ever ≡ false) × (how ≡ false) × (why ≡ true) × IsTextOf text words.processes
-IsListOf ever how why text (Ever words) = (ever ≡ true) × (how ≡ false) × (why ≡ false) × IsTextOf text (One words.process)
-IsListOf ever how why text (EverHow words) = (ever ≡ true) × (how ≡ true) × (why ≡ false) × IsTextOf text (One words.process)
-IsListOf ever how why text (Together words) = (ever ≡ true) × (how ≡ false) × (why ≡ false) × AreTextOf text words.members
-IsListOf ever how why text _ = ⊥
+IsListOf ever how why given (text.List words) =
+    (words.span ≡ span_meant ever) × (Some words.columns ≡ columns_meant how why) × IsTextOf given words.whose
+IsListOf ever how why given _ = ⊥
+
+-- the same, and where the text is one number or `all` it is this list and no other
+abbrev pub IsListRead : Bool → Bool → Bool → Option (List ℕ) → Text → Type 0
+IsListRead ever how why given asked =
+    IsListOf ever how why given asked × ((processes : Processes) → IsListText given processes → Some asked ≡ list_meant ever how why processes)
 
 abbrev pub IsWhyOf : Found → WhyWords → Type 0
 IsWhyOf found words =
@@ -74,8 +70,7 @@ pub record IsReadAs (name : List ℕ) (found : Found) (text : Text) : Type 0 whe
   pub run : name ≡ codes "run" → (why : Bool) → IsFlag found (codes "why") why → text ≡ run_asked why
   pub tight : name ≡ codes "tight" → (why : Bool) → IsFlag found (codes "why") why → text ≡ tight_asked why
   pub objects : name ≡ codes "objects" → (ever how why : Bool) → IsFlag found (codes "ever") ever → IsFlag found (codes "how") how
-      → IsFlag found (codes "why") why → (processes : Processes) → IsListText (first_value found (codes "process")) processes
-      → Some text ≡ list_meant ever how why processes
+      → IsFlag found (codes "why") why → IsListRead ever how why (first_value found (codes "process")) text
   pub why : name ≡ codes "why" → (words : WhyWords) × (text ≡ Why words) × IsWhyOf found words
   pub how : name ≡ codes "how" → (words : HowWords) × (text ≡ How words) × IsHowOf found words
   pub audit : name ≡ codes "audit" → (words : AuditWords) × (text ≡ Audit words) × IsAuditOf found words

@@ -13,7 +13,8 @@ pub struct Command<'a> {
     pub script: &'a str,
     /// Whose rules are gone by.
     pub rules: Rules,
-    /// The name of the input with rows in the place of those of the rules; None for the rules alone.
+    /// The name of the input with rows in the place of those of the rules; None for the rules
+    /// alone.
     pub table: Option<&'a str>,
     /// Which text is asked for.
     pub text: Text<'a>,
@@ -30,18 +31,9 @@ pub enum Text<'a> {
     Why(WhyWords<'a>),
     /// The same, and then what a process may still do, path by path.
     Audit(AuditWords<'a>),
-    /// The same as a run's, and then what a process may still do, object by object.
-    Objects(ObjectWords),
-    /// The same with reasons: behind each answer, and behind each object the promises on which its
-    /// calls rest and the veil that covers it.
-    ObjectsWhy(ObjectWords),
-    /// The same as a run's, and then all that a process and what it forks can ever touch.
-    Ever(EverWords),
-    /// The same, with the number of steps of a way to each call that the list of now lacks.
-    EverHow(EverWords),
-    /// The same as a run's, and then all that several processes and what they fork can ever touch
-    /// together.
-    Together(TogetherWords),
+    /// The same as a run's, or with reasons, and then what processes may still do, object by
+    /// object, now or for ever.
+    List(ListWords),
     /// The script, without the promises and letters that none of its answers needs.
     Tight,
     /// What each promise and letter of the script is needed by.
@@ -68,49 +60,56 @@ pub struct AuditWords<'a> {
 /// Which request is asked about, besides the inputs.
 #[derive(Drop)]
 pub struct WhyWords<'a> {
-    /// The number of the process that asks, 1 to 999,999 where the words of the command line named it.
+    /// The number of the process that asks, 1 to 999,999 where the words of the command line named
+    /// it.
     pub process: u32,
     /// What it asks, as the fields of a script's line behind the number: the call first.
     pub fields: Vec<&'a [u8]>,
 }
 
-/// Of which processes a list of objects is asked.
-#[derive(Clone, Copy)]
+/// Of which processes a list is asked.
+#[derive(Drop)]
 pub enum Processes {
     /// The process of this number, 1 to 999,999 where the words of the command line named it.
     One(u32),
-    /// All that were ever made, in the order of their numbers.
-    All,
-}
-
-/// What a list of objects is asked for, besides its inputs.
-#[derive(Clone, Copy)]
-pub struct ObjectWords {
-    /// The processes.
-    pub processes: Processes,
-}
-
-/// What a list for ever is asked for, besides its inputs.
-#[derive(Clone, Copy)]
-pub struct EverWords {
-    /// The number of the process, 1 to 999,999 where the words of the command line named it.
-    pub process: u32,
-}
-
-/// Of which processes together a list for ever is asked.
-#[derive(Drop)]
-pub enum Members {
-    /// Those of these numbers, each 1 to 999,999 where the words of the command line named them.
+    /// Those of these numbers, in their order, each 1 to 999,999 where the words of the command
+    /// line named them. A list for ever is of what they can touch together.
     Named(Vec<u32>),
-    /// All that were ever made, in the order of their numbers.
+    /// All that were ever made, in the order of their numbers. A list for ever is of what they can
+    /// touch together.
     All,
 }
 
-/// What a list for ever of several processes together is asked for, besides its inputs.
+/// Of which time a list is.
+#[derive(Clone, Copy, PartialEq, Eq)]
+pub enum Span {
+    /// What each process may do now.
+    Now,
+    /// All that a process and what it forks can ever touch.
+    Ever,
+}
+
+/// What stands behind the calls of a line of a list.
+#[derive(Clone, Copy, PartialEq, Eq)]
+pub enum Columns {
+    /// Nothing.
+    Plain,
+    /// The promises on which the calls rest, and the veil that covers what the line is about. The
+    /// answers of the script have reasons, too.
+    Why,
+    /// The number of steps of a way to each call that the list of now lacks.
+    How,
+}
+
+/// What a list is asked for, besides its inputs.
 #[derive(Drop)]
-pub struct TogetherWords {
+pub struct ListWords {
     /// The processes.
-    pub members: Members,
+    pub whose: Processes,
+    /// Of which time it is.
+    pub span: Span,
+    /// What stands behind the calls of its lines.
+    pub columns: Columns,
 }
 
 /// To which call a way is asked for, and on what, besides the inputs.

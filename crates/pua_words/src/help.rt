@@ -276,8 +276,8 @@ Prints what `pua run` prints, then `objects P`, then the state of process P:
 Then `KIND PATH CALLS` for each object on which a call is allowed. KIND is dir,
 file, prog or link; missing, a name that is not there but has a veil of its own;
 or other, all further names of the directory PATH. The calls stand in one order,
-with commas between them. With `--process all` the lists of all processes that
-were ever made come one after another.
+with commas between them. With `--process 1,2,..` the lists of these processes
+come one after another, and with `--process all` those of all that were made.
 
 With `--ever` the heading is `ever P`, and a line has all calls that can ever be
 allowed on a thing, whatever process P and what it forks do: on what stands at
@@ -294,13 +294,14 @@ together; those of them that live need the same veils. Then the heading is
 With `--ever --how` a line with calls that the list of now lacks on what it is
 about has one column more: each of these calls with the number of steps of a way
 to it, as `open-w 2,chmod 2`; ? where none is found. `pua how` with this CALL,
-PATH and KIND prints a way. Each such call takes a serving of SCRIPT or two.
+PATH and KIND prints a way. A list of now has no such column, since each of its
+calls comes in one step, and one of several has none, since a way is of one.
 
 With `--why` an answer that is not ok has its reason, as of `pua run --why`, and
 behind CALLS a line has `PROMISES PLACE LETTERS LINE`: the promises by which
 these calls are let through, = for none, and of the veil that covers PATH its
 place, its letters, and the line of SCRIPT since which it has them. Where no
-veil was put, these are three times -.
+veil was put, these are three times -. There are no such columns with `--ever`.
 
 Example: pua objects --process all TREE SCRIPT",
     "
@@ -312,7 +313,9 @@ Example: pua objects --process all TREE SCRIPT",
                        mkdir, symlink, bind, mknod, create-rw, rename and link
                        all need `c`
   processes P and Q have other veils
-                       `--ever` of several is for processes of the same veils"
+                       `--ever` of several is for processes of the same veils
+  objects: no list ..  `--how` is for `--ever` of one process, and `--why` for a
+                       list of now"
 );
 
 pub(crate) const AUDIT_OUTPUT: &str = with_calls_and_faults!(

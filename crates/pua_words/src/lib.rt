@@ -9,8 +9,7 @@ mod version;
 mod words;
 
 pub use command::{
-    AuditWords, Command, EverWords, HowWords, Members, ObjectWords, Processes, Text, TogetherWords,
-    WhyWords,
+    AuditWords, Columns, Command, HowWords, ListWords, Processes, Span, Text, WhyWords,
 };
 pub use usage::UsageLine;
 pub use words::{Stop, read_words};

@@ -8,8 +8,8 @@ ghost use Rattle.pua_calls.specs.Calls.{rules_named};
 ghost use Rattle.pua_objects.specs.Lines.{kind_word};
 ghost use Rattle.pua_words.specs.Commands.{AreFieldsOf, AreIn, AsksSoundly, HasNoNumbers};
 ghost use Rattle.pua_words.specs.Commands.{IsLimitText, IsNumberText, IsProcessNumber, IsTextOf};
-ghost use Rattle.pua_words.specs.Commands.{MayBeAsked, values_found};
-ghost use Rattle.pua_words.specs.Commands.{how_list_asked, list_asked, run_asked, tight_asked};
+ghost use Rattle.pua_words.specs.Commands.{MayBeAsked, columns_meant, run_asked, span_meant};
+ghost use Rattle.pua_words.specs.Commands.{tight_asked, values_found};
 ghost use Rattle.clap.specs.Walk.{Rule};
 ghost use Rattle.clap.specs.Simple.{App, new_app, with_rule, with_subcommand};
 ghost use Rattle.clap.specs.declared.builder.value_parser.ValueParser.{ValueParser};
@@ -28,8 +28,7 @@ ghost use Rattle.pua_words.specs.Plain.{IsMeantBy};
 ghost use Rattle.pua_words.specs.Usages.{AsksAbout, IsStop, is_about};
 
 use crate::command::{
-    AuditWords, Command, EverWords, HowWords, Members, ObjectWords, Processes, Text, TogetherWords,
-    WhyWords,
+    AuditWords, Columns, Command, HowWords, ListWords, Processes, Span, Text, WhyWords,
 };
 use crate::help;
 use crate::usage::UsageLine;
@@ -72,10 +71,10 @@ impl From<AllocError> for Stop {
 ///
 /// Where words in a plain form are a command, it is the one that they name, of the inputs that they
 /// name, by the standard rules: `run` and `tight`, with `--why` or without; `objects`, with
-/// its other options or without, of process 1, or behind these `--process` with a number or `all`;
-/// `why` and `how`, of process 1, with the call and what stands behind it; and `audit --limit N`, of
-/// process 1, from the root, with the names behind it. There each word beside the options begins
-/// with no hyphen.
+/// its other options or without, of process 1, or behind these `--process` with a number, several,
+/// or `all`; `why` and `how`, of process 1, with the call and what stands behind it; and `audit
+/// --limit N`, of process 1, from the root, with the names behind it. There each word beside the
+/// options begins with no hyphen.
 pub fn read_words<'a>(alloc: Global, words: &'a [&'a str]) -> Result<Command<'a>, Stop>
     ensures process { IfOk result (λ command. AsksSoundly command.text) }
     ensures stop { IfErr result (IsStop (map (λ word. word.now) words.now)) }
@@ -475,9 +474,8 @@ fn tight_of<'a>(why: bool) -> Text<'a>
     if why { Text::TightWhy } else { Text::Tight }
 }
 
-/// The list of objects that the words ask for, of now or for ever. None where they name no process,
-/// and where a list for ever is asked for with reasons, or one of now of several numbers, or the steps of
-/// ways of any other list than that for ever of one process.
+/// The list that the words ask for. None where they name no process, and where a line is to end
+/// both with what its calls rest on and with ways.
 fn read_objects<'a>(alloc: Global, found: &ArgMatches<'a>) -> Result<Option<Text<'a>>, AllocError>
     ensures process { IfOk result (λ text. IfSome text AsksSoundly) }
     ensures list { (ever how why : Bool) → IsFlag (found_of found.now) (codes "ever") ever
@@ -492,53 +490,52 @@ fn read_objects<'a>(alloc: Global, found: &ArgMatches<'a>) -> Result<Option<Text
         → IfOk result (λ text. IfSome text
         (IsListOf ever how why (first_value (found_of found.now) (codes "process")))) }
 {
-    let ever = flag_of(found, "ever");
-    let why = flag_of(found, "why");
-    let process = found.get_str("process");
-    if flag_of(found, "how") {
-        return Ok(how_list_of(ever, why, read_processes(process)));
-    }
-    if let Some(processes) = read_processes(process) {
-        return Ok(list_of(ever, why, processes));
-    }
-    if !ever || why {
-        return Ok(None);
-    }
-    let Some(numbers) = read_numbers(alloc, process)? else {
+    let columns = columns_of(flag_of(found, "how"), flag_of(found, "why"));
+    let whose = read_whose(alloc, found.get_str("process"))?;
+    let (Some(columns), Some(whose)) = (columns, whose) else {
         return Ok(None);
     };
-    let members = Members::Named(numbers);
-    Ok(Some(Text::Together(TogetherWords { members })))
+    let span = span_of(flag_of(found, "ever"));
+    Ok(Some(Text::List(ListWords {
+        whose,
+        span,
+        columns,
+    })))
 }
 
-/// The list of these processes, of now or for ever, with reasons or without. None for a list for ever
-/// with reasons.
-fn list_of<'a>(ever: bool, why: bool, processes: Processes) -> Option<Text<'a>>
-    ensures asked { result ≡ list_asked ever why processes }
-    ensures sound { MayBeAsked processes → IfSome result AsksSoundly }
+/// Of which time a list is.
+fn span_of(ever: bool) -> Span
+    ensures { result ≡ span_meant ever }
 {
-    match (ever, why, processes) {
-        (false, false, processes) => Some(Text::Objects(ObjectWords { processes })),
-        (false, true, processes) => Some(Text::ObjectsWhy(ObjectWords { processes })),
-        (true, false, Processes::One(process)) => Some(Text::Ever(EverWords { process })),
-        (true, false, Processes::All) => Some(Text::Together(TogetherWords {
-            members: Members::All,
-        })),
-        (true, true, _) => None,
+    if ever { Span::Ever } else { Span::Now }
+}
+
+/// What stands behind the calls of its lines: not both what they rest on and ways.
+fn columns_of(how: bool, why: bool) -> Option<Columns>
+    ensures { result ≡ columns_meant how why }
+{
+    match (how, why) {
+        (false, false) => Some(Columns::Plain),
+        (false, true) => Some(Columns::Why),
+        (true, false) => Some(Columns::How),
+        (true, true) => None,
     }
 }
 
-/// The list for ever with the steps of ways, which is of one process, and has no reasons.
-fn how_list_of<'a>(ever: bool, why: bool, processes: Option<Processes>) -> Option<Text<'a>>
-    ensures asked { result ≡ how_list_asked ever why processes }
-    ensures sound { IfSome processes MayBeAsked → IfSome result AsksSoundly }
+/// The processes that a text names: one, all, or several with commas between their numbers; None
+/// for any other text.
+fn read_whose(alloc: Global, text: Option<&str>) -> Result<Option<Processes>, AllocError>
+    ensures sound { IfOk result (λ whose. IfSome whose MayBeAsked) }
+    ensures text { IfOk result (λ whose.
+        IfSome whose (IsTextOf (option_map (λ s. s.now) text.entry))) }
+    ensures each { (processes : Processes)
+        → IsListText (option_map (λ s. s.now) text.entry) processes
+        → IfOk result (λ whose. whose ≡ Some processes) }
 {
-    match (ever, why, processes) {
-        (true, false, Some(Processes::One(process))) => {
-            Some(Text::EverHow(EverWords { process }))
-        }
-        _ => None,
+    if let Some(processes) = read_processes(text) {
+        return Ok(Some(processes));
     }
+    Ok(read_numbers(alloc, text)?.map(Processes::Named))
 }
 
 /// The numbers of processes that a text has with commas between them; None for any other text.

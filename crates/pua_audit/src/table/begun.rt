@@ -39,10 +39,10 @@ pub(crate) struct BegunWalk {
 }
 
 impl Terms {
-    /// A walk over the table of steps with the whole reach ahead, or with those of its pairs that come
-    /// after one, by the places of letters and the numbers of calls from 0 on; and how many states
-    /// are live. Where the process has ended, or its base was removed, there is no pair. The error
-    /// is that a growth was refused.
+    /// A walk over the table of steps with the whole reach ahead, or with those of its pairs that
+    /// come after one, by the places of letters and the numbers of calls from 0 on; and how many
+    /// states are live. Where the process has ended, or its base was removed, there is no pair. The
+    /// only error is that a growth was refused.
     #[tactic(auto, using(crate::proofs::Begun::table_fits, crate::proofs::Starts::lives))]
     pub(crate) fn begun<'t, P: Probe<'t>>(
         &self,
@@ -173,8 +173,8 @@ impl Terms {
     }
 }
 
-/// A walk over a table with all pairs ahead, or with those that come after one. The error is that a
-/// growth was refused.
+/// A walk over a table with all pairs ahead, or with those that come after one. The only error is
+/// that a growth was refused.
 fn walk_after(
     alloc: Global,
     tables: Tables,

@@ -18,8 +18,8 @@ use pua_policy::{Cover, Place, Process};
 use pua_tree::NodeId;
 
 impl Terms {
-    /// What the veils leave of what a letter named in a directory, and nothing where it named nothing.
-    /// It is climbed for only where it can't be handed down or up.
+    /// What the veils leave of what a letter named in a directory, and nothing where it named
+    /// nothing. It is climbed for only where it can't be handed down or up.
     pub(crate) fn cover_of<'t, P: Probe<'t>>(
         &self,
         probe: &mut P,
@@ -52,8 +52,8 @@ impl Terms {
 }
 
 impl Directories {
-    /// What the veils of a process leave of what a part named in a directory, if a directory that has
-    /// a place tells it.
+    /// What the veils of a process leave of what a part named in a directory, if a directory that
+    /// has a place tells it.
     fn handed(&self, process: &Process, from: NodeId, part: &Part, found: &Found) -> Option<Cover>
         ensures { IfSome result (λ left. (t : Tree) → WellFormed t →
             FoundFits t found.now → StandsAsNamed t found.now →
@@ -70,8 +70,8 @@ impl Directories {
         }
     }
 
-    /// What the veils of a process leave of the names in the directory above one that has a place and
-    /// no veil of its own: both have the same cover.
+    /// What the veils of a process leave of the names in the directory above one that has a place
+    /// and no veil of its own: both have the same cover.
     fn handed_up(&self, process: &Process, from: NodeId) -> Option<Cover>
         ensures { IfSome result (λ left. (t : Tree) → WellFormed t →
             AreCovered t process.now self.now → IsTrue (is_dir t from) →
@@ -83,8 +83,8 @@ impl Directories {
         }
     }
 
-    /// What the veils of a process leave of what was found, if the directory over it has a place; of a
-    /// directory that was found by no name, if it has a place itself.
+    /// What the veils of a process leave of what was found, if the directory over it has a place;
+    /// of a directory that was found by no name, if it has a place itself.
     fn handed_down(&self, process: &Process, found: &Found) -> Option<Cover>
         ensures { IfSome result (λ left. (t : Tree) → WellFormed t →
             FoundFits t found.now → StandsAsNamed t found.now →

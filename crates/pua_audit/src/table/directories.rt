@@ -14,8 +14,8 @@ use pua_tree::{NodeId, OutOfMemory};
 use std::alloc::Global;
 use std::marker::Model;
 
-/// The directories of a table of steps, each once: a directory's place is that of its row. With each
-/// is kept what the veils leave of the names in it. Contracts see their numbers and covers.
+/// The directories of a table of steps, each once: a directory's place is that of its row. With
+/// each is kept what the veils leave of the names in it. Contracts see their numbers and covers.
 #[derive(Drop)]
 pub(crate) struct Directories {
     numbers: IndexSet<u32>,
@@ -46,7 +46,7 @@ impl Directories {
     }
 
     /// The place of a directory, which is put after all others with its cover unless it is there.
-    /// The error is that a growth was refused.
+    /// The only error is that a growth was refused.
     pub(crate) fn place(&mut self, dir: NodeId, cover: Cover) -> Result<u32, OutOfMemory>
         ensures place { IfOk result (λ place. (place < length self.new.numbers) ×
             (get_or self.new.numbers place 0 ≡ dir)) }

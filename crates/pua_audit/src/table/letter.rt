@@ -49,8 +49,8 @@ pub(crate) struct Letter {
 }
 
 impl Terms {
-    /// What a letter is in a living directory, by the calls on names there that have no veil of their
-    /// own. A file at such a name is not resolved.
+    /// What a letter is in a living directory, by the calls on names there that have no veil of
+    /// their own. A file at such a name is not resolved.
     pub(crate) fn letter<'t, P: Probe<'t>>(
         &self,
         probe: &mut P,
@@ -159,8 +159,8 @@ impl Terms {
         }
     }
 
-    /// The calls that are allowed on what a part names where a final link is kept: the calls on what
-    /// it names where links are followed, if none was.
+    /// The calls that are allowed on what a part names where a final link is kept: the calls on
+    /// what it names where links are followed, if none was.
     fn calls_kept<'t, P: Probe<'t>>(
         &self,
         probe: &mut P,

@@ -28,7 +28,7 @@ ghost use Rattle.std.specs.Prelude.{◌≡◌, ◌<◌, ℕ, [], Some, IfOk, IfS
 ghost use Rattle.pua_audit.specs.Placed.{ArePlaced};
 
 impl<'l> Places<'l> {
-    /// The places of an alphabet's letters. The error is that a growth was refused.
+    /// The places of an alphabet's letters. The only error is that a growth was refused.
     pub(crate) fn of(alloc: Global, letters: &'l Alphabet) -> Result<Places<'l>, OutOfMemory>
         ensures { IfOk result (λ places. places ≡ letters.now) }
     {
@@ -50,7 +50,8 @@ impl<'l> Places<'l> {
     }
 }
 
-/// Where each letter of an alphabet stands, by its bytes. The error is that a growth was refused.
+/// Where each letter of an alphabet stands, by its bytes. The only error is that a growth was
+/// refused.
 fn placed<'l>(
     alloc: Global,
     alphabet: &'l Alphabet,

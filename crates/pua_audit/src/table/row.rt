@@ -25,7 +25,7 @@ use std::alloc::Global;
 impl Spots<'_> {
     /// The row of a living directory, by its cover. Only the letters that it tells apart are looked
     /// up: one set of calls tells all others. What a letter leads to is put after the other
-    /// directories. The error is that a growth was refused.
+    /// directories. The only error is that a growth was refused.
     pub(crate) fn row<'t, P: Probe<'t>>(
         &self,
         alloc: Global,
@@ -69,9 +69,9 @@ impl Spots<'_> {
 }
 
 impl Letter {
-    /// Puts its entry after those of the letters before it, and the directory to which it leads among
-    /// the others. It has none where the calls on letters without entries tell it. The error is
-    /// that a growth was refused.
+    /// Puts its entry after those of the letters before it, and the directory to which it leads
+    /// among the others. It has none where the calls on letters without entries tell it. The only
+    /// error is that a growth was refused.
     fn put(
         &self,
         letter: usize,

@@ -22,7 +22,8 @@ pub(crate) struct LetterSpot {
     pub(crate) letter: usize,
 }
 
-/// The letters that directories tell apart from names that they lack, of what was asked of an audit.
+/// The letters that directories tell apart from names that they lack, of what was asked of an
+/// audit.
 #[derive(Drop)]
 pub(crate) struct Spots<'l> {
     pub(crate) terms: &'l Terms,
@@ -40,7 +41,7 @@ pub(crate) struct Spots<'l> {
 
 impl Terms {
     /// The letters that are no names, and the spots of all rows and of all veils at names. A veil's
-    /// name that is no letter has none. The error is that a growth was refused.
+    /// name that is no letter has none. The only error is that a growth was refused.
     pub(crate) fn spots(
         &self,
         alloc: Global,
@@ -66,7 +67,7 @@ impl Terms {
         })
     }
 
-    /// The letters that are no names. The error is that a growth was refused.
+    /// The letters that are no names. The only error is that a growth was refused.
     fn dots(&self, alloc: Global) -> Result<Vec<usize>, OutOfMemory>
         ensures within { IfOk result
             (λ dots. AllByRecursion (λ place. place < length self.now.letters) dots.items) }
@@ -136,8 +137,9 @@ impl Places<'_> {
         self.add_spot(spots, *dir, name)
     }
 
-    /// Puts the spot of a name in a directory after others, if it is a letter. The letter after that
-    /// of the last spot is tried first: it is that of the next row, where a directory has them all.
+    /// Puts the spot of a name in a directory after others, if it is a letter. The letter after
+    /// that of the last spot is tried first: it is that of the next row, where a directory has them
+    /// all.
     fn add_spot(
         &self,
         spots: &mut Vec<LetterSpot>,
@@ -172,8 +174,8 @@ impl Spots<'_> {
         self.veiled.contains(&dir)
     }
 
-    /// The letters that a directory tells apart from names that it lacks, in their order, each once.
-    /// The error is that a growth was refused.
+    /// The letters that a directory tells apart from names that it lacks, in their order, each
+    /// once. The only error is that a growth was refused.
     pub(crate) fn letters_in(&self, alloc: Global, dir: NodeId) -> Result<Vec<usize>, OutOfMemory>
         ensures { IfOk result (λ letters. AreLettersIn dir self.now.dots.items self.now.names.items
             letters.items) }
@@ -211,7 +213,7 @@ fn run_in(spots: &[LetterSpot], dir: NodeId) -> usize
     count
 }
 
-/// The letters of spots. The error is that a growth was refused.
+/// The letters of spots. The only error is that a growth was refused.
 fn letters_at(alloc: Global, spots: &[LetterSpot]) -> Result<Vec<usize>, OutOfMemory>
     ensures { IfOk result (λ letters. letters.items ≡ map (λ spot. spot.letter) spots.now) }
 {
@@ -222,7 +224,7 @@ fn letters_at(alloc: Global, spots: &[LetterSpot]) -> Result<Vec<usize>, OutOfMe
     Ok(letters)
 }
 
-/// The directories in whose names places are. The error is that a growth was refused.
+/// The directories in whose names places are. The only error is that a growth was refused.
 fn veiled_dirs(alloc: Global, places: &[&Place]) -> Result<Vec<NodeId>, OutOfMemory>
     ensures { IfOk result (λ dirs. (dir : ℕ) (name : List ℕ) → IsApart dir dirs.items →
         AreApartFrom (Slot dir name) (map (λ place. place.now) places.now)) }

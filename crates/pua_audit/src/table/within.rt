@@ -31,8 +31,8 @@ pub(crate) struct Within {
 }
 
 impl Terms {
-    /// The calls on names that have no veil of their own, in any living directory that has this cover,
-    /// and in which a name has a veil of its own only if that is said here.
+    /// The calls on names that have no veil of their own, in any living directory that has this
+    /// cover, and in which a name has a veil of its own only if that is said here.
     pub(crate) fn within(&self, cover: Cover, veiled: bool) -> Within
         ensures { (dir : ℕ) → IsTrue (is_dir self.now.seen.tree dir) →
             cover ≡ cover_in self.now.seen.tree self.now.process dir →

@@ -6,8 +6,8 @@ use crate::table::RuleRow;
 use pua_path::Last;
 use std::marker::Model;
 
-/// What a request with two paths needs of what one of them names: one of these sets of promises, and
-/// each of these permissions; and whether the path's last part is followed if it is a link.
+/// What a request with two paths needs of what one of them names: one of these sets of promises,
+/// and each of these permissions; and whether the path's last part is followed if it is a link.
 #[derive(Clone, Copy)]
 pub struct NameNeed {
     row: RuleRow,
@@ -104,7 +104,8 @@ impl PairNeed {
         }
     }
 
-    /// What link needs by OpenBSD's rules: its old name is read alone, and followed if it is a link.
+    /// What link needs by OpenBSD's rules: its old name is read alone, and followed if it is a
+    /// link.
     pub(super) fn openbsd_link() -> PairNeed
         ensures { result ≡ openbsd_link }
     {

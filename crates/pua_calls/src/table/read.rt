@@ -71,12 +71,12 @@ impl CallTable {
     /// The table that a TOML text gives. Each key of the document is the name of a call, and its
     /// value a table with the keys `promises`, an array of 1 to 8 texts, and `veil`, a text: the
     /// call needs all keywords of one of these texts, and the permissions of the veil. A text may
-    /// be empty. Calls that the text does not name need what they need by the standard table, and so
-    /// do rename and link, which no text can name. The format is this program's own.
+    /// be empty. Calls that the text does not name need what they need by the standard table, and
+    /// so do rename and link, which no text can name. The format is this program's own.
     ///
     /// `BadToml` where the text is no document; else the fault of the first key by the bytes of the
-    /// keys, in the order `BadKey`, `BadRow`, `BadPromises`, `BadVeil`. `OutOfMemory` where a growth
-    /// was refused, which happens to no text of white space and comments alone.
+    /// keys, in the order `BadKey`, `BadRow`, `BadPromises`, `BadVeil`. `OutOfMemory` where a
+    /// growth was refused, which happens to no text of white space and comments alone.
     pub fn read(alloc: Global, text: &[u8]) -> Result<CallTable, TableFault>
         ensures read { IfOk result (λ table. table_of text.now ≡ Ok table) }
         ensures pairs { IfOk result (HasPairsOf standard_table) }

@@ -41,8 +41,8 @@ const SHORT_TEXT: &[u8] = b"1 ok\nreach 1\n/../a mkdir\n/../a symlink\n/a mkdir\
 /// How many sinks break under it: at each of its bytes, and after the last one.
 const BREAKS: usize = 60;
 
-/// An audit whose lines take more than one block of 65,536 bytes: of a new process, over a directory
-/// in which nothing stands.
+/// An audit whose lines take more than one block of 65,536 bytes: of a new process, over a
+/// directory in which nothing stands.
 const LONG: Audited<'static> = Audited {
     tree: b"tree 1\n0 dir\n1 dir 0 d\n",
     script: b"",
@@ -60,8 +60,8 @@ const LONG: Audited<'static> = Audited {
 const LONG_BYTES: usize = 68_027;
 
 /// From which puts on the sinks fail that break about the ends of the first block and of the text:
-/// from two puts before each of them to three puts after it. There stand 8 bytes before the lines of
-/// the long audit, and 61,430 bytes of these in the first block.
+/// from two puts before each of them to three puts after it. There stand 8 bytes before the lines
+/// of the long audit, and 61,430 bytes of these in the first block.
 const CUTS: [usize; 24] = [
     6, 7, 8, 9, 10, 11, 61_428, 61_429, 61_430, 61_431, 61_432, 61_433, 61_436, 61_437, 61_438,
     61_439, 61_440, 61_441, 68_025, 68_026, 68_027, 68_028, 68_029, 68_030,
@@ -76,8 +76,8 @@ const WIDE: [usize; 3] = [65_536, 65_537, usize::MAX];
 /// Room for the longest of the texts.
 const ROOM: usize = 131_072;
 
-/// How many readers there are: one for each byte of the listing, one that fails at its end, and one that
-/// doesn't fail.
+/// How many readers there are: one for each byte of the listing, one that fails at its end, and one
+/// that doesn't fail.
 const READERS: usize = 120;
 
 /// What is tried with each of some numbers.
@@ -163,9 +163,9 @@ fn front(text: &[u8], count: usize) -> &[u8] {
     text.get(..count).unwrap_or(text)
 }
 
-/// Whether an audit, with a sink that takes so many bytes a put and fails from this put on, leaves in it
-/// the bytes of the puts before, and answers that it can't write unless these are the whole text. Of a
-/// sink that fails at last the bytes go one by one.
+/// Whether an audit, with a sink that takes so many bytes a put and fails from this put on, leaves
+/// in it the bytes of the puts before, and answers that it can't write unless these are the whole
+/// text. Of a sink that fails at last the bytes go one by one.
 fn is_cut(
     alloc: Global,
     audited: &Audited<'_>,
@@ -209,8 +209,8 @@ fn are_puts_few(alloc: Global, text: &[u8], most: Option<&usize>) -> bool {
     answer == Ok(()) && sink.bytes() == text && sink.puts() <= few
 }
 
-/// Whether the command of the short audit writes so many bytes of its text to this output, which leaves
-/// them there, and has the status and the line of one that wrote them.
+/// Whether the command of the short audit writes so many bytes of its text to this output, which
+/// leaves them there, and has the status and the line of one that wrote them.
 fn is_reported<O: Sink>(alloc: Global, out: &mut O, wanted: &[u8]) -> Result<bool> {
     let words = ["audit", "--limit", "2", "T", "S", "a"];
     let entries = [("T", SHORT.tree), ("S", SHORT.script)];

@@ -1,5 +1,5 @@
-//! Calls of functions whose contracts are long to load. Each is cited here alone, and nothing of it is
-//! promised on: what they do is compared with what is written.
+//! Calls of functions whose contracts are long to load. Each is cited here alone, and nothing of it
+//! is promised on: what they do is compared with what is written.
 
 use pua_tool::{Inputs, Job, Sink, ToolFault, audit_to, command};
 use std::alloc::Global;

@@ -18,8 +18,8 @@ pub(crate) struct DrippingSink {
 }
 
 impl DrippingSink {
-    /// A sink that takes at most so many bytes a put, but at least one, and whose puts fail from this
-    /// one on.
+    /// A sink that takes at most so many bytes a put, but at least one, and whose puts fail from
+    /// this one on.
     pub(crate) fn new(alloc: Global, most: usize, fails_from: usize) -> DrippingSink {
         DrippingSink {
             bytes: Vec::new(alloc),

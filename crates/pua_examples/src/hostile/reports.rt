@@ -1,5 +1,6 @@
-//! Help, the version and the lines of faults, on outputs that take a few bytes a put: each is written
-//! whole. The same commands with outputs in memory say what it is, and of the lines also a table.
+//! Help, the version and the lines of faults, on outputs that take a few bytes a put: each is
+//! written whole. The same commands with outputs in memory say what it is, and of the lines also a
+//! table.
 
 use crate::hostile::called::command_done;
 use crate::hostile::dripping::DrippingSink;
@@ -95,8 +96,8 @@ fn is_long_name_told(alloc: Global) -> Result<bool> {
     is_told(alloc, &told)
 }
 
-/// Whether a command ends with this status, reports this line, and writes a text where it is done and
-/// none where it isn't: into memory, and the same bytes in drips.
+/// Whether a command ends with this status, reports this line, and writes a text where it is done
+/// and none where it isn't: into memory, and the same bytes in drips.
 fn is_told(alloc: Global, told: &Told<'_>) -> Result<bool> {
     let mut out = MemorySink::new(alloc, 65_536)?;
     let mut err = MemorySink::new(alloc, 1_024)?;
@@ -121,8 +122,8 @@ fn are_dripped(alloc: Global, told: &Told<'_>, text: &[u8]) -> bool {
     holds
 }
 
-/// Whether a command ends so where its outputs take so many bytes a put, and the one for faults fails from
-/// this put on. A line that can't be written is dropped, and changes nothing else.
+/// Whether a command ends so where its outputs take so many bytes a put, and the one for faults
+/// fails from this put on. A line that can't be written is dropped, and changes nothing else.
 fn is_dripped(alloc: Global, told: &Told<'_>, text: &[u8], most: usize, fails_from: usize) -> bool {
     let mut inputs = MemoryInputs::new(&ENTRIES);
     let mut out = DrippingSink::new(alloc, most, usize::MAX);

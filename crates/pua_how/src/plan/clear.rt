@@ -90,8 +90,8 @@ impl Search<'_, '_> {
         Ok(draft.call(remover(row), &at)?)
     }
 
-    /// Takes away what stands at a name: it is removed, or moved. False where it is a directory that is to be
-    /// removed once it is emptied.
+    /// Takes away what stands at a name: it is removed, or moved. False where it is a directory
+    /// that is to be removed once it is emptied.
     fn take_away(&self, draft: &mut Draft, row: &Row, gives_way: bool) -> Result<bool, Stop> {
         let is_removed = gives_way || self.is_removable(draft, row);
         if is_removed && row.object != Object::Node(Kind::Dir) {
@@ -118,8 +118,8 @@ impl Search<'_, '_> {
         Ok(())
     }
 
-    /// Empties a directory: what stands in it is removed, or moved away, or removed with all that is
-    /// below it. Nothing is put into it any more.
+    /// Empties a directory: what stands in it is removed, or moved away, or removed with all that
+    /// is below it. Nothing is put into it any more.
     pub(crate) fn empty(&self, draft: &mut Draft, dir: NodeId) -> Result<(), Stop> {
         draft.close(self.planner.extent(dir))?;
         for row in self.planner.below(dir) {

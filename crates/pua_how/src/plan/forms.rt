@@ -65,8 +65,8 @@ const CARRIED: Source = Source {
 };
 
 impl Search<'_, '_> {
-    /// Whether something can come to the name of a veil, and the call is granted there on it, or on what it
-    /// carries: a directory doesn't take over the veil of its name.
+    /// Whether something can come to the name of a veil, and the call is granted there on it, or on
+    /// what it carries: a directory doesn't take over the veil of its name.
     fn is_granted(&self, source: &Source, veil: &Veil) -> bool {
         let fits = veil.dir.is_none() || (source.is_dir && source.by == By::Rename);
         let suffices = match self.planner.dir_row(veil.slot.dir) {
@@ -82,8 +82,9 @@ impl Search<'_, '_> {
         self.planner.rights.call(call).and(gives)
     }
 
-    /// Whether the call is granted by a form to the name of a veil. Above the directory of a name the veils
-    /// are the same, up to the next one that has a veil of its own, so none of those is a carrier.
+    /// Whether the call is granted by a form to the name of a veil. Above the directory of a name
+    /// the veils are the same, up to the next one that has a veil of its own, so none of those is a
+    /// carrier.
     pub(crate) fn is_form(&self, source: &Source, carrier: Carrier, veil: &Veil) -> bool {
         match (carrier, source.origin) {
             (Carrier::Nothing, _) => self.is_granted(source, veil),
@@ -97,7 +98,8 @@ impl Search<'_, '_> {
         }
     }
 
-    /// The directory of a destination, if it is this one or in it, or the one that gives way is this one.
+    /// The directory of a destination, if it is this one or in it, or the one that gives way is
+    /// this one.
     fn inner(&self, to: &Destination, outer: NodeId) -> Option<NodeId> {
         let dir = match to {
             Destination::Inside(Dir::Standing(dir)) => *dir,
@@ -138,8 +140,8 @@ impl Search<'_, '_> {
         self.end(draft, thing)
     }
 
-    /// A directory is to leave for a destination: it is emptied, if it is to be removed, and nothing is put
-    /// into it; a destination in it is pulled out.
+    /// A directory is to leave for a destination: it is emptied, if it is to be removed, and
+    /// nothing is put into it; a destination in it is pulled out.
     fn leave(&self, draft: &mut Draft, dir: NodeId, to: &Destination) -> Result<(), Stop> {
         draft.close(self.planner.extent(dir))?;
         match self.inner(to, dir) {
@@ -150,8 +152,8 @@ impl Search<'_, '_> {
         }
     }
 
-    /// Pulls a directory out of another one above it: from the nearest one with a veil of its own upwards,
-    /// the first that can be moved is moved away.
+    /// Pulls a directory out of another one above it: from the nearest one with a veil of its own
+    /// upwards, the first that can be moved is moved away.
     fn pull(&self, draft: &mut Draft, outer: NodeId, inner: NodeId) -> Result<(), Stop> {
         let (mut dir, mut is_veiled) = (inner, false);
         for _ in &self.planner.dirs {
@@ -193,8 +195,8 @@ impl Search<'_, '_> {
         }
     }
 
-    /// From where something comes on. It is made in a directory, or else at a name with a veil of its own,
-    /// which a directory does not take over.
+    /// From where something comes on. It is made in a directory, or else at a name with a veil of
+    /// its own, which a directory does not take over.
     fn origin(&self, draft: &mut Draft, source: &Source) -> Result<At, Stop> {
         let call = match (draft.from, source.origin) {
             (Some(from), _) => return Ok(from),

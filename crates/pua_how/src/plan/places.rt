@@ -1,5 +1,5 @@
-//! Where something can be put: at a new name in the nearest directory for it, or at a name with a veil of
-//! its own.
+//! Where something can be put: at a new name in the nearest directory for it, or at a name with a
+//! veil of its own.
 
 use crate::plan::Search;
 use crate::plan::draft::{Draft, Stop};
@@ -46,8 +46,8 @@ impl Search<'_, '_> {
         None
     }
 
-    /// To where what stands in the way can be moved: a directory from where it could be moved on, or any,
-    /// or else a name with a veil of its own.
+    /// To where what stands in the way can be moved: a directory from where it could be moved on,
+    /// or any, or else a name with a veil of its own.
     pub(crate) fn room(&self, draft: &mut Draft) -> Result<At, Stop> {
         let takes = self.planner.rights.takes(By::Rename);
         let gives = self.planner.rights.gives(By::Rename, false);
@@ -58,8 +58,8 @@ impl Search<'_, '_> {
         }
     }
 
-    /// A name with a veil of its own that meets a need, to which nothing else comes then: one where nothing
-    /// stands, or else one where something is unlinked.
+    /// A name with a veil of its own that meets a need, to which nothing else comes then: one where
+    /// nothing stands, or else one where something is unlinked.
     pub(crate) fn name_for(&self, draft: &mut Draft, need: &Need) -> Result<At, Stop> {
         let free = self.first_slot(draft, need, false);
         let slot = free.or(self.first_slot(draft, need, true));

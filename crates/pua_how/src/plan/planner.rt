@@ -132,8 +132,8 @@ fn taken_in(alloc: Global, items: &[ListItem<'_>]) -> Result<Vec<Name>, AllocErr
 }
 
 impl<'t> Planner<'t> {
-    /// Walks all that stands or could stand in a tree, by the veils of a process. The only error is that
-    /// a growth was refused.
+    /// Walks all that stands or could stand in a tree, by the veils of a process. The only error is
+    /// that a growth was refused.
     pub fn new<T: FileTree>(
         alloc: Global,
         tree: &'t T,

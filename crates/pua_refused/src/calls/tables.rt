@@ -1,5 +1,5 @@
-//! How tables of calls are read. The texts are those of the library's worked examples, which are its
-//! contract's word on what a text gives.
+//! How tables of calls are read. The texts are those of the library's worked examples, which are
+//! its contract's word on what a text gives.
 
 use pua_calls::{Call, CallTable, Perms, TableFault, table_examples};
 use std::alloc::Global;

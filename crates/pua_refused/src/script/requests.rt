@@ -1,7 +1,7 @@
 //! Of scripts and of the requests that they have.
 
-use pua_calls::{Perms, Promises};
-use pua_script::{Action, Given, read_request, read_script};
+use pua_calls::{Perms, Promises, Rules};
+use pua_script::{Action, Given, read_request, read_script, read_script_by};
 use std::alloc::Global;
 
 /// A line that has no request is a fault of the script.
@@ -85,6 +85,22 @@ fn without_path_bytes(alloc: Global) {
         unreachable!()
     };
     if path.bytes().is_empty() {
+        unreachable!()
+    }
+}
+
+/// A call without a path asks for the promises that its line names.
+fn without_sets(alloc: Global) {
+    let Ok(script) = read_script_by(alloc, Rules::Openbsd, b"1 uses inet\n") else {
+        return;
+    };
+    let Some(request) = script.requests().first() else {
+        unreachable!()
+    };
+    let Action::Uses(any) = request.action() else {
+        unreachable!()
+    };
+    if any.sets().is_empty() {
         unreachable!()
     }
 }

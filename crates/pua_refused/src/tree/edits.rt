@@ -45,7 +45,8 @@ fn moved_into_its_subtree(alloc: Global) {
     }
 }
 
-/// A tree of 65,534 rows that may have 65,535 names takes no further one, however few its nodes are.
+/// A tree of 65,534 rows that may have 65,535 names takes no further one, however few its nodes
+/// are.
 fn names_65536(alloc: Global, tree: &mut ListTree, dir: NodeId, name: Name, node: NodeId) {
     let Ok(rows) = tree.rows(alloc) else {
         return;

@@ -1,8 +1,8 @@
 //! Wrong bodies of `pua_tool` at sinks that fail, and at one that never does.
 
 use pua_tool::{
-    DONE, MemoryInputs, MemorySink, Processes, PutFault, Sink, StreamSink, TableChoice, ToolFault,
-    command, objects_to, program, run_to,
+    DONE, ListWords, MemoryInputs, MemorySink, PutFault, Sink, StreamSink, TableChoice, ToolFault,
+    command, list_to, program, run_to,
 };
 use std::alloc::Global;
 use std::io::{self, BufWriter, Write};
@@ -24,10 +24,10 @@ impl Sink for Taking {
 }
 
 /// Where no put fails, no list of processes is cut short by a put that failed.
-fn spurious_write_fault(alloc: Global, tree: &[u8], script: &[u8], processes: Processes) {
+fn spurious_write_fault(alloc: Global, tree: &[u8], script: &[u8], list: &ListWords) {
     let mut sink = Taking;
     let table = TableChoice::STANDARD;
-    let written = objects_to(alloc, tree, script, table, processes, &mut sink);
+    let written = list_to(alloc, tree, script, table, list, &mut sink);
     if let Err(ToolFault::Write) = written {
         unreachable!()
     }

@@ -19,6 +19,7 @@ returns-then-not-some_exec-clause-list g c = λ whose.
     record {
       rows = subst (λ lines. AreEverTold t [] c.in_ok-rows.rows.items lines []) (sym (lasting_unstarted t table h none)) told;
       execs = c.in_ok-execs.ensures.execs ∙ sym (starts_unlisted t table h none);
+      items = c.in_ok-rows.ensures.items;
     }
 
 pub returns-in_default-clause-list : goal.returns-in_default-clause-list
@@ -34,6 +35,7 @@ returns-in_default-clause-list g c = λ whose.
     record {
       rows = subst (λ lines. AreEverTold t [] c.in_ok-rows.rows.items lines []) (sym (lasting_unbounded t table h unbound)) told;
       execs = sym (starts_open t table h some unbound);
+      items = c.in_ok-rows.ensures.items;
     }
 
 pub returns-clause-list : goal.returns-clause-list
@@ -50,6 +52,7 @@ returns-clause-list g c = λ whose.
       rows = subst (λ lines. AreEverTold t [] c.in_ok-through.through.items lines [])
           (sym (lasting_through t table h here.given here.bound some)) (c.in_ok-through.ensures.rows h here);
       execs = sym (starts_bounded t table h here.given some here.bound);
+      items = c.in_ok-through.ensures.items h here;
     }
 
 -- ---- what refuses the list

@@ -17,6 +17,12 @@ returns-clause-rows g c =
     subst (λ lines. AreEverTold t [] c.add_made.new.rows.items lines [])
     (ap (λ xs. ever_lines_of t table h (flat_map both_of xs ++ made_left (Some Dir)))
     (ap (items_told t []) same ∙ given.items) ∙ lines_first t table h)
-    (c.in-Ok-add_made.ensures t table h c.deref.result.now found
-    (c.in-Ok-rows_of.ensures t c.known.ensures (c.why_refused.ensures.none c.in_default.is) found
+    (c.in-Ok-add_made.ensures.told t table h c.deref.result.now found
+    (c.in-Ok-rows_of.ensures.told t c.known.ensures (c.why_refused.ensures.none c.in_default.is) found
     (subst (AllByRecursion (IsToldIn t c.args.process.now)) (sym same) given.told) (subst (AreNear []) (sym same) given.near)))
+
+pub returns-clause-items : goal.returns-clause-items
+returns-clause-items g c =
+    let t = g.T.FileTree.content c.args.tree.now in
+    c.in-Ok-add_made.ensures.items t c.args.process.now
+    (c.in-Ok-rows_of.ensures.items t c.known.ensures (subst (AllByRecursion (IsToldIn t c.args.process.now)) (sym c.deref.ensures.value) c.in-Ok-list_items.ensures.told))

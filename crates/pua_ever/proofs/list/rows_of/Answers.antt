@@ -6,7 +6,7 @@ use Rattle.pua_objects.specs.ListItems.{IsToldIn, items_told, last_word}
 use Rattle.pua_objects.specs.declared.list.ListItem.{ListItem}
 use Rattle.pua_ever.specs.EverList.{AreEverTold, AreRowsSoFar}
 use Rattle.pua_ever.specs.declared.made.Made.TheVariants.{Dir}
-use Rattle.pua_ever.proofs.RowsTell.{both_told, near_at, told_at}
+use Rattle.pua_ever.proofs.RowsTell.{near_at, told_at}
 use Rattle.pua_ever.proofs.list.rows_of.Goals as goal
 
 pub loop-item-preserved : goal.loop-item-preserved
@@ -28,15 +28,19 @@ loop-item-preserved c = record {
       let here : IsToldIn t h item = subst (IsToldIn t h) (sym c.item-item.is) (told_at (IsToldIn t h) items i item all within) in
       let close : item.depth ≤ length (last_word [] (take i items)) =
       subst (λ (x : ListItem). x.depth ≤ length (last_word [] (take i items))) (sym c.item-item.is) (near_at [] items i item near within) in
-      subst (λ so_far. AreRowsSoFar t table h items so_far (drop (i + 1) items) c.push-in-loop-item.new.self.items) (sym taken)
-      (both_told t table h h items (take i items) (drop (i + 1) items) item rows c.stands_row-stands.result c.freed_row-freed.result now close
-      c.stands_row-stands.ensures.at (c.stands_row-stands.ensures.row t fits needs found here) c.freed_row-freed.ensures.at
-      c.freed_row-freed.ensures.thing (c.freed_row-freed.ensures.calls t fits found here) c.push-in-loop-item.new.self.items
-      (c.in-Ok-push.ensures.items ∙ ap (λ rs. rs ++ c.freed_row-freed.result ∷ []) c.in-Ok.ensures.items));
+      subst (λ so_far. AreRowsSoFar t table h items so_far (drop (i + 1) items) c.add_rows.new.rows.items) (sym taken)
+      (c.in_ok-add_rows.ensures.told t items (take i items) (drop (i + 1) items) fits needs found here close now);
+  items = λ t fits all.
+      let h = c.args.process.now in
+      let items = c.args.items.now in
+      let i = c.loop-item.item-index in
+      let item = c.item-item.result in
+      c.in_ok-add_rows.ensures.items t fits
+      (subst (IsToldIn t h) (sym c.item-item.is) (told_at (IsToldIn t h) items i item all c.loop-item-test.true)) (c.loop-item.invariant.items t fits all);
 }
 
-pub returns : goal.returns
-returns c = λ t fits needs found all near.
+pub returns-clause-told : goal.returns-clause-told
+returns-clause-told c = λ t fits needs found all near.
     let h = c.args.process.now in
     let table = c.args.table.now in
     let items = c.args.items.now in

@@ -2,7 +2,7 @@ use Rattle.pua_ever.proofs.Common.{[], take, Tree, WellFormed, EditsNeedC}
 use Rattle.std.proofs.Common.{drop}
 use Rattle.std.specs.List.{AllByRecursion}
 use Rattle.pua_objects.specs.ListItems.{AreNear, IsToldIn}
-use Rattle.pua_ever.specs.EverList.{AreRowsSoFar}
+use Rattle.pua_ever.specs.EverList.{AreRowsSoFar, IsRowOn}
 use Rattle.pua_ever.specs.Prospects.{IsProspects}
 use Rattle.pua_ever.proofs.list.rows_of.Given as goal
 
@@ -11,4 +11,5 @@ invariant-loop-item l = record {
   told : (t : Tree) → WellFormed t → EditsNeedC l.table → IsProspects t l.table l.process l.prospects →
       AllByRecursion (IsToldIn t l.process) l.items → AreNear [] l.items →
       AreRowsSoFar t l.table l.process l.items (take l.item-index l.items) (drop l.item-index l.items) l.rows.items;
+  items : (t : Tree) → WellFormed t → AllByRecursion (IsToldIn t l.process) l.items → AllByRecursion (IsRowOn t l.process) l.rows.items;
 }

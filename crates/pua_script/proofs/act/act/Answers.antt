@@ -1,5 +1,5 @@
 use Rattle.pua_script.proofs.Common.{sym, ap, ◌∙◌, Ok, asker_of}
-use Rattle.pua_script.specs.Decide.{decide}
+use Rattle.pua_script.specs.Decide.{decide, decide_uses}
 use Rattle.pua_script.specs.declared.granted.Granted.TheVariants as granted
 use Rattle.pua_script.proofs.Acting.{acts}
 use Rattle.pua_script.proofs.act.act.Goals as goal
@@ -24,6 +24,14 @@ returns-in-Exit-clause-exact g c =
     acts c.args.table.now t c.args.process.now c.args.action.now (Ok granted.Exit)
     (sym (ap (decide c.args.table.now t c.args.process.now) c.in-Exit.is)) _ _ c.answer-in-Exit.result
     c.answer-in-Exit.ensures.exact
+
+pub returns-in-Uses-clause-exact : goal.returns-in-Uses-clause-exact
+returns-in-Uses-clause-exact g c =
+    let t = g.T.FileTree.content c.args.tree.now in
+    acts c.args.table.now t c.args.process.now c.args.action.now c.decide_uses-granted.result
+    (c.decide_uses-granted.ensures ∙ ap (λ sets. decide_uses (asker_of c.args.process.now) sets) c.sets.ensures
+    ∙ sym (ap (decide c.args.table.now t c.args.process.now) c.in-Uses.is)) _ _
+    c.answer-in-Uses.result c.answer-in-Uses.ensures.exact
 
 pub returns-in-Unveil-clause-exact : goal.returns-in-Unveil-clause-exact
 returns-in-Unveil-clause-exact g c = rw (c.in-Unveil.is, ← c.bytes-in-Unveil.ensures) (c.unveil.ensures.exact c.args.table.now)

@@ -1,6 +1,7 @@
-use Rattle.std.proofs.Common.{◌∙◌}
+use Rattle.std.proofs.Common.{◌∙◌, ap}
 use Rattle.std.proofs.lemmas.Result.{err_from_is_err_and}
 use Rattle.pua_tight.specs.Left.{lines_by}
+use Rattle.pua_tight.specs.Tight.{asked_in}
 use Rattle.pua_tight.specs.Uses.{words_from}
 use Rattle.pua_tight.proofs.Trying.{no_uses, uses_made}
 use Rattle.pua_tight.proofs.word_use.word_uses.Goals as goal
@@ -16,6 +17,7 @@ returns-clause-done c =
     let wanted = c.in_ok-wanted.wanted in
     uses_made c.args.rules c.args.table.now wanted.table.now c.args.tree_bytes.now c.args.script_bytes.now wanted.tree wanted.answers.items
     c.in_ok-wanted.requests.items c.tighten.new.requests.items c.in_ok-wanted.ensures.table c.in_ok-wanted.ensures.given
-    c.in_ok-tighten.ensures c.as_slice-3.result.now c.in_ok-uses_of.field-0.items
-    (c.as_slice-3.ensures.value ∙ c.in_ok-words.ensures
-    ∙ (λ j. words_from 0 (lines_by (c.asked_for.ensures j) (c.as_slice.ensures.value j) (c.as_slice-2.ensures.value j)))) c.in_ok-uses_of.ensures
+    c.in_ok-tighten.ensures c.as_slice-4.result.now c.in_ok-uses_of.field-0.items
+    (c.as_slice-4.ensures.value ∙ c.in_ok-words.ensures
+    ∙ (λ j. words_from 0 (lines_by ((c.asked_in.ensures ∙ ap (asked_in c.args.table.now) c.as_slice.ensures.value) j) (c.as_slice-2.ensures.value j)
+    (c.as_slice-3.ensures.value j)))) c.in_ok-uses_of.ensures

@@ -8,7 +8,7 @@ pub returns-in_err-numbers : goal.returns-in_err-numbers
 returns-in_err-numbers g c =
     let done = as_replayed c.args.replay.now in
     let p = err_from_is_err_and c.from_residual.result c.from_residual.ensures.1 in
-    rw (p.1, p.2) (first_refuses g.S.Sink.written g.S.Sink.failed (numbers_asked done.world c.args.processes)
+    rw (p.1, p.2) (first_refuses g.S.Sink.written g.S.Sink.failed (numbers_asked done.world c.args.whose.now)
     (λ numbers. Ok (objects_after c.args.rules done.table done.answers done.world numbers)) c.in_err-numbers.field-0.0 c.args.sink.now
     c.in_err-numbers.ensures.unwritten c.in_err-numbers.ensures.refused)
 
@@ -25,7 +25,7 @@ returns g c =
     let written : Tells (objects_after c.args.rules done.table done.answers done.world numbers) c.write_lists.result a b n m =
     subst (λ (text : List ℕ). Tells text c.write_lists.result a b n m)
     (λ i. front i ++ lists_of c.args.rules done.table done.world (c.as_slice-2.ensures.value i)) c.write_lists.ensures in
-    next_answers g.S.Sink.written g.S.Sink.failed (numbers_asked done.world c.args.processes)
+    next_answers g.S.Sink.written g.S.Sink.failed (numbers_asked done.world c.args.whose.now)
     (λ numbers. Ok (objects_after c.args.rules done.table done.answers done.world numbers)) numbers c.told.result c.args.sink.now c.write_lists.new.sink
     c.in_ok-numbers.ensures.asked
     (c.told.ensures (objects_after c.args.rules done.table done.answers done.world numbers) a b n m written)

@@ -3,6 +3,6 @@ use Rattle.pua_tool.specs.ObjectTexts.{numbers_asked}
 use Rattle.pua_tool.proofs.Numbers.{numbers_are}
 use Rattle.pua_tool.proofs.objects.numbers_of.Goals as goal
 
-pub returns-in-Ok-clause-asked : goal.returns-in-Ok-clause-asked
-returns-in-Ok-clause-asked g c =
-    ap (numbers_asked (world_of c.args.world.now)) c.in-All.is ∙ ap Ok (numbers_are c.args.world.now _ c.in-Ok.ensures)
+pub returns-in_ok-numbers-in-All-clause-asked : goal.returns-in_ok-numbers-in-All-clause-asked
+returns-in_ok-numbers-in-All-clause-asked g c =
+    ap (numbers_asked (world_of c.args.world.now)) c.in-All.is ∙ ap Ok (numbers_are c.args.world.now _ c.in_ok-numbers-in-All.ensures)

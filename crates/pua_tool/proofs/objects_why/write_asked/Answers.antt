@@ -10,10 +10,10 @@ pub returns-in_err-numbers : goal.returns-in_err-numbers
 returns-in_err-numbers g c =
     let q = as_asking c.args.posed.now in
     let p = err_from_is_err_and c.from_residual.result c.from_residual.ensures.1 in
-    rw (p.1, p.2) (λ read is. first_refuses g.S.Sink.written g.S.Sink.failed (numbers_asked (world_left q) c.args.processes)
+    rw (p.1, p.2) (λ read is. first_refuses g.S.Sink.written g.S.Sink.failed (numbers_asked (world_left q) c.args.whose.now)
     (λ numbers. Ok (reason_lines c.args.rules q ++ why_lists_of c.args.rules q numbers)) c.in_err-numbers.field-0.0 c.args.sink.now
     c.in_err-numbers.ensures.unwritten
-    (λ other. (λ i. numbers_asked (world_of (sym is.after i)) c.args.processes) ∙ c.in_err-numbers.ensures.refused other))
+    (λ other. (λ i. numbers_asked (world_of (sym is.after i)) c.args.whose.now) ∙ c.in_err-numbers.ensures.refused other))
 
 pub returns : goal.returns
 returns g c = λ read is.
@@ -23,9 +23,9 @@ returns g c = λ read is.
     let b = g.S.Sink.written c.write_all.new.sink in
     let n = g.S.Sink.failed c.args.sink.now in
     let m = g.S.Sink.failed c.write_all.new.sink in
-    next_answers g.S.Sink.written g.S.Sink.failed (numbers_asked (world_left q) c.args.processes)
+    next_answers g.S.Sink.written g.S.Sink.failed (numbers_asked (world_left q) c.args.whose.now)
     (λ numbers. Ok (reason_lines c.args.rules q ++ why_lists_of c.args.rules q numbers)) numbers c.told.result c.args.sink.now c.write_all.new.sink
-    ((λ i. numbers_asked (world_of (sym is.after i)) c.args.processes) ∙ c.in_ok-numbers.ensures.asked)
+    ((λ i. numbers_asked (world_of (sym is.after i)) c.args.whose.now) ∙ c.in_ok-numbers.ensures.asked)
     (c.told.ensures (reason_lines c.args.rules q ++ why_lists_of c.args.rules q numbers) a b n m
     (subst (λ (lent : List ℕ). Tells (reason_lines c.args.rules q ++ why_lists_of c.args.rules q lent) c.write_all.result a b n m) c.as_slice-numbers.ensures.value
     (c.write_all.ensures read is)))

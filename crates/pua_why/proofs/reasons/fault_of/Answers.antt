@@ -15,3 +15,9 @@ returns-in-Link g c =
     let t = g.T.FileTree.content c.args.tree.now in
     c.link_fault-fault.ensures ∙ ap (λ a. refused_by (decide_by faults c.args.table.now t (faults_of c.args.process.now) a))
     ((λ i. actions.Link (c.bytes-old-in-Link.ensures i) (c.bytes-new-in-Link.ensures i)) ∙ sym c.in-Link.is)
+
+pub returns-in-Uses : goal.returns-in-Uses
+returns-in-Uses g c =
+    let t = g.T.FileTree.content c.args.tree.now in
+    c.uses_fault.ensures ∙ ap (λ a. refused_by (decide_by faults c.args.table.now t (faults_of c.args.process.now) a))
+    ((λ i. actions.Uses (c.sets.ensures i)) ∙ sym c.in-Uses.is)

@@ -1,4 +1,4 @@
-use Rattle.pua_ever.proofs.Common.{◌≡◌, [], ◌∷◌, Bool, true, false, sym, ap, ◌∙◌, ◌||◌, if◌then◌else◌, Some, empty_tree, can_link, can_move}
+use Rattle.pua_ever.proofs.Common.{◌≡◌, [], ◌∷◌, true, false, sym, ap, ◌∙◌, ◌||◌, if◌then◌else◌, Some, empty_tree, can_link, can_move}
 use Rattle.pua_ever.proofs.Common.{is_allowed_under}
 use Rattle.pua_policy.specs.Verdict.{Is}
 use Rattle.pua_ever.specs.Ever.{file_covers}

@@ -1,0 +1,11 @@
+use Rattle.std.proofs.Common.{◌∙◌, ap}
+use Rattle.std.specs.Prelude.{bit_or}
+use Rattle.pua_tight.specs.Tight.{union, used_by}
+use Rattle.pua_tight.proofs.Asking.{gathered_next}
+use Rattle.pua_tight.proofs.asked.all_used.Goals as goal
+
+pub loop-request-preserved : goal.loop-request-preserved
+loop-request-preserved c =
+    c.with_sets-used.ensures ∙ ap (λ l. bit_or (union l) c.loop-request.used) (c.used_by.ensures ∙ ap used_by c.action.ensures.action)
+    ∙ gathered_next (λ ask. used_by ask.action) c.args.requests.now c.loop-request.request-index c.request-item.result c.loop-request.used
+    c.loop-request-test.true c.request-item.is c.loop-request.invariant

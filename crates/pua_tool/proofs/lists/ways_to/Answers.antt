@@ -1,0 +1,32 @@
+use Rattle.std.proofs.Common.{◌≡◌, ◌⊎◌, inl, inr, ℕ, List, Vec, Global, sym, subst, refl, Err}
+use Rattle.pua_words.specs.declared.command.Processes.{Processes}
+use Rattle.pua_words.specs.declared.command.Processes.TheVariants.{Named}
+use Rattle.pua_words.specs.declared.command.Processes.TheVariants as processes
+use Rattle.pua_tool.proofs.Common.{Chosen, choice_of}
+use Rattle.pua_tool.specs.ListTexts.{IsWaysText}
+use Rattle.pua_tool.specs.declared.fault.ToolFault.TheVariants.{SeveralHow}
+use Rattle.pua_tool.proofs.TextAnswers.{answers_refused}
+use Rattle.pua_tool.proofs.lists.ways_to.Goals as goal
+
+none_of_several : (choice : Chosen) (tree script : List ℕ) (whose : Processes) →
+    ((numbers : Vec ℕ Global) × (whose ≡ Named numbers)) ⊎ (whose ≡ processes.All) → IsWaysText choice tree script whose (Err SeveralHow)
+none_of_several choice tree script whose (inl named) = subst (λ w. IsWaysText choice tree script w (Err SeveralHow)) (sym named.1) refl
+none_of_several choice tree script whose (inr all) = subst (λ w. IsWaysText choice tree script w (Err SeveralHow)) (sym all) refl
+
+pub returns-in-Named : goal.returns-in-Named
+returns-in-Named g c = record {
+  text = (
+    Err SeveralHow,
+    none_of_several (choice_of c.args.table) c.args.tree_bytes.now c.args.script_bytes.now c.args.whose.now c.in-Named.is,
+    answers_refused g.S.Sink.written g.S.Sink.failed (Err SeveralHow) SeveralHow c.args.sink.now (λ same. cc) (λ other. refl),
+  );
+}
+
+pub returns-in-Named-2 : goal.returns-in-Named-2
+returns-in-Named-2 g c = record {
+  text = (
+    Err SeveralHow,
+    none_of_several (choice_of c.args.table) c.args.tree_bytes.now c.args.script_bytes.now c.args.whose.now c.in-Named.is,
+    answers_refused g.S.Sink.written g.S.Sink.failed (Err SeveralHow) SeveralHow c.args.sink.now (λ same. cc) (λ other. refl),
+  );
+}

@@ -1,0 +1,138 @@
+//! The text of a list, whosever it is, of whatever time, with whatever columns.
+
+ghost use Rattle.std.specs.Prelude.{ℕ, List, Result};
+ghost use Rattle.pua_tool.specs.Answers.{AnswersTo};
+ghost use Rattle.pua_tool.specs.ListTexts.{IsListText, IsWaysText, lasting_text};
+ghost use Rattle.pua_tool.specs.Texts.{choice_of};
+
+use crate::ever::ever_to;
+use crate::ever_how::ever_how_to;
+use crate::fault::ToolFault;
+use crate::objects::objects_to;
+use crate::objects_why::objects_why_to;
+use crate::table::TableChoice;
+use crate::together::together_to;
+use pua_io::Sink;
+use pua_words::{Columns, ListWords, Processes, Span};
+use std::alloc::Global;
+
+/// Writes a list: for each line of the script its number and what it was answered, with columns of
+/// reasons as [`run_why_to`](crate::run_why_to) has it; and then what is listed.
+///
+/// A list of now is one of each process that is asked for, one after another: `objects P`, the
+/// lines of its state where the script ends, and a line `KIND PATH CALLS` for each object on which
+/// a call is allowed, each once: a directory, its further names, then what has or could have a name
+/// in it by the bytes of the names, each directory followed by what is below it. Paths begin at the
+/// root and may have any length.
+///
+/// The state of a process that has ended is `process ended`, and it has no objects. Otherwise it is
+/// `process alive`; `rules openbsd` where the rules that are chosen are those; `promises` and
+/// `execpromises` with the keywords, `=` for none, and `-` where no pledge gave any; `unveil` with
+/// `locked`, with `given-up` where it isn't locked and lacks the promise `unveil`, or with `open`;
+/// by OpenBSD's rules `opening PATH CALLS` for each path that a promise opens by itself, with
+/// `veils` behind it where the veils are asked for it; and for each veil that is kept, in the order
+/// in which their places were first kept, `veil PATH LETTERS`: where its place stands now, `-`
+/// where its directory was removed, and its letters, `=` for none; or `no veils`. What a call needs
+/// is said by the table of calls that is chosen.
+///
+/// The list for ever of one process is `ever P`, the same lines of its state, but that a process
+/// which never pledged has each opening; and a line `KIND PATH CALLS` for each thing that stands or
+/// could stand now on which a call can ever be allowed by what the process and all that it forks do
+/// themselves; in the end a line `KIND new CALLS` for what they can make: `dir`, `other` for the
+/// further names of such a directory, `file` and `link`. Where a line has `exec`, a line of the
+/// state before those of the veils says what becomes of the list when a program is started: `exec
+/// bounded`, where what is started has the veils, and no more than the execpromises, and the list
+/// has what it can touch too; or `exec open`, and the list holds until an exec of theirs succeeds.
+/// The calls of a line are all that can ever be allowed on the thing, wherever it is moved. After a
+/// line of what stands at a name with a veil of its own, and can be taken away, stands a line of
+/// the missing name. Of a process that has ended there is a list, without a line.
+///
+/// The list for ever of several processes, or of all, is one, of what they can touch together:
+/// `ever P,Q,..`, and of each process the lines `process P alive`, `promises`, `execpromises` and
+/// `unveil`, or `process P ended`. Where one of them lives, there follows what is told once of all
+/// that live, as of one: whose rules they are, what becomes of the list at an exec, what promises
+/// open by themselves, and the veils; and a line for each thing on which a call can ever be allowed
+/// to them or to what they fork, by what they do together. A process that has ended adds nothing to
+/// the list.
+///
+/// The columns of reasons stand behind each object's line, `PROMISES PLACE LETTERS LINE`: the
+/// promises on which its calls rest, of each call the first set that is held, `=` for none; and of
+/// the veil that covers it where it is, its letters, `=` for none, and since which line it has them
+/// there; three times `-` where the process has no veils. The column of ways stands behind the
+/// calls of each line that has calls which the list of now lacks on what the line is about: a blank
+/// and these calls in their order, with commas between them, each with a blank and the number of
+/// steps of a way to it on what the line's path and kind mean, as [`how_to`](crate::how_to) writes
+/// one; or `?`, where none was found. Each plan is served in a copy of the world that the script
+/// left.
+///
+/// The first that holds of these is answered before anything is written: `EverWhy`, `NowHow` or
+/// `SeveralHow`, where there is no such list; `Table`, `Listing` and `Script`; `NoProcess`; of a
+/// list for ever that of `CanUnveil`, `LacksC`, `RenameLacksC` and `LinkLacksC` which the first
+/// process has that has one; and of a list of several `OtherVeils`, of the first that lives and the
+/// first behind it that lives and has another place with a veil, or other letters at one. So is
+/// `OutOfMemory`, wherever a growth was refused. `Write` is answered only where a put failed in
+/// this call, and a front of the text is then written.
+pub fn list_to<S: Sink>(
+    alloc: Global,
+    tree_bytes: &[u8],
+    script_bytes: &[u8],
+    table: TableChoice<'_>,
+    list: &ListWords,
+    sink: &mut S,
+) -> Result<(), ToolFault>
+    ensures text { (answer : Result (List ℕ) ToolFault)
+        × IsListText (choice_of table.entry) tree_bytes.now script_bytes.now list.now answer
+        × AnswersTo S.written S.failed answer result sink.old sink.new }
+{
+    let (tree, script, whose) = (tree_bytes, script_bytes, &list.whose);
+    match (list.span, list.columns) {
+        (Span::Now, Columns::Plain) => objects_to(alloc, tree, script, table, whose, sink),
+        (Span::Now, Columns::Why) => objects_why_to(alloc, tree, script, table, whose, sink),
+        (Span::Now, Columns::How) => Err(ToolFault::NowHow),
+        (Span::Ever, Columns::Plain) => lasting_to(alloc, tree, script, table, whose, sink),
+        (Span::Ever, Columns::Why) => Err(ToolFault::EverWhy),
+        (Span::Ever, Columns::How) => ways_to(alloc, tree, script, table, whose, sink),
+    }
+}
+
+/// Writes the list for ever of one process, or of several together.
+fn lasting_to<S: Sink>(
+    alloc: Global,
+    tree_bytes: &[u8],
+    script_bytes: &[u8],
+    table: TableChoice<'_>,
+    whose: &Processes,
+    sink: &mut S,
+) -> Result<(), ToolFault>
+    ensures text { AnswersTo S.written S.failed
+        (lasting_text (choice_of table.entry) tree_bytes.now script_bytes.now whose.now)
+        result sink.old sink.new }
+{
+    match whose {
+        Processes::One(number) => ever_to(alloc, tree_bytes, script_bytes, table, *number, sink),
+        Processes::Named(_) | Processes::All => {
+            together_to(alloc, tree_bytes, script_bytes, table, whose, sink)
+        }
+    }
+}
+
+/// Writes the list for ever of one process with the number of steps of ways.
+fn ways_to<S: Sink>(
+    alloc: Global,
+    tree_bytes: &[u8],
+    script_bytes: &[u8],
+    table: TableChoice<'_>,
+    whose: &Processes,
+    sink: &mut S,
+) -> Result<(), ToolFault>
+    ensures text { (answer : Result (List ℕ) ToolFault)
+        × IsWaysText (choice_of table.entry) tree_bytes.now script_bytes.now whose.now answer
+        × AnswersTo S.written S.failed answer result sink.old sink.new }
+{
+    match whose {
+        Processes::One(number) => {
+            ever_how_to(alloc, tree_bytes, script_bytes, table, *number, sink)
+        }
+        Processes::Named(_) | Processes::All => Err(ToolFault::SeveralHow),
+    }
+}
