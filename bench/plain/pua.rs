@@ -763,6 +763,7 @@ enum Action<'a> {
     Lock,
     Fork(u32),
     Exit,
+    Uses(Vec<u64>),
 }
 
 fn read_path(field: &[u8]) -> Result<Path<'_>, &'static str> {
@@ -794,6 +795,20 @@ fn read_given(field: &[u8]) -> Result<Given, &'static str> {
     Ok(if is_known { Given::Good(set) } else { Given::Unknown })
 }
 
+/// The sets of a line `uses`: keywords with `|` between them, each once, and none `error`.
+fn read_sets(field: &[u8]) -> Result<Vec<u64>, &'static str> {
+    let mut sets = Vec::new();
+    for word in field.split(|byte| *byte == b'|') {
+        let known = KEYWORDS.binary_search_by(|keyword| keyword.as_bytes().cmp(word));
+        let set = 1 << known.map_err(|_| "bad list")?;
+        if set == ERROR || sets.contains(&set) {
+            return Err("bad list");
+        }
+        sets.push(set);
+    }
+    Ok(sets)
+}
+
 fn read_perms(field: &[u8]) -> Option<u8> {
     let letter = |byte: &u8| b"rwxc".iter().position(|letter| letter == byte);
     let letters = if field == b"=" { b"" } else { field };
@@ -821,6 +836,7 @@ fn read_action<'a>(fields: &[&'a [u8]]) -> Result<Action<'a>, &'static str> {
     let action = match *fields {
         [b"exit"] => Action::Exit,
         [b"fork", new] => Action::Fork(number(new).filter(|new| *new > 0).ok_or("bad call")?),
+        [b"uses", sets] if rules().is_openbsd => Action::Uses(read_sets(sets)?),
         [word, path] => match read_call(word).or_else(|| neighbour(word)) {
             None | Some(Call::Symlink) => return Err("bad call"),
             Some(call) => Action::OnPath(call, read_path(path)?),
@@ -935,6 +951,7 @@ fn act(tree: &mut Tree, process: &mut Process, action: &Action) -> Result<(), Er
             process.has_ended = true;
             Ok(())
         }
+        Action::Uses(sets) => process.may_by(sets),
         Action::Fork(_) => unreachable!(),
     }
 }
