@@ -68,7 +68,7 @@ my @FURTHER = (
 
 my $PUA    = program_in(@ARGV);
 my $WORLDS = @ARGV > 1 ? $ARGV[1] : $USUAL;
-my $worlds = Worlds->new($SEED);
+my $worlds = Worlds->new($SEED, { paths_alone => 1 });
 my %counts;
 
 for my $rules (qw(profile openbsd)) {

@@ -26,9 +26,6 @@ my ($WORLDS, $SEED) = (60, 11);
 $WORLDS = $ARGV[1] if @ARGV > 1;
 $SEED   = $ARGV[2] if @ARGV > 2;
 
-# What calls without a path ask for, by OpenBSD's rules.
-my @USES = qw(inet id unix stdio proc rpath inet|unix id|settime|rpath proc|wpath);
-
 # Of so few words all that can be left out is tried.
 my $FEW = 6;
 
@@ -185,7 +182,7 @@ sub with_uses {
     for (0 .. $worlds->number(3)) {
         my $place = $worlds->number(scalar @lines);
         my ($asker) = $worlds->pick(@lines) =~ /\A([0-9]+)/;
-        splice @lines, $place, 0, "$asker uses " . $worlds->pick(@USES) . "\n";
+        splice @lines, $place, 0, "$asker uses " . $worlds->used . "\n";
     }
     return join '', @lines;
 }
