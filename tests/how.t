@@ -21,7 +21,7 @@ use Listed qw(lists_of);
 use Model;
 use Tables qw(content);
 use Things;
-use Worlds qw(answer_of program_in worlds_told);
+use Worlds qw(answer_of program_in rules_of worlds_told);
 
 my $SEED = 17;
 
@@ -98,12 +98,12 @@ sub test_further {
     return;
 }
 
-# By each rules, of each process behind each script that can put no veil any more, each call has a way.
+# By each rules that read it, of each process behind each script that can put no veil any more, each call has a way.
 sub test_examples {
     for my $script (glob "$Bin/../examples/*/*script") {
         my $files = { listing => content(dirname($script) . '/listing'), script => content($script) };
         my ($name) = $script =~ m{examples/(.*)\z};
-        for my $rules (qw(profile openbsd)) {
+        for my $rules (rules_of($files->{script})) {
             my $model = Model->new($files->{listing}, { rules => $rules });
             $model->run($files->{script});
             test_example($name, with_lists({ files => $files, rules => $rules, model => $model, process => $_ }))

@@ -17,7 +17,7 @@ use Listed qw(lists_of state_of);
 use Tables qw(content);
 use Test::More;
 use Tight;
-use Worlds qw(program_in);
+use Worlds qw(program_in rules_of);
 
 my $PROGRAM = program_in(@ARGV);
 
@@ -187,10 +187,15 @@ sub with_uses {
     return join '', @lines;
 }
 
+# Whether each request of a script rests on one set of promises, without a table.
+sub has_one_set { return $_[0] !~ /^\S+\s+f?chown\s|^\S+ uses \S*\|/m }
+
 for my $example (sort grep { -d } glob "$Bin/../examples/*") {
-    my @given = split /\n/, content("$example/script"), -1;
+    my $text = content("$example/script");
     my ($name) = $example =~ m{([^/]*)\z};
-    is_right("the example $name", Tight->new($PROGRAM, content("$example/listing")), 1, @given);
+    my ($rules) = rules_of($text);
+    my $world = Tight->new($PROGRAM, content("$example/listing"), rules => $rules);
+    is_right("the example $name", $world, has_one_set($text), split /\n/, $text, -1);
 }
 for my $number (1 .. $WORLDS) {
     my $listing = $worlds->listing;
@@ -198,7 +203,7 @@ for my $number (1 .. $WORLDS) {
     my %how = $number % 3 == 1 ? () : $number % 3 == 2 ? (rules => 'openbsd') : (table => $worlds->table);
     my $text = $number % 5 ? $worlds->script({ lines => 2 + $worlds->number(8) }) : $worlds->moving_script;
     $text = with_uses($text) if $how{rules};
-    my $has_one_set = !$how{table} && $text !~ /^\S+\s+f?chown\s|^\S+ uses \S*\|/m;
+    my $has_one_set = !$how{table} && has_one_set($text);
     is_right("world $number", Tight->new($PROGRAM, $listing, %how), $has_one_set, lines_in($text));
 }
 note "$count{words} words, of which $count{left} are left; $count{lines} lines of objects, $count{fewer} fewer after";

@@ -12,7 +12,7 @@ use File::Temp qw(tempdir);
 use POSIX ();
 use Tables qw(content);
 
-our @EXPORT_OK = qw(answer_in answer_of program_in worlds_told);
+our @EXPORT_OK = qw(answer_in answer_of program_in rules_of worlds_told);
 
 # All names of trees; each world has a few of them.
 my @NAMES = ('a', 'b', 'c', 'd', 'e', 'f\040g');
@@ -338,6 +338,13 @@ sub _end {
     push @lines, "$process pledge " . $worlds->promises(@LAST) . ' ' . $worlds->promises(@EXECPROMISES) . "\n"
         if $worlds->number(3);
     return @lines;
+}
+
+# The rules by which a script can be read: OpenBSD's alone where it has a call of theirs.
+sub rules_of {
+    my ($script) = @_;
+    my $further = join '|', @FURTHER, 'uses';
+    return $script =~ /^[0-9]+ (?:$further) /m ? ('openbsd') : ('profile', 'openbsd');
 }
 
 # The text of a random table of calls: rows of two or three of the calls.
