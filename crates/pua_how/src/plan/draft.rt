@@ -110,8 +110,7 @@ impl Search<'_, '_> {
     pub(crate) fn room(&self, draft: &mut Draft) -> Result<At, Stop> {
         let takes = self.planner.takes(By::Rename);
         let gives = self.planner.gives(By::Rename, false);
-        let both = gives.and(self.planner.takes(By::Rename));
-        self.put(draft, &both, &takes, true)
+        self.put(draft, &gives.and(takes), &takes, true)
     }
 
     /// Makes something that meets a need: in the nearest directory, or else, if it is none itself,
