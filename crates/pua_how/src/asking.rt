@@ -135,8 +135,8 @@ fn all_meant<T: FileTree>(
     }
 }
 
-/// The highest number of the nodes that live.
-fn last_number<T: FileTree>(alloc: Global, tree: &T) -> Result<NodeId, OutOfMemory>
+/// The highest number of the nodes that live. The only error is that a growth was refused.
+pub fn last_number<T: FileTree>(alloc: Global, tree: &T) -> Result<NodeId, OutOfMemory>
     ensures { IfOk result (λ last. IsLast (T.content tree.now) last) }
 {
     tree.known();
