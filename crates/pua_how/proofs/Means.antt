@@ -1,5 +1,5 @@
 -- The path and the kind of a line of a list for ever mean what the line is about.
-use Rattle.std.proofs.Common.{◌≡◌, ℕ, Bool, true, false, cond, List, [], ◌∷◌, ◌++◌, refl, sym, ap, subst, ◌∙◌, Option, Some, None}
+use Rattle.std.proofs.Common.{◌≡◌, ℕ, Bool, true, false, cond, List, [], ◌∷◌, refl, sym, ap, subst, ◌∙◌, Option, Some, None}
 use Rattle.std.proofs.lemmas.Bool.{false≢true}
 use Rattle.std.specs.Prelude.{◌==◌, filter, if◌then◌else◌, is_some, option_and_then, option_map, unwrap_or}
 use Rattle.pua_tree.specs.Tree.{Node, Tree, is_dir, is_dir_kind, kind_at, look, node_at}

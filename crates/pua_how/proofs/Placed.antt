@@ -1,6 +1,6 @@
 -- The names of a line of a list for ever lead to what it is about.
 use Rattle.std.proofs.Common.{◌≡◌, ℕ, zero, suc, Bool, true, false, List, [], ◌∷◌, ◌++◌, refl, sym, ap, subst, map, inl, inr, ◌∙◌}
-use Rattle.std.proofs.Common.{Option, Some, None, ◌⊎◌, append_assoc}
+use Rattle.std.proofs.Common.{Option, Some, None, append_assoc}
 use Rattle.std.proofs.lemmas.Bool.{and_from, eq-eqb, eqb-true, false≢true}
 use Rattle.std.proofs.lemmas.Cmp.{tied_itself}
 use Rattle.std.specs.Prelude.{◌==◌, ◌&&◌, filter, filter_map, flat_map, if◌then◌else◌, is_some, option_and_then}
@@ -22,7 +22,7 @@ use Rattle.pua_policy.specs.declared.place.Place.TheVariants as place
 use Rattle.pua_audit.specs.Reach.{Word}
 use Rattle.pua_objects.specs.Objects.{Subject, At, Others, Item, entries, items, items_at, items_below, name_at, names_in, veiled_in}
 use Rattle.pua_objects.proofs.ForCallers.{Among, among_contained, among_either, contained, filter_among, flat_among, map_among}
-use Rattle.pua_ever.specs.Ever.{Thing, Stands, Comes, EverLine, all_new, ever, ever_line, freed_at, can_be_freed, has_ever_calls, names_to_free}
+use Rattle.pua_ever.specs.Ever.{Thing, Stands, Comes, EverLine, all_new, ever, ever_line, freed_at, has_ever_calls, names_to_free}
 use Rattle.pua_ever.specs.Ever.{is_free, may_edit, new_line, own_spot, subjects_of}
 use Rattle.pua_ever.specs.Through.{bound_of, ever_lasting, ever_through, has_exec, is_promised_by_one, let_through}
 use Rattle.pua_ever.proofs.ForCallers.{lasting_alone, lasting_through, lasting_unbounded}

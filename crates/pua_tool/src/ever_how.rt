@@ -15,6 +15,7 @@ use crate::table::TableChoice;
 use pua_ever::{both_of, list_lasting};
 use pua_io::Sink;
 use pua_texts::{answer_text, write_ever_how};
+use pua_tree::FileTree;
 use std::alloc::Global;
 
 /// Writes the list for ever of a process with the number of steps of ways.
@@ -53,6 +54,7 @@ fn list_to<S: Sink>(alloc: Global, behind: &Behind<'_>, sink: &mut S) -> Result<
         return Err(ToolFault::NoProcess);
     };
     let (tree, table) = (world.tree(), world.table());
+    tree.known();
     let Ok(both) = both_of(alloc, process, table) else {
         return Err(ToolFault::OutOfMemory);
     };

@@ -1,6 +1,9 @@
 use Rattle.pua_tool.proofs.Common.{◌≡◌, ◌≢◌, ℕ, List, [], ◌++◌, ◌∙◌, map, ap, sym, subst, refl, None, Ok, ProcessState, Tree, CallTable}
 use Rattle.pua_tool.proofs.Common.{answer_lines, err_from_is_err_and, OutOfMemory, Tells, Write, unless_reason}
+use Rattle.std.specs.List.{AllByRecursion}
 use Rattle.std.specs.Prelude.{string_bytes}
+use Rattle.pua_tree.specs.Tree.{WellFormed}
+use Rattle.pua_ever.specs.EverList.{IsRowOn}
 use Rattle.pua_ever.specs.LastingList.{IsBothOf, IsLasting}
 use Rattle.pua_ever.specs.Refusals.{refusal}
 use Rattle.pua_ever.specs.Through.{ever_lasting}
@@ -9,7 +12,7 @@ use Rattle.pua_texts.specs.EverHowLines.{AreToldWith, ever_list_with}
 use Rattle.pua_tool.specs.RowColumns.{AreColumns, done_behind}
 use Rattle.pua_tool.specs.declared.fault.ToolFault.TheVariants.{NoProcess}
 use Rattle.pua_tool.proofs.EverHowTexts.{fault_after, list_after, no_process, refused_after}
-use Rattle.pua_tool.proofs.RowColumns.{lines_told}
+use Rattle.pua_tool.proofs.RowColumns.{columns_told, lines_told}
 use Rattle.pua_tool.proofs.TextAnswers.{answers_told}
 use Rattle.pua_tool.proofs.ever_how.list_to.Goals as goal
 
@@ -75,9 +78,11 @@ returns g c =
     let lasting = c.in-Ok-list_lasting.ensures.list whose in
     let there = subst (λ (table : CallTable). IsLasting done.world.tree table h list) ruled
     (subst (λ (t : Tree). IsLasting t table h list) at lasting) in
-    let columns = subst (λ (rows : List EverRow). AreColumns behind.rules done n h [] rows texts) c.as_slice.ensures.value
-    c.in_ok-columns.ensures.columns in
+    let on = subst (λ (rows : List EverRow). AllByRecursion (IsRowOn done.world.tree h) rows) (sym c.as_slice.ensures.value) there.items in
+    let columns = subst (λ (rows : List EverRow). AreColumns behind.rules done n h rows texts) c.as_slice.ensures.value
+    (c.in_ok-columns.ensures.columns on) in
     let lines = lines_told behind.rules done n h [] rows texts (ever_lasting done.world.tree done.table h) there.rows columns in
+    let own = columns_told behind.rules done n h (subst WellFormed at c.known.ensures) lines.told lines.lines_are lines.columns in
     let none : refusal done.table h ≡ None = (λ i. refusal (sym ruled i) h) ∙ c.in-Ok-list_lasting.ensures.refused whose in
     let front : c.as_str-front.result.now ≡ answer_lines 1 done.answers = c.as_str-front.ensures.value ∙ c.in-Ok-answer_text.ensures ∙
     ap (answer_lines 1) c.as_slice-2.ensures.value in
@@ -92,7 +97,7 @@ returns g c =
     (subst (λ (t : Tree). AreToldWith t [] rows texts lines.told) (sym at) lines.are)) in (
       Ok text,
       list_after behind.rules done n h told (Ok text) (sym c.in-Some.ensures) none
-          (record { lines = lines.told; are = lines.lines_are; columns = lines.columns; is = refl }) refl,
+          (record { lines = lines.told; are = lines.lines_are; columns = own; is = refl }) refl,
       answers_told g.S.Sink.written g.S.Sink.failed (Ok text) text c.told.result c.args.sink.now c.write_ever_how.new.sink refl
           (c.told.ensures text (g.S.Sink.written c.args.sink.now) (g.S.Sink.written c.write_ever_how.new.sink)
           (g.S.Sink.failed c.args.sink.now) (g.S.Sink.failed c.write_ever_how.new.sink) written),
