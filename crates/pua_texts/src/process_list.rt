@@ -16,9 +16,10 @@ use pua_tree::{FileTree, OutOfMemory};
 use std::alloc::Global;
 use std::marker::Model;
 
-/// The list of a process, with all memory that writing it takes.
+/// The list of a process, or that of several together, as it is written by
+/// [`write_lists`](crate::write_lists).
 #[derive(Drop)]
-pub(crate) struct ProcessList<'t> {
+pub struct ProcessList<'t> {
     head: ProcessHead<'t>,
     lines: ListLines<'t>,
     columns: Columns,

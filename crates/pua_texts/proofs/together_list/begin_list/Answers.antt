@@ -25,7 +25,7 @@ returns c = if_ok c.new-2.result (λ list is t table joint.
     some_listed c.args.rules table t named list (string_bytes c.push_bounds.new.text) (map shown c.in_ok-veils.field-0.items)
     c.in_ok-lines.lines.items c.plain-2.result one
     (is ∙ (λ i. record { head = c.of-head-2.ensures i; lines = c.in_ok-lines.lines.items; columns = c.plain-2.result }))
-    (c.in-Ok-push_bounds.ensures
-    ∙ (λ j. c.in-Ok.ensures j ++ bound_lines c.args.rules (Ever (lasting.execs j)) one))
+    (c.in_ok-push_bounds.ensures
+    ∙ (λ j. c.in_ok-text.ensures j ++ bound_lines c.args.rules (Ever (lasting.execs j)) one))
     c.in_ok-veils.ensures.state told (sym joint.is ∙ ap (option_map (λ (joint : Joint). joint.one.now)) c.in-Some.is))
     c.new-2.ensures

@@ -1,7 +1,7 @@
 use Rattle.pua_texts.proofs.Common.{◌≡◌, drop, map, take, flat_map, veil_date, veils_at, Posed, why_lists_of, world_left}
 use Rattle.pua_script.specs.Worlds.{world_of}
 use Rattle.pua_texts.specs.ListLines.{lists_text}
-use Rattle.pua_texts.proofs.why_lists.begin_lists.Given as goal
+use Rattle.pua_texts.proofs.why_lists.begin_reasons.Given as goal
 
 -- the lists so far are those of the numbers so far, and the lines that are left are those of the others
 abbrev pub invariant-loop-number : goal.invariant-loop-number

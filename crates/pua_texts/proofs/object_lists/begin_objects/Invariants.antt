@@ -1,7 +1,7 @@
 use Rattle.pua_texts.proofs.Common.{◌≡◌, take, lists_of}
 use Rattle.pua_script.specs.Worlds.{world_of}
 use Rattle.pua_texts.specs.ListLines.{lists_text}
-use Rattle.pua_texts.proofs.object_lists.begin_lists.Given as goal
+use Rattle.pua_texts.proofs.object_lists.begin_objects.Given as goal
 
 -- the lists so far are those of the numbers so far
 abbrev pub invariant-loop-number : goal.invariant-loop-number

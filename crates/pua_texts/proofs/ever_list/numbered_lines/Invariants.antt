@@ -1,6 +1,6 @@
 use Rattle.pua_texts.proofs.Common.{◌≡◌, ◌++◌, drop, length}
 use Rattle.pua_texts.specs.EverHowLines.{lines_numbered}
-use Rattle.pua_texts.proofs.ever_how_list.numbered_lines.Given as goal
+use Rattle.pua_texts.proofs.ever_list.numbered_lines.Given as goal
 
 -- the lines so far, and those of the rows that are left
 abbrev pub invariant-loop-row : goal.invariant-loop-row

@@ -4,7 +4,7 @@ use Rattle.pua_texts.specs.ObjectLines.{heading_now}
 use Rattle.pua_texts.specs.WhyLines.{why_list}
 use Rattle.pua_texts.proofs.OneByOne.{one_more}
 use Rattle.pua_texts.proofs.VeilDates.{length_dates, some_dated}
-use Rattle.pua_texts.proofs.why_lists.begin_lists.Goals as goal
+use Rattle.pua_texts.proofs.why_lists.begin_reasons.Goals as goal
 
 pub loop-number-preserved : goal.loop-number-preserved
 loop-number-preserved g c = λ p same ruled dated.
@@ -24,7 +24,7 @@ loop-number-preserved g c = λ p same ruled dated.
       split.1,
       one_more (kept_at (world_left p)) (λ process. why_list (heading_now c.args.rules process) p) (world_left p).tree numbers i _
           c.loop-number-test.true c.loop-number.lists.items c.push_back.new.self.items c.in_ok-list.list process now.1 made
-          c.in-Ok.ensures.items listed,
+          c.in_ok-push_back.ensures.items listed,
     )
 
 pub returns : goal.returns
