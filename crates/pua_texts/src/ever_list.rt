@@ -8,18 +8,18 @@ ghost use Rattle.pua_ever.specs.Ever.{EverLine as Told};
 ghost use Rattle.pua_ever.specs.EverList.{AreEverTold};
 ghost use Rattle.pua_ever.specs.LastingList.{IsLasting};
 ghost use Rattle.pua_ever.specs.Through.{execs_of};
-ghost use Rattle.pua_texts.specs.ColumnsState.{plain};
+ghost use Rattle.pua_texts.specs.EndingsState.{plain};
 ghost use Rattle.pua_texts.specs.EverHowLines.{AreToldWith, ever_list_with, lines_numbered};
 ghost use Rattle.pua_texts.specs.EverLines.{ever_lines, ever_list, heading_ever};
 ghost use Rattle.pua_texts.specs.ListLines.{lines_text, lists_text};
 ghost use Rattle.pua_texts.specs.States.{head_lines};
 
-use crate::columns::Columns;
+use crate::endings::Endings;
 use crate::list_line::ListLine;
 use crate::lists::alone;
 use crate::process_head::ProcessHead;
 use crate::process_list::ProcessList;
-use crate::state::{Heading, Span};
+use crate::state::{Heading, Time};
 use pua_calls::Rules;
 use pua_ever::{EverRow, LastingList};
 use pua_policy::Process;
@@ -41,7 +41,7 @@ pub fn begin_ever<'t>(
         lists_text t lists.items ≡ ever_list rules table t number process.now) }
 {
     let lines = ever_lines(alloc, list.rows.as_slice())?;
-    let columns = Columns::plain(alloc);
+    let columns = Endings::plain(alloc);
     list_with(alloc, rules, number, process, list, lines, columns)
 }
 
@@ -61,7 +61,7 @@ pub fn begin_ever_with<'t>(
         lists_text t lists.items ≡ ever_list_with rules table t number process.now lines) }
 {
     let lines = numbered_lines(alloc, list.rows.as_slice())?;
-    let columns = Columns::of_lines(alloc, texts);
+    let columns = Endings::of_lines(alloc, texts);
     list_with(alloc, rules, number, process, list, lines, columns)
 }
 
@@ -74,14 +74,14 @@ fn list_with<'t>(
     process: &'t Process,
     list: &LastingList<'t>,
     lines: Vec<ListLine<'t>>,
-    columns: Columns,
+    columns: Endings,
 ) -> Result<VecDeque<ProcessList<'t>>, OutOfMemory>
     ensures { IfOk result (λ lists. (t : Tree) → lists_text t lists.items
         ≡ head_lines t (heading_ever rules list.now.execs number) process.now
         ++ lines_text columns [] lines.entry.items) }
 {
     let heading = Heading {
-        span: Span::Ever(list.execs),
+        time: Time::Ever(list.execs),
         rules,
         number,
     };

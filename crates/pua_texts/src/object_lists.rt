@@ -5,11 +5,11 @@ ghost use Rattle.pua_script.specs.Worlds.{world_of};
 ghost use Rattle.pua_texts.specs.ListLines.{list_text, lists_text};
 ghost use Rattle.pua_texts.specs.ObjectLines.{lists_of, process_list};
 
-use crate::columns::Columns;
+use crate::endings::Endings;
 use crate::object_lines::object_lines;
 use crate::process_head::ProcessHead;
 use crate::process_list::ProcessList;
-use crate::state::{Heading, Span};
+use crate::state::{Heading, Time};
 use pua_calls::{CallTable, Rules};
 use pua_objects::list_items;
 use pua_policy::Process;
@@ -36,7 +36,7 @@ pub fn begin_objects<'t, T: FileTree>(
             continue;
         };
         let heading = Heading {
-            span: Span::Now,
+            time: Time::Now,
             rules,
             number: *number,
         };
@@ -60,5 +60,5 @@ fn begin_list<'t, T: FileTree>(
     let head = ProcessHead::begin(alloc, heading, process)?;
     let items = list_items(alloc, tree, process)?;
     let lines = object_lines(alloc, process, table, items.as_slice())?;
-    ProcessList::new(alloc, head, lines, Columns::plain(alloc))
+    ProcessList::new(alloc, head, lines, Endings::plain(alloc))
 }

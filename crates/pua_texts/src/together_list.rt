@@ -8,14 +8,14 @@ ghost use Rattle.pua_texts.specs.ListLines.{list_text, lists_text};
 ghost use Rattle.pua_texts.specs.Members.{IsJointOf, named_by};
 ghost use Rattle.pua_texts.specs.TogetherLines.{one_of, together_list};
 
-use crate::columns::Columns;
+use crate::endings::Endings;
 use crate::ever_list::ever_lines;
 use crate::lists::alone;
 use crate::member_states::states_text;
 use crate::members::{Joint, Member};
 use crate::process_head::ProcessHead;
 use crate::process_list::ProcessList;
-use crate::state::{Span, push_bounds};
+use crate::state::{Time, push_bounds};
 use pua_calls::Rules;
 use pua_tree::OutOfMemory;
 use std::alloc::Global;
@@ -52,11 +52,11 @@ fn begin_list<'t>(
     let mut text = states_text(alloc, rules, members)?;
     let Some(joint) = joint else {
         let head = ProcessHead::of(text, Vec::new(alloc));
-        return ProcessList::new(alloc, head, Vec::new(alloc), Columns::plain(alloc));
+        return ProcessList::new(alloc, head, Vec::new(alloc), Endings::plain(alloc));
     };
-    let span = Span::Ever(joint.list.execs);
-    push_bounds(alloc, &mut text, rules, span, joint.one)?;
+    let time = Time::Ever(joint.list.execs);
+    push_bounds(alloc, &mut text, rules, time, joint.one)?;
     let head = ProcessHead::of(text, joint.one.veils(alloc)?);
     let lines = ever_lines(alloc, joint.list.rows.as_slice())?;
-    ProcessList::new(alloc, head, lines, Columns::plain(alloc))
+    ProcessList::new(alloc, head, lines, Endings::plain(alloc))
 }

@@ -11,7 +11,7 @@ ghost use Rattle.pua_texts.specs.WhyLines.{Posed as Asking, why_list, why_lists_
 use crate::object_lines::why_lines;
 use crate::process_head::ProcessHead;
 use crate::process_list::ProcessList;
-use crate::state::{Heading, Span};
+use crate::state::{Heading, Time};
 use crate::veil_columns::veil_columns;
 use pua_calls::{CallTable, Rules};
 use pua_objects::list_items;
@@ -45,7 +45,7 @@ pub fn begin_reasons<'t, T: FileTree>(
         process.known();
         let (own, more) = split_lines(alloc, process, left)?;
         let heading = Heading {
-            span: Span::Now,
+            time: Time::Now,
             rules,
             number: *number,
         };

@@ -11,8 +11,8 @@ pub returns : goal.returns
 returns c = if_ok c.list_with.result (λ lists are t table told execs told_by.
     let h = c.args.process.now in
     let texts = map string_bytes c.args.texts.items in
-    let lines : lines_text c.of_lines.result [] c.in_ok-lines.lines.items ≡ lines_with t told =
-    (λ j. lines_text (c.of_lines.ensures j) [] (c.in_ok-lines.ensures j))
+    let lines : lines_text c.of_lines-columns.result [] c.in_ok-lines.lines.items ≡ lines_with t told =
+    (λ j. lines_text (c.of_lines-columns.ensures j) [] (c.in_ok-lines.ensures j))
     ∙ told_with t c.as_slice.result.now texts [] texts 0 [] told refl refl
     (subst (λ rows. AreToldWith t [] rows texts told) (sym c.as_slice.ensures.value) told_by) in
     are t ∙ (λ j. head_lines t (heading_ever c.args.rules (execs j) c.args.number) h ++ lines j)) c.list_with.ensures

@@ -1,7 +1,7 @@
 use Rattle.pua_texts.proofs.Common.{[], List, ℕ, Ok, Err, get_or, subst, ◌∙◌, err_from_is_err_and, Passes}
-use Rattle.pua_texts.specs.ColumnsState.{veil_column}
+use Rattle.pua_texts.specs.EndingsState.{veil_column}
 use Rattle.pua_texts.proofs.Passing.{passes_then, passes_front}
-use Rattle.pua_texts.proofs.columns.Columns.add_to.Goals as goal
+use Rattle.pua_texts.proofs.endings.Endings.add_to.Goals as goal
 
 pub returns-in_err-add_any : goal.returns-in_err-add_any
 returns-in_err-add_any g c =

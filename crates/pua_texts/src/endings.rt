@@ -6,7 +6,7 @@ ghost use Rattle.std.specs.Prelude.{string_bytes};
 ghost use Rattle.std.specs.List.{AllByRecursion};
 ghost use Rattle.pua_why.specs.Texts.{promises_text};
 ghost use Rattle.pua_texts.specs.Blocks.{PassesOn};
-ghost use Rattle.pua_texts.specs.ColumnsState.{IsNumber, IsResting, columns_of, plain, veil_column};
+ghost use Rattle.pua_texts.specs.EndingsState.{IsNumber, IsResting, columns_of, plain, veil_column};
 ghost use Rattle.pua_texts.specs.EverHowLines.{numbered};
 
 use crate::block::{Block, MOST_LINE};
@@ -27,18 +27,18 @@ struct Resting {
 /// What stands behind the calls of lines, by the number of promises, and by a veil. Contracts see
 /// the texts.
 #[derive(Drop)]
-pub(crate) struct Columns {
+pub(crate) struct Endings {
     resting: Vec<Resting>,
     veils: Vec<String>,
     unveiled: &'static str,
 }
 
-impl Model for Columns {
+impl Model for Endings {
     ghost use Rattle.std.specs.Prelude.{map, string_bytes};
     ghost use Rattle.std.specs.List.{AllByRecursion};
-    ghost use Rattle.pua_texts.specs.ColumnsState.{ColumnsState, IsResting};
+    ghost use Rattle.pua_texts.specs.EndingsState.{EndingsState, IsResting};
 
-    ghost Value = { ColumnsState };
+    ghost Value = { EndingsState };
 
     ghost view = { λ a. record {
       resting = map (λ r. string_bytes r.text) a.resting.items;
@@ -49,12 +49,12 @@ impl Model for Columns {
     ghost invariant = { λ a. AllByRecursion IsResting a.resting.items };
 }
 
-impl Columns {
+impl Endings {
     /// LF alone.
-    pub(crate) fn plain(alloc: Global) -> Columns
+    pub(crate) fn plain(alloc: Global) -> Endings
         ensures { result ≡ plain }
     {
-        Columns {
+        Endings {
             resting: Vec::new(alloc),
             veils: Vec::new(alloc),
             unveiled: "\n",
@@ -62,14 +62,14 @@ impl Columns {
     }
 
     /// No promises yet, these columns of veils, and three dashes where no veil is over.
-    pub(crate) fn of_veils(alloc: Global, veils: Vec<String>) -> Columns
+    pub(crate) fn of_veils(alloc: Global, veils: Vec<String>) -> Endings
         ensures { result ≡ record {
           resting = [];
           veils = map string_bytes veils.items;
           unveiled = codes " - - -" ++ 10 ∷ [];
         } }
     {
-        Columns {
+        Endings {
             resting: Vec::new(alloc),
             veils,
             unveiled: " - - -\n",
@@ -77,10 +77,10 @@ impl Columns {
     }
 
     /// These texts, by their numbers in the place of veils, and LF alone without a number.
-    pub(crate) fn of_lines(alloc: Global, texts: Vec<String>) -> Columns
+    pub(crate) fn of_lines(alloc: Global, texts: Vec<String>) -> Endings
         ensures { result ≡ numbered (map string_bytes texts.items) }
     {
-        Columns {
+        Endings {
             resting: Vec::new(alloc),
             veils: texts,
             unveiled: "\n",
