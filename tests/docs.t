@@ -542,7 +542,7 @@ sub test_options {
     my @shown = content('README.md') =~ /^    (pua \w+ .*(?:\n {6,}.*)*)/mg;
     my %readme = usages_of(grep { /\[--/ } @shown);
     my %all;
-    for my $command (qw(run objects why tight how audit)) {
+    for my $command (qw(run tree objects why tight how audit)) {
         my @help = content("tests/data/help/$command") =~ /^ +(?:-\w, )?--([a-z]+)/mg;
         my $help = join ' ', sort grep { $_ ne 'help' } @help;
         $all{$_} = 1 for split ' ', $help;

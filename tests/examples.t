@@ -28,6 +28,7 @@ my %HELP = (
     audit   => ['audit -h', 'audit --help'],
     objects => ['objects --help'],
     why     => ['why --help'],
+    tree    => ['tree --help', 'help tree'],
     tight   => ['tight --help', 'help tight'],
     how     => ['how --help', 'help how'],
 );

@@ -19,7 +19,7 @@ my $PROGRAM = program_in(@ARGV);
 
 # The commands that refuse an input. The last one's limit is refused too, though later.
 my @REFUSING = ('run TREE SCRIPT', 'objects TREE SCRIPT', 'audit --limit 1 TREE SCRIPT', 'audit --limit 17 TREE SCRIPT');
-push @REFUSING, 'tight TREE SCRIPT', 'tight --why TREE SCRIPT' if !$is_plain;
+push @REFUSING, 'tight TREE SCRIPT', 'tight --why TREE SCRIPT', 'tree TREE SCRIPT' if !$is_plain;
 
 # A listing in which nothing stands.
 my $ROOT = "tree 1\n0 dir\n";
@@ -95,7 +95,7 @@ sub wrong_row {
 sub is_left_out {
     my ($entry, @words) = @_;
     return 0 if !$is_plain;
-    return 1 if @words && $words[0] =~ /\A(?:why|tight|how)\z/;
+    return 1 if @words && $words[0] =~ /\A(?:why|tree|tight|how)\z/;
     my $is_ever = grep { $_ eq '--ever' } @words;
     return 1 if $is_ever && (text($entry, 'state') =~ /^exec /m || grep { /\A(?:all|\d+(?:,\d+)+)\z/ } @words);
     return 1 if ($entry->{status} || 0) != 2 && grep { /\A\d+(?:,\d+)+\z/ } @words;

@@ -109,6 +109,8 @@ sweep 'for ever, with the steps of ways' 0 objects --ever --how twice drop
 sweep 'a way' 0 how twice drop open-r /d/f
 sweep 'a way to what is made' 0 how twice drop stat new
 sweep 'what never comes' 0 how twice both open-r /k
+sweep 'a tree that a script leaves' 0 tree tree gone
+sweep 'a tree of a file with two names' 0 tree twice moves
 sweep 'a tightened script' 0 tight tree gone
 sweep 'a tightened script of a file with two names' 0 tight twice moves
 sweep 'a tightened script of words that are needed' 0 tight twice needs
@@ -129,6 +131,7 @@ sweep 'a table with a bad row' 1 run --table nested tree none
 sweep 'a listing that is cut' 1 run cut none
 sweep 'a further name of no node' 1 run lost none
 sweep 'a list with an empty word' 1 run tree list
+sweep 'a tree behind a list with an empty word' 1 tree tree list
 sweep 'a tightened list with an empty word' 1 tight tree list
 sweep 'a process that can still unveil' 1 objects --ever tree none
 sweep 'no such list' 1 objects --ever --why tree none

@@ -23,4 +23,5 @@ pub mod Several
 pub mod Never
 pub mod TightTexts
 pub mod Fewest
+pub mod ReadBack
 pub mod Headline

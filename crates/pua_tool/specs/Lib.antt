@@ -8,6 +8,7 @@ pub mod HowTexts
 pub mod EverHowTexts
 pub mod ListTexts
 pub mod TightTexts
+pub mod TreeTexts
 pub mod Answers
 pub mod Statuses
 pub mod FaultTexts
@@ -22,10 +23,12 @@ pub mod Several
 pub mod Never
 pub mod Reasoned
 pub mod Fewest
+pub mod ReadBack
 pub mod Headline
 -- Worked rows, which hold by computation.
 pub mod Examples
 pub mod EverHowExamples
+pub mod TreeExamples
 -- Notes: what the code has begun, and the pieces of its lines.
 pub mod Begun
 pub mod Pieces

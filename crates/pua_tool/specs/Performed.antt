@@ -7,7 +7,7 @@ use Rattle.pua_words.specs.Usages.{AsksAbout}
 use Rattle.pua_words.specs.Plain.{IsMeantBy}
 use Rattle.pua_words.specs.declared.command.Command.{Command}
 use Rattle.pua_words.specs.declared.command.Text.{Text}
-use Rattle.pua_words.specs.declared.command.Text.TheVariants.{Run, RunWhy, Why, Audit, How, Tight, TightWhy}
+use Rattle.pua_words.specs.declared.command.Text.TheVariants.{Run, RunWhy, Why, Audit, How, Tree, Tight, TightWhy}
 use Rattle.pua_words.specs.declared.command.Text.TheVariants as text
 use Rattle.pua_tool.specs.declared.fault.ToolFault.{ToolFault}
 use Rattle.pua_tool.specs.declared.fault.ToolFault.TheVariants.{Write, OutOfMemory}
@@ -22,6 +22,7 @@ use Rattle.pua_tool.specs.HowTexts.{IsHowText, way_wanted}
 use Rattle.pua_tool.specs.ListTexts.{IsListText}
 use Rattle.pua_tool.specs.WhyTexts.{run_why_text, why_text}
 use Rattle.pua_tool.specs.TightTexts.{tight_text, tight_why_text}
+use Rattle.pua_tool.specs.TreeTexts.{tree_text}
 
 -- this is the text that is asked for, of a table, a listing and a script, or what refuses it; of a way, and of
 -- the list with the steps of ways, it is one of several, as which way is found is in no contract
@@ -33,6 +34,7 @@ IsTextAsked (Why words) choice tree script answer =
 IsTextAsked (Audit words) choice tree script answer = audit_text choice tree script (wanted_by words) ≡ answer
 IsTextAsked (text.List words) choice tree script answer = IsListText choice tree script words answer
 IsTextAsked (How words) choice tree script answer = IsHowText choice tree script (way_wanted words) answer
+IsTextAsked Tree choice tree script answer = tree_text choice tree script ≡ answer
 IsTextAsked Tight choice tree script answer = tight_text choice tree script ≡ answer
 IsTextAsked TightWhy choice tree script answer = tight_why_text choice tree script ≡ answer
 

@@ -24,6 +24,7 @@ use crate::status::{DEVICE, DONE, MEMORY, REFUSED, USAGE};
 use crate::table::TableChoice;
 use crate::tight::tight_to;
 use crate::tight_why::tight_why_to;
+use crate::tree::tree_to;
 use crate::why::why_to;
 use pua_calls::Rules;
 use pua_io::{InputFault, Inputs, Sink};
@@ -31,8 +32,8 @@ use pua_words::{Command, Text};
 use std::alloc::Global;
 
 /// Does what a command asks for: the text of a run, of an audit, of a list of objects, of now or
-/// for ever, of a way, or of a tightened script goes to `out`, and of a fault one line goes to
-/// `err`, which is dropped where it can't be written. The inputs are taken, first the tree's, then
+/// for ever, of a way, of a tightened script or of a tree goes to `out`, and of a fault one line
+/// goes to `err`, which is dropped where it can't be written. The inputs are taken, first the tree's, then
 /// the script's, then the table's where one is named, before any of them is read as a listing, a
 /// script or a table; none behind one that can't be taken, and no others.
 ///
@@ -198,6 +199,7 @@ fn write_text<O: Sink>(
         Text::Audit(words) => audit_by(alloc, tree, script, rules, &job_of(words, rows), out),
         Text::List(words) => list_to(alloc, tree, script, table, words, out),
         Text::How(words) => how_to(alloc, tree, script, table, words, out),
+        Text::Tree => tree_to(alloc, tree, script, table, out),
         Text::Tight => tight_to(alloc, tree, script, table, out),
         Text::TightWhy => tight_why_to(alloc, tree, script, table, out),
     }

@@ -18,7 +18,7 @@ use Rattle.pua_words.specs.Plain.{IsMadeOf, Meanings, IsMeantBy, means}
 use Rattle.pua_words.specs.Reading.{HasInputsOf, IsCommandOf, IsListRead}
 use Rattle.pua_words.specs.declared.command.Command.{Command}
 use Rattle.pua_words.specs.declared.command.Processes.TheVariants.{One}
-use Rattle.pua_words.proofs.Walking.{audit_meets, Meets, process_meets, how_meets, objects_meets, pua_is_simple, run_meets, tight_meets, why_meets}
+use Rattle.pua_words.proofs.Walking.{audit_meets, Meets, process_meets, how_meets, objects_meets, pua_is_simple, run_meets, tight_meets, tree_meets, why_meets}
 
 some_is : {A : Type 0} {a b : A} → Some a ≡ Some b → a ≡ b
 some_is {A} {a} {b} e = ap (λ (o : Option A). unwrap_or o a) e
@@ -123,6 +123,9 @@ meant p m command words met k = record {
   run = λ why tree script is is_tree is_script.
       let f = found_by p m command words _ _ tree script _ met k is (run_meets p why tree script is_tree is_script) in
       (f.is_made, f.is_command.text.run f.name_is why (flag_is f.is_command.found _ f.rows _ f.rows_are f.has));
+  tree = λ tree script is is_tree is_script.
+      let f = found_by p m command words _ _ tree script _ met k is (tree_meets p tree script is_tree is_script) in
+      (f.is_made, f.is_command.text.tree f.name_is);
   tight = λ why tree script is is_tree is_script.
       let f = found_by p m command words _ _ tree script _ met k is (tight_meets p why tree script is_tree is_script) in
       (f.is_made, f.is_command.text.tight f.name_is why (flag_is f.is_command.found _ f.rows _ f.rows_are f.has));

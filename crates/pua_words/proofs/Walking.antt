@@ -1,13 +1,13 @@
 -- What `clap` finds on words of the forms of `specs/Plain`.
 use Rattle.std.proofs.Common.{◌≡◌, ◌∙◌, ◌==◌, Bool, true, false, not, List, [], ◌∷◌, ◌++◌, ◌&&◌, Option, Some, None, ap, append_assoc, codes, refl, sym}
-use Rattle.std.specs.Prelude.{fold, if◌then◌else◌, unwrap_or}
+use Rattle.std.specs.Prelude.{⊤, fold, if◌then◌else◌, unwrap_or}
 use Rattle.std.specs.List.{list_all}
 use Rattle.std.proofs.lemmas.List.{append-nil}
 use Rattle.clap.specs.Lexer.{short_of, without_minus}
 use Rattle.clap.specs.Simple.{App, built, entered, filled_from, help_rule, is_simple, names_of, subcommand_of}
 use Rattle.clap.specs.Walk.{Names, Row, Rule, Text, Waiting, Walk, after_step, all_of, finished, first_of, idle, nothing_held, one_of, option, plain_word, positional, settled, subcommand_met, walk_from, walked}
 use Rattle.clap.proofs.OnLiterals.{clap_on_literals}
-use Rattle.pua_words.specs.Grammar.{Parsers, audit_app, how_app, objects_app, pua_app, run_app, tight_app, why_app}
+use Rattle.pua_words.specs.Grammar.{Parsers, audit_app, how_app, objects_app, pua_app, run_app, tight_app, tree_app, why_app}
 use Rattle.pua_words.specs.Plain.{is_operand, option_if}
 
 pub pua_is_simple : (p : Parsers) → is_simple (pua_app p) ≡ true
@@ -103,6 +103,13 @@ run_meets p false tree script is_tree is_script =
 run_meets p true tree script is_tree is_script =
     let c = built_rules (run_app p.run) in
     meets p _ _ tree script _ c (begun c (codes "--why" ∷ [])) is_tree is_script (refl, refl) (refl, refl) refl refl refl refl refl refl
+
+pub tree_meets : (p : Parsers) (tree script : Text) → is_operand tree ≡ true → is_operand script ≡ true
+    → Meets p (codes "tree" ∷ tree ∷ script ∷ []) (codes "tree") tree script (λ rows. ⊤)
+unfolding clap_on_literals
+tree_meets p tree script is_tree is_script =
+    let c = built_rules (tree_app p.tree) in
+    meets p _ _ tree script _ c (begun c []) is_tree is_script (refl, refl) (refl, refl) refl refl refl refl refl tt
 
 pub tight_meets : (p : Parsers) (why : Bool) (tree script : Text) → is_operand tree ≡ true → is_operand script ≡ true
     → Meets p (codes "tight" ∷ option_if why (codes "--why") (tree ∷ script ∷ [])) (codes "tight") tree script (HasWhy why)

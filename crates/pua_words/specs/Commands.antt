@@ -6,7 +6,7 @@ use Rattle.std.specs.Str.Parse.{IsNumeral, digits_value, without_leading_plus}
 use Rattle.clap.specs.Matches.{matched_of, raw_values}
 use Rattle.clap.specs.declared.parser.matches.Found.{Found}
 use Rattle.pua_words.specs.declared.command.Text.{Text}
-use Rattle.pua_words.specs.declared.command.Text.TheVariants.{Run, RunWhy, Why, Audit, Tight, TightWhy, How}
+use Rattle.pua_words.specs.declared.command.Text.TheVariants.{Run, RunWhy, Why, Audit, Tree, Tight, TightWhy, How}
 use Rattle.pua_words.specs.declared.command.Text.TheVariants as text
 use Rattle.pua_words.specs.declared.command.Columns.{Columns}
 use Rattle.pua_words.specs.declared.command.Columns.TheVariants as columns
@@ -71,6 +71,7 @@ AsksSoundly RunWhy = ⊤
 AsksSoundly (Why words) = IsProcessNumber words.process
 AsksSoundly (Audit words) = IsProcessNumber words.process
 AsksSoundly (text.List words) = MayBeAsked words.whose
+AsksSoundly Tree = ⊤
 AsksSoundly Tight = ⊤
 AsksSoundly TightWhy = ⊤
 AsksSoundly (How words) = IsProcessNumber words.process

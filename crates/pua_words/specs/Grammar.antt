@@ -61,6 +61,9 @@ process_rule process = judged process (by_default (codes "1") (option_rule (code
 abbrev pub run_app : Option ValueParser → App
 run_app rules = with_rules (with_rule (new_app (codes "run")) (flag_rule (codes "why"))) (input_rules rules)
 
+abbrev pub tree_app : Option ValueParser → App
+tree_app rules = with_rules (new_app (codes "tree")) (input_rules rules)
+
 abbrev pub objects_app : Option ValueParser → App
 objects_app rules =
     with_rules
@@ -106,6 +109,7 @@ program_app = record {
 -- which texts the values of each command may be
 pub record Parsers : Type 0 where
   pub run : Option ValueParser
+  pub tree : Option ValueParser
   pub objects : Option ValueParser
   pub why_process : Option ValueParser
   pub why : Option ValueParser
@@ -123,7 +127,7 @@ pua_app p =
     (with_subcommand
     (with_subcommand
     (with_subcommand
-    (with_subcommand (with_subcommand program_app (run_app p.run).top) (objects_app p.objects).top)
+    (with_subcommand (with_subcommand (with_subcommand program_app (run_app p.run).top) (tree_app p.tree).top) (objects_app p.objects).top)
     (why_app p.why_process p.why).top) (tight_app p.tight).top)
     (how_app p.how_process p.how p.how_kind).top) (audit_app p.audit_process p.audit_base p.audit).top
 

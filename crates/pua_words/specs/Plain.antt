@@ -6,7 +6,7 @@ use Rattle.pua_words.specs.Reading.{IsListRead, list_meant}
 use Rattle.pua_words.specs.declared.command.Command.{Command}
 use Rattle.pua_words.specs.declared.command.HowWords.{HowWords}
 use Rattle.pua_words.specs.declared.command.Processes.TheVariants.{One}
-use Rattle.pua_words.specs.declared.command.Text.TheVariants.{Audit, How, Why}
+use Rattle.pua_words.specs.declared.command.Text.TheVariants.{Audit, How, Tree, Why}
 use Rattle.pua_words.specs.declared.command.AuditWords.{AuditWords}
 use Rattle.pua_audit.specs.declared.Base.TheVariants.{Root}
 use Rattle.std.specs.Str.Parse.{digits_value, without_leading_plus}
@@ -32,6 +32,8 @@ IsMadeOf tree script command =
 pub record Meanings (words : List (List ℕ)) (command : Command) : Type 0 where
   pub run : (why : Bool) (tree script : List ℕ) → words ≡ codes "run" ∷ option_if why (codes "--why") (tree ∷ script ∷ [])
       → is_operand tree ≡ true → is_operand script ≡ true → IsMadeOf tree script command × (command.text ≡ run_asked why)
+  pub tree : (tree script : List ℕ) → words ≡ codes "tree" ∷ tree ∷ script ∷ []
+      → is_operand tree ≡ true → is_operand script ≡ true → IsMadeOf tree script command × (command.text ≡ Tree)
   pub tight : (why : Bool) (tree script : List ℕ) → words ≡ codes "tight" ∷ option_if why (codes "--why") (tree ∷ script ∷ [])
       → is_operand tree ≡ true → is_operand script ≡ true → IsMadeOf tree script command × (command.text ≡ tight_asked why)
   pub objects : (ever how why : Bool) (tree script : List ℕ)

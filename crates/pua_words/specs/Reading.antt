@@ -16,7 +16,7 @@ use Rattle.pua_words.specs.declared.command.HowWords.{HowWords}
 use Rattle.pua_words.specs.declared.command.Processes.{Processes}
 use Rattle.pua_words.specs.declared.command.Processes.TheVariants.{One, Named, All}
 use Rattle.pua_words.specs.declared.command.Text.{Text}
-use Rattle.pua_words.specs.declared.command.Text.TheVariants.{Audit, How, Why}
+use Rattle.pua_words.specs.declared.command.Text.TheVariants.{Audit, How, Tree, Why}
 use Rattle.pua_words.specs.declared.command.Text.TheVariants as text
 use Rattle.pua_words.specs.declared.command.WhyWords.{WhyWords}
 
@@ -68,6 +68,7 @@ IsAuditOf found words =
 -- the text is that of the command of this name, as its options and operands were found
 pub record IsReadAs (name : List ℕ) (found : Found) (text : Text) : Type 0 where
   pub run : name ≡ codes "run" → (why : Bool) → IsFlag found (codes "why") why → text ≡ run_asked why
+  pub tree : name ≡ codes "tree" → text ≡ Tree
   pub tight : name ≡ codes "tight" → (why : Bool) → IsFlag found (codes "why") why → text ≡ tight_asked why
   pub objects : name ≡ codes "objects" → (ever how why : Bool) → IsFlag found (codes "ever") ever → IsFlag found (codes "how") how
       → IsFlag found (codes "why") why → IsListRead ever how why (first_value found (codes "process")) text

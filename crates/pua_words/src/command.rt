@@ -34,6 +34,8 @@ pub enum Text<'a> {
     /// The same as a run's, or with reasons, and then what processes may still do, object by
     /// object, now or for ever.
     List(ListWords),
+    /// The listing of the tree that the script leaves.
+    Tree,
     /// The script, without the promises and letters that none of its answers needs.
     Tight,
     /// What each promise and letter of the script is needed by.

@@ -12,6 +12,10 @@ pub(crate) const OBJECTS_USAGE: &str =
 pub(crate) const WHY_USAGE: &str =
     "pua: usage: pua why [--process P] [--rules profile|openbsd] [--table FILE] TREE SCRIPT CALL [ARG...]";
 
+/// How the listing of the tree behind a script is asked for, in one line.
+pub(crate) const TREE_USAGE: &str =
+    "pua: usage: pua tree [--rules profile|openbsd] [--table FILE] TREE SCRIPT";
+
 /// How a script is asked for without what none of its answers needs, in one line.
 pub(crate) const TIGHT_USAGE: &str =
     "pua: usage: pua tight [--why] [--rules profile|openbsd] [--table FILE] TREE SCRIPT";
@@ -24,6 +28,8 @@ pub(crate) const PUA: &str =
     "Lists what a pledged and unveiled process may still do to a file tree";
 
 pub(crate) const RUN: &str = "Serves the calls of a script over a tree, and prints each answer";
+
+pub(crate) const TREE_AFTER: &str = "Serves a script, then lists the tree that it leaves";
 
 pub(crate) const OBJECTS: &str =
     "Serves a script, then lists each object and the calls still allowed";
@@ -176,6 +182,19 @@ the same call would have had another reason.
   ENOENT old: /d is missing        of two paths it says which one it is about
 pua(1) lists all reasons.",
     ""
+);
+
+pub(crate) const TREE_OUTPUT: &str = with_calls_and_faults!(
+    "\
+Serves SCRIPT, and prints the listing of the tree that it leaves: a TREE, which
+is read as this tree under new numbers. Its lines count from 1, a name comes in
+front of what is beneath it, and the names of a directory by their bytes. It
+begins with `tree 1`; with `tree 2` where something has two names; and with
+`tree 3` where there are over 4096 lines or TREE began so.
+
+Example: pua tree TREE SCRIPT > LATER",
+    "
+  tree: too many names the tree behind SCRIPT has more than 1000000"
 );
 
 pub(crate) const WHY_OUTPUT: &str = with_calls_and_faults!(

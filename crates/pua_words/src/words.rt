@@ -17,8 +17,8 @@ ghost use Rattle.pua_words.specs.Grammar.{IsArg, IsBuilt, Parsers, audit_app, by
 ghost use Rattle.pua_words.specs.Grammar.{flag_rule, how_app, input_rules};
 ghost use Rattle.pua_words.specs.Grammar.{judged, objects_app, operand_rule};
 ghost use Rattle.pua_words.specs.Grammar.{operands_rule, option_rule, process_rule, program_app};
-ghost use Rattle.pua_words.specs.Grammar.{pua_app, required, run_app, tight_app, walk_rules};
-ghost use Rattle.pua_words.specs.Grammar.{limit_rule, why_app, with_rules};
+ghost use Rattle.pua_words.specs.Grammar.{pua_app, required, run_app, tight_app, tree_app};
+ghost use Rattle.pua_words.specs.Grammar.{limit_rule, walk_rules, why_app, with_rules};
 ghost use Rattle.pua_words.specs.Reading.{IsAuditOf, IsCommandOf, IsFlag, IsListOf, IsListText};
 ghost use Rattle.pua_words.specs.Reading.{HasInputsOf, IsReadAs, IsWhyOf, list_meant};
 ghost use Rattle.pua_words.specs.declared.command.AuditWords.{AuditWords};
@@ -70,7 +70,7 @@ impl From<AllocError> for Stop {
 /// lines of [`UsageLine`], as `clap` reads them: which words those are is in no contract.
 ///
 /// Where words in a plain form are a command, it is the one that they name, of the inputs that they
-/// name, by the standard rules: `run` and `tight`, with `--why` or without; `objects`, with
+/// name, by the standard rules: `run` and `tight`, with `--why` or without; `tree`; `objects`, with
 /// its other options or without, of process 1, or behind these `--process` with a number, several,
 /// or `all`; `why` and `how`, of process 1, with the call and what stands behind it; and `audit
 /// --limit N`, of process 1, from the root, with the names behind it. There each word beside the
@@ -117,6 +117,7 @@ fn read_text<'a>(
 {
     match name {
         "run" => Ok(Some(run_of(flag_of(found, "why")))),
+        "tree" => Ok(Some(Text::Tree)),
         "objects" => read_objects(alloc, found),
         "why" => why_of(alloc, found),
         "tight" => Ok(Some(tight_of(flag_of(found, "why")))),
@@ -156,6 +157,7 @@ fn pua_command<'a>(alloc: Global) -> Built<'a>
     ensures { (parsers : Parsers) × IsBuilt (pua_app parsers) result }
 {
     let pua = with_command(program(alloc), run_command(alloc));
+    let pua = with_command(pua, tree_command(alloc));
     let pua = with_command(pua, objects_command(alloc));
     let pua = with_command(pua, why_command(alloc));
     let pua = with_command(pua, tight_command(alloc));
@@ -182,6 +184,13 @@ fn run_command<'a>(alloc: Global) -> Built<'a>
     let run = command(alloc, "run", help::RUN, help::RUN_OUTPUT);
     let run = with(run, flag(alloc, "why", help::RUN_WHY));
     with_inputs(alloc, run)
+}
+
+fn tree_command<'a>(alloc: Global) -> Built<'a>
+    ensures { (rules : Option ValueParser) × IsBuilt (tree_app rules) result }
+{
+    let tree = command(alloc, "tree", help::TREE_AFTER, help::TREE_OUTPUT);
+    with_inputs(alloc, tree)
 }
 
 fn objects_command<'a>(alloc: Global) -> Built<'a>
