@@ -10,6 +10,8 @@ pub mod ListWritten
 pub mod Stops
 pub mod Pieces
 pub mod Ends
+pub mod Telling
+pub mod Advising
 pub mod WhyTexts
 pub mod Reasoned
 pub mod HowTexts

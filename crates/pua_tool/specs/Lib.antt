@@ -14,6 +14,7 @@ pub mod Statuses
 pub mod FaultTexts
 pub mod Told
 pub mod Performed
+pub mod Advised
 -- What is proved of these.
 pub mod Futures
 pub mod Alike
@@ -29,8 +30,9 @@ pub mod Headline
 pub mod Examples
 pub mod EverHowExamples
 pub mod TreeExamples
--- Notes: what the code has begun, and the pieces of its lines.
+-- Notes: what the code has begun, the pieces of its lines, and how a fault's telling ends.
 pub mod Begun
+pub mod Ended
 pub mod Pieces
 pub mod PosedScripts
 pub mod Questions

@@ -3,6 +3,7 @@
 #![tactic(auto)]
 
 mod acting;
+mod advised;
 mod audit;
 mod cli;
 mod columns;

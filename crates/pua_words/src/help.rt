@@ -140,7 +140,7 @@ A line of SCRIPT is a process P, a call and its arguments, one blank between:
   P fork Q                        (Q is the number of the new process)
   P exit
 
-A fault is one line on standard error. It says, or most often comes from:
+A fault is a line on standard error. It says, or most often comes from:
   table: bad toml      FILE is no TOML document
   table: bad key       a key is not the name of a call from stat to exec, nor of
                        connect to fchown with `--rules openbsd`
