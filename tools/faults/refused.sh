@@ -31,6 +31,7 @@ printf '%s\n' '1 fork 2' '2 mkdir /n' '1 unveil /n rwc' '1 unveil /n/x =' '1 unv
     '1 pledge stdio,rpath,exec stdio,rpath' '2 rmdir /n' > gone
 printf '%s\n' '1 fork 2' '2 unveil /d rwc' '2 unveil /g rc' '2 unveil /n c' '2 unveil - -' > moves
 printf '%s\n' '1 pledge stdio,,rpath -' > list
+printf '%s\n' '1 uses inet|unix|inet' > asks
 printf '%s\n' '1 unveil /d rwc' '1 unveil - -' '1 fork 2' '2 pledge stdio,rpath -' > both
 printf '%s\n' '1 unveil /d wc' '1 unveil /o rwc' '1 unveil - -' > drop
 printf '%s\n' '[chmod]' 'promises = ["fattr", "rpath"]' 'veil = "r"' 'stat = { promises = [""], veil = "" }' > nested
@@ -109,8 +110,6 @@ sweep 'for ever, with the steps of ways' 0 objects --ever --how twice drop
 sweep 'a way' 0 how twice drop open-r /d/f
 sweep 'a way to what is made' 0 how twice drop stat new
 sweep 'what never comes' 0 how twice both open-r /k
-sweep 'a tree that a script leaves' 0 tree tree gone
-sweep 'a tree of a file with two names' 0 tree twice moves
 sweep 'a tightened script' 0 tight tree gone
 sweep 'a tightened script of a file with two names' 0 tight twice moves
 sweep 'a tightened script of words that are needed' 0 tight twice needs
@@ -131,8 +130,9 @@ sweep 'a table with a bad row' 1 run --table nested tree none
 sweep 'a listing that is cut' 1 run cut none
 sweep 'a further name of no node' 1 run lost none
 sweep 'a list with an empty word' 1 run tree list
-sweep 'a tree behind a list with an empty word' 1 tree tree list
 sweep 'a tightened list with an empty word' 1 tight tree list
+sweep 'a promise twice, and what is wrong' 1 run --rules openbsd tree asks
+sweep 'a request with no path, and what is wrong' 1 why --rules openbsd tree edits stat '/\x'
 sweep 'a process that can still unveil' 1 objects --ever tree none
 sweep 'no such list' 1 objects --ever --why tree none
 sweep 'a table by which nothing stays' 1 objects --ever --table stays tree one
