@@ -51,6 +51,11 @@ abbrev pub IsLimitText : Option (List ℕ) → ℕ → Type 0
 IsLimitText None limit = ⊥
 IsLimitText (Some text) limit = digits_value 10 (without_leading_plus text) ≡ limit
 
+-- the line after which a script is looked at, where a text has the number of one; none of any other text
+abbrev pub at_read : Option (List ℕ) → Option (Option ℕ)
+at_read None = Some None
+at_read (Some text) = option_map Some (number_within 0 MOST_NUMBER text)
+
 -- the values that were found of an id, in their order; none where it has no entry
 abbrev pub values_found : Found → List ℕ → List (List ℕ)
 values_found found id = unwrap_or (option_map raw_values (matched_of found id)) []

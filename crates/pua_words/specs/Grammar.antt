@@ -58,22 +58,26 @@ input_rules rules =
 abbrev pub process_rule : Option ValueParser → Rule
 process_rule process = judged process (by_default (codes "1") (option_rule (codes "process")))
 
+-- the line after which the script is looked at
+abbrev pub at_rule : Rule
+at_rule = option_rule (codes "at")
+
 abbrev pub run_app : Option ValueParser → App
-run_app rules = with_rules (with_rule (new_app (codes "run")) (flag_rule (codes "why"))) (input_rules rules)
+run_app rules = with_rules (with_rules (new_app (codes "run")) (flag_rule (codes "why") ∷ at_rule ∷ [])) (input_rules rules)
 
 abbrev pub tree_app : Option ValueParser → App
-tree_app rules = with_rules (new_app (codes "tree")) (input_rules rules)
+tree_app rules = with_rules (with_rule (new_app (codes "tree")) at_rule) (input_rules rules)
 
 abbrev pub objects_app : Option ValueParser → App
 objects_app rules =
     with_rules
     (with_rules (new_app (codes "objects"))
     (flag_rule (codes "ever") ∷ flag_rule (codes "how") ∷ flag_rule (codes "why")
-    ∷ by_default (codes "1") (option_rule (codes "process")) ∷ [])) (input_rules rules)
+    ∷ by_default (codes "1") (option_rule (codes "process")) ∷ at_rule ∷ [])) (input_rules rules)
 
 abbrev pub why_app : Option ValueParser → Option ValueParser → App
 why_app process rules =
-    with_rules (with_rules (with_rule (new_app (codes "why")) (process_rule process)) (input_rules rules))
+    with_rules (with_rules (with_rules (new_app (codes "why")) (process_rule process ∷ at_rule ∷ [])) (input_rules rules))
     (required (operand_rule (codes "call")) ∷ operands_rule (codes "arguments") ∷ [])
 
 abbrev pub tight_app : Option ValueParser → App
@@ -81,7 +85,7 @@ tight_app rules = with_rules (with_rule (new_app (codes "tight")) (flag_rule (co
 
 abbrev pub how_app : Option ValueParser → Option ValueParser → Option ValueParser → App
 how_app process rules kind =
-    with_rules (with_rules (with_rule (new_app (codes "how")) (process_rule process)) (input_rules rules))
+    with_rules (with_rules (with_rules (new_app (codes "how")) (process_rule process ∷ at_rule ∷ [])) (input_rules rules))
     (required (operand_rule (codes "call")) ∷ required (operand_rule (codes "path"))
     ∷ judged kind (operand_rule (codes "kind")) ∷ [])
 
@@ -96,7 +100,7 @@ walk_rules process base =
 
 abbrev pub audit_app : Option ValueParser → Option ValueParser → Option ValueParser → App
 audit_app process base rules =
-    with_rule (with_rules (with_rules (new_app (codes "audit")) (walk_rules process base)) (input_rules rules))
+    with_rule (with_rules (with_rule (with_rules (new_app (codes "audit")) (walk_rules process base)) at_rule) (input_rules rules))
     (operands_rule (codes "names"))
 
 -- the program, without its commands

@@ -8,7 +8,7 @@ use Rattle.clap.specs.declared.parser.matches.Found.{Found}
 use Rattle.pua_audit.specs.declared.Base.TheVariants.{Cwd}
 use Rattle.pua_calls.specs.Calls.{rules_named}
 use Rattle.pua_objects.specs.Lines.{kind_word}
-use Rattle.pua_words.specs.Commands.{AreFieldsOf, IsLimitText, IsNumberText, IsTextOf, columns_meant, run_asked, span_meant}
+use Rattle.pua_words.specs.Commands.{AreFieldsOf, IsLimitText, IsNumberText, IsTextOf, at_read, columns_meant, run_asked, span_meant}
 use Rattle.pua_words.specs.Commands.{tight_asked, values_found}
 use Rattle.pua_words.specs.declared.command.AuditWords.{AuditWords}
 use Rattle.pua_words.specs.declared.command.Command.{Command}
@@ -80,6 +80,7 @@ pub record IsReadAs (name : List ℕ) (found : Found) (text : Text) : Type 0 whe
 pub record HasInputsOf (found : Found) (command : Command) : Type 0 where
   pub tree : Some command.tree.now ≡ first_value found (codes "tree")
   pub script : Some command.script.now ≡ first_value found (codes "script")
+  pub at : at_read (first_value found (codes "at")) ≡ Some command.at
   pub rules : command.rules ≡ rules_named (first_value found (codes "rules"))
   pub table : option_map (λ name. name.now) command.table ≡ first_value found (codes "table")
 

@@ -18,12 +18,12 @@ abbrev pub usage_line_text : UsageLine → List ℕ
 usage_line_text Program =
     codes "pua: usage: pua run [--table FILE] TREE SCRIPT; pua audit --limit N [--process P] [--base root|cwd] [--after CALL:PATH] [--table FILE] TREE SCRIPT [NAME...]"
 usage_line_text Objects =
-    codes "pua: usage: pua objects [--ever [--how]|--why] [--process P,...|all] [--rules profile|openbsd] [--table FILE] TREE SCRIPT"
-usage_line_text Why = codes "pua: usage: pua why [--process P] [--rules profile|openbsd] [--table FILE] TREE SCRIPT CALL [ARG...]"
-usage_line_text Tree = codes "pua: usage: pua tree [--rules profile|openbsd] [--table FILE] TREE SCRIPT"
+    codes "pua: usage: pua objects [--ever [--how]|--why] [--process P,...|all] [--at N] [--rules profile|openbsd] [--table FILE] TREE SCRIPT"
+usage_line_text Why = codes "pua: usage: pua why [--process P] [--at N] [--rules profile|openbsd] [--table FILE] TREE SCRIPT CALL [ARG...]"
+usage_line_text Tree = codes "pua: usage: pua tree [--at N] [--rules profile|openbsd] [--table FILE] TREE SCRIPT"
 usage_line_text Tight = codes "pua: usage: pua tight [--why] [--rules profile|openbsd] [--table FILE] TREE SCRIPT"
 usage_line_text How =
-    codes "pua: usage: pua how [--process P] [--rules profile|openbsd] [--table FILE] TREE SCRIPT CALL PATH [KIND]"
+    codes "pua: usage: pua how [--process P] [--at N] [--rules profile|openbsd] [--table FILE] TREE SCRIPT CALL PATH [KIND]"
 
 -- the words by which help or the version is asked for
 abbrev pub is_about : List ℕ → Bool

@@ -11,6 +11,9 @@ pub struct Command<'a> {
     pub tree: &'a str,
     /// The name of the input with the script.
     pub script: &'a str,
+    /// The line after which the script is looked at: its first lines up to this one are taken for
+    /// the whole script; 0 for none of them. None for all lines.
+    pub at: Option<u32>,
     /// Whose rules are gone by.
     pub rules: Rules,
     /// The name of the input with rows in the place of those of the rules; None for the rules

@@ -6,15 +6,15 @@ pub(crate) const PROGRAM_USAGE: &str =
 
 /// How a list of objects is asked for, of now or for ever, in one line.
 pub(crate) const OBJECTS_USAGE: &str =
-    "pua: usage: pua objects [--ever [--how]|--why] [--process P,...|all] [--rules profile|openbsd] [--table FILE] TREE SCRIPT";
+    "pua: usage: pua objects [--ever [--how]|--why] [--process P,...|all] [--at N] [--rules profile|openbsd] [--table FILE] TREE SCRIPT";
 
 /// How it is asked why a request is answered as it is, in one line.
 pub(crate) const WHY_USAGE: &str =
-    "pua: usage: pua why [--process P] [--rules profile|openbsd] [--table FILE] TREE SCRIPT CALL [ARG...]";
+    "pua: usage: pua why [--process P] [--at N] [--rules profile|openbsd] [--table FILE] TREE SCRIPT CALL [ARG...]";
 
 /// How the listing of the tree behind a script is asked for, in one line.
 pub(crate) const TREE_USAGE: &str =
-    "pua: usage: pua tree [--rules profile|openbsd] [--table FILE] TREE SCRIPT";
+    "pua: usage: pua tree [--at N] [--rules profile|openbsd] [--table FILE] TREE SCRIPT";
 
 /// How a script is asked for without what none of its answers needs, in one line.
 pub(crate) const TIGHT_USAGE: &str =
@@ -22,7 +22,7 @@ pub(crate) const TIGHT_USAGE: &str =
 
 /// How a way is asked for to what can ever be touched, in one line.
 pub(crate) const HOW_USAGE: &str =
-    "pua: usage: pua how [--process P] [--rules profile|openbsd] [--table FILE] TREE SCRIPT CALL PATH [KIND]";
+    "pua: usage: pua how [--process P] [--at N] [--rules profile|openbsd] [--table FILE] TREE SCRIPT CALL PATH [KIND]";
 
 pub(crate) const PUA: &str =
     "Lists what a pledged and unveiled process may still do to a file tree";
@@ -75,6 +75,8 @@ pub(crate) const HOW_CALL: &str = "The call, one with one path";
 pub(crate) const HOW_PATH: &str = "What it is about, as a list for ever prints it, or `new`";
 
 pub(crate) const HOW_KIND: &str = "Which line of PATH: dir, file, prog, link, missing, other";
+
+pub(crate) const AT: &str = "Serve no line of SCRIPT behind line N";
 
 pub(crate) const PROCESSES: &str = "Process number, 1 to 999999, or `all`";
 
@@ -181,7 +183,8 @@ the same call would have had another reason.
   EACCES no w in veil r on /d      the veil that does lacks a letter
   ENOENT old: /d is missing        of two paths it says which one it is about
 pua(1) lists all reasons.",
-    ""
+    "
+  no such line         SCRIPT ends before the line that `--at` names"
 );
 
 pub(crate) const TREE_OUTPUT: &str = with_calls_and_faults!(
@@ -194,6 +197,7 @@ begins with `tree 1`; with `tree 2` where something has two names; and with
 
 Example: pua tree TREE SCRIPT > LATER",
     "
+  no such line         SCRIPT ends before the line that `--at` names
   tree: too many names the tree behind SCRIPT has more than 1000000"
 );
 
@@ -213,6 +217,7 @@ stand behind `--`.
 
 Example: pua why --process 2 TREE SCRIPT rename /tmp/new /etc/passwd",
     "
+  no such line         SCRIPT ends before the line that `--at` names
   request: line 1: ..  CALL and what is behind it are no line of SCRIPT: one of
                        the faults above"
 );
@@ -260,6 +265,7 @@ on, and a new link leads to `target`.
 
 Example: pua how TREE SCRIPT open-r /in/secret",
     "
+  no such line         SCRIPT ends before the line that `--at` names
   no such process      no fork of SCRIPT made it: its answer says why
   process P can still unveil
                        it has to be locked, or without the promise `unveil`
@@ -324,6 +330,7 @@ veil was put, these are three times -. There are no such columns with `--ever`.
 
 Example: pua objects --process all TREE SCRIPT",
     "
+  no such line         SCRIPT ends before the line that `--at` names
   no such process      no fork of SCRIPT made it: its answer says why
   process P can still unveil
                        `--ever` is for a process that is locked, or without the
@@ -343,6 +350,7 @@ Prints what `pua run` prints, then `reach P`, then `PATH CALL` for each pair.
 
 Example: pua audit --limit 3 --base cwd --after stat:etc TREE SCRIPT core",
     "
+  no such line         SCRIPT ends before the line that `--at` names
   no such process      no fork of SCRIPT made it: its answer says why
   limit too large      `--limit` is above 16
   paths too long       the limit times one more than the longest name is above
