@@ -57,7 +57,7 @@ my $MAY_LACK = qr{(?:^|/)(?:out|must-fail)(?:/|\z)};
 
 # Options that a usage line leaves out: that of runs and audits is fixed, and these came later
 # (docs/DECISIONS.md).
-my %LEFT_OUT = (run => [qw(rules why)], audit => [qw(rules)]);
+my %LEFT_OUT = (run => [qw(at rules why)], audit => [qw(at rules)]);
 
 # A room for what commands write, and a folder in which the program and the tools have the names
 # that pages use.

@@ -101,6 +101,7 @@ sweep 'objects of another process' 0 objects --process 2 twice links
 sweep 'objects of two processes' 0 objects --process 2,1 twice links
 sweep 'objects of all processes' 0 objects --process all tree forks
 sweep 'objects, and places that are gone' 0 objects tree gone
+sweep 'objects at a line' 0 objects --at 4 tree gone
 sweep 'for ever' 0 objects --ever tree one
 sweep 'for ever, and what can be moved' 0 objects --ever --process 2 twice moves
 sweep 'for ever, and places that are gone' 0 objects --ever tree gone
@@ -136,6 +137,7 @@ sweep 'a request with no path, and what is wrong' 1 why --rules openbsd tree edi
 sweep 'a process that can still unveil' 1 objects --ever tree none
 sweep 'no such list' 1 objects --ever --why tree none
 sweep 'a table by which nothing stays' 1 objects --ever --table stays tree one
+sweep 'no such line' 1 objects --at 1 tree none
 sweep 'no such process' 1 audit --limit 1 --process 9 tree none
 sweep 'no such pair' 1 audit --limit 3 --after stat:/nope tree one
 sweep 'a limit too large' 1 audit --limit 17 tree none

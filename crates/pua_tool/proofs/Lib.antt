@@ -27,3 +27,6 @@ pub mod TightTexts
 pub mod Fewest
 pub mod ReadBack
 pub mod Headline
+pub mod Fronts
+pub mod FrontLines
+pub mod FrontRequests

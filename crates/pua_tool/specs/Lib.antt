@@ -11,6 +11,7 @@ pub mod TightTexts
 pub mod TreeTexts
 pub mod Answers
 pub mod Statuses
+pub mod Fronts
 pub mod FaultTexts
 pub mod Told
 pub mod Performed
@@ -26,6 +27,7 @@ pub mod Reasoned
 pub mod Fewest
 pub mod ReadBack
 pub mod Headline
+pub mod FrontLaws
 -- Worked rows, which hold by computation.
 pub mod Examples
 pub mod EverHowExamples

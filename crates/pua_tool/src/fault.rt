@@ -60,6 +60,8 @@ pub enum ToolFault {
     /// The tree that the script leaves has more names than a listing has lines: over 1,000,000, the
     /// root counted as one.
     TooManyNames,
+    /// The script ends before this line, behind which it was asked how things stood.
+    NoLine(u32),
     /// What a way is asked for is none of the calls on one path.
     HowCall,
     /// Where it is to lead is no path as a list for ever prints it.
@@ -144,6 +146,7 @@ impl ToolFault {
             ToolFault::EverWhy => one("pua: objects: no list for ever with --why"),
             ToolFault::NowHow => one("pua: objects: no list of now with --how"),
             ToolFault::SeveralHow => one("pua: objects: no list of several with --how"),
+            ToolFault::NoLine(line) => blamed("pua: script: ", (Some(line), "no such line")),
             ToolFault::HowCall => one("pua: how: bad call"),
             ToolFault::HowPath => one("pua: how: bad path"),
             ToolFault::HowThing => one("pua: how: no such thing"),

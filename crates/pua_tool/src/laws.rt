@@ -4,10 +4,11 @@
 ghost use Rattle.std.specs.Prelude.{◌≡◌};
 ghost use Rattle.pua_tool.specs.Alike.{AnswersAlike, LinesAlike};
 ghost use Rattle.pua_tool.specs.EverHowExamples.{EverHowRows};
-ghost use Rattle.pua_tool.specs.Examples.{FaultTextRows, HowTextRows, ReasonTextRows, TextRows};
-ghost use Rattle.pua_tool.specs.Examples.{TightTextRows};
+ghost use Rattle.pua_tool.specs.Examples.{FaultTextRows, FrontRows, HowTextRows, ReasonTextRows};
+ghost use Rattle.pua_tool.specs.Examples.{TextRows, TightTextRows};
 ghost use Rattle.pua_tool.specs.Fewest.{TightAsWritten};
 ghost use Rattle.pua_tool.specs.Forever.{EverAsWritten};
+ghost use Rattle.pua_tool.specs.FrontLaws.{FrontLines, FrontRequests};
 ghost use Rattle.pua_tool.specs.Listed.{ObjectsAsWritten};
 ghost use Rattle.pua_tool.specs.Never.{NeverAsWritten};
 ghost use Rattle.pua_tool.specs.ReadBack.{TreeAsWritten};
@@ -27,13 +28,14 @@ use pua_script::{bytes_law, pasts_law};
 use pua_tree::FileTree;
 
 /// Examples of whole texts, and of what refuses them.
-#[tactic(auto, using(crate::specs::Examples::text_rows, crate::specs::Examples::reason_text_rows, crate::specs::Examples::tight_text_rows, crate::specs::Examples::how_text_rows, crate::specs::Examples::fault_text_rows))]
+#[tactic(auto, using(crate::specs::Examples::text_rows, crate::specs::Examples::reason_text_rows, crate::specs::Examples::tight_text_rows, crate::specs::Examples::how_text_rows, crate::specs::Examples::fault_text_rows, crate::specs::Examples::front_rows))]
 pub fn text_examples()
     ensures texts { TextRows }
     ensures reasons { ReasonTextRows }
     ensures tightened { TightTextRows }
     ensures ways { HowTextRows }
     ensures faults { FaultTextRows }
+    ensures fronts { FrontRows }
 {}
 
 /// Narrowing ("Every future of a locked process" in docs/DEFINITIONS.md): over each tree the later
@@ -152,6 +154,14 @@ pub fn trees_alike<S: FileTree, T: FileTree>(first: &S, second: &T)
     first.known();
     second.known();
 }
+
+/// The first lines of a script, to the byte, are read as the first of its lines, and there are none
+/// exactly where it has fewer; and the requests of a script's first lines are the first of its
+/// requests. So with `--at N` a text is of the world that the script's first N requests leave.
+pub fn front_law()
+    ensures lines { FrontLines }
+    ensures requests { FrontRequests }
+{}
 
 /// Examples of columns.
 #[tactic(auto, using(crate::specs::EverHowExamples::ever_how_rows))]

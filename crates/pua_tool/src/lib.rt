@@ -11,6 +11,7 @@ mod ever;
 mod ever_fault;
 mod ever_how;
 mod fault;
+mod front;
 mod how;
 mod job;
 mod laws;
@@ -40,7 +41,7 @@ pub use fault::ToolFault;
 pub use how::how_to;
 pub use job::Job;
 pub use laws::{
-    column_examples, confined, ever_text_law, headline_law, narrowing, never_text_law,
+    column_examples, confined, ever_text_law, front_law, headline_law, narrowing, never_text_law,
     objects_text_law, reasons_text_law, text_examples, tight_text_law, together_text_law,
     tree_examples, tree_text_law, trees_alike,
 };

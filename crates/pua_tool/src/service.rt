@@ -6,7 +6,7 @@ ghost use Rattle.pua_io.specs.Held.{AsksFor, AsksForFront, Holds};
 ghost use Rattle.pua_tool.specs.Answers.{AnswersTo};
 ghost use Rattle.pua_tool.specs.Performed.{HoldsTable, IsCutShort, IsDone, IsRefused, IsStopped};
 ghost use Rattle.pua_tool.specs.Performed.{IsTableUnheld, IsUnheld, IsUntaken, LacksInput};
-ghost use Rattle.pua_tool.specs.Performed.{IsTextAsked, inputs_of, table_names};
+ghost use Rattle.pua_tool.specs.Performed.{IsTextAsked, IsTextAt, inputs_of, table_names};
 ghost use Rattle.pua_tool.specs.Statuses.{fault_status};
 ghost use Rattle.pua_tool.specs.Texts.{given_bytes};
 ghost use Rattle.pua_tool.specs.Advised.{IsToldOf};
@@ -16,6 +16,7 @@ ghost use Rattle.pua_tool.specs.declared.outcome.CommandFault.{CommandFault};
 use crate::advised::{Halt, end};
 use crate::audit::audit_by;
 use crate::fault::ToolFault;
+use crate::front::script_at;
 use crate::how::how_to;
 use crate::job::job_of;
 use crate::lists::list_to;
@@ -37,7 +38,9 @@ use std::alloc::Global;
 /// for ever, of a way, of a tightened script or of a tree goes to `out`, and of a fault a line or
 /// two go to `err`, which are dropped where they can't be written. The inputs are taken, first the tree's, then
 /// the script's, then the table's where one is named, before any of them is read as a listing, a
-/// script or a table; none behind one that can't be taken, and no others.
+/// script or a table; none behind one that can't be taken, and no others. Where the command names
+/// a line of the script, the text is that of the script's lines up to this one; [`REFUSED`] also
+/// where there is no such line.
 ///
 /// It answers the status. [`DONE`]: the text that is asked for, of the bytes that the inputs hold
 /// under the command's names, was written, and nothing to `err`; of a way it is one of several, as
@@ -103,7 +106,7 @@ fn serve<'c, I: Inputs, O: Sink>(
         Ok(taken) => taken,
         Err(fault) => return Err(Halt::Untaken(fault)),
     };
-    match write_text(alloc, command.rules, &taken, &command.text, out) {
+    match write_at(alloc, command, &taken, out) {
         Ok(()) => Ok(()),
         Err(fault) => Err(Halt::Unwritten(fault, taken.script)),
     }
@@ -180,22 +183,41 @@ fn take_named<'c, I: Inputs>(
     }
 }
 
+/// Writes the text that is asked for, of the lines of the script up to the one that is named.
+fn write_at<O: Sink>(
+    alloc: Global,
+    command: &Command<'_>,
+    taken: &Taken,
+    out: &mut O,
+) -> Result<(), ToolFault>
+    ensures { (answer : Result (List ℕ) ToolFault)
+        × IsTextAt command.now.at command.now.text (record {
+          rules = command.now.rules;
+          rows = option_map (λ bytes. bytes.items) taken.now.table;
+        }) taken.now.tree.items taken.now.script.items answer
+        × AnswersTo O.written O.failed answer result out.old out.new }
+{
+    let script = script_at(taken.script.as_slice(), command.at)?;
+    write_text(alloc, command.rules, taken, script, &command.text, out)
+}
+
 /// Writes the text that is asked for, by these rules, of these bytes of a listing, a script and a
 /// table.
 fn write_text<O: Sink>(
     alloc: Global,
     rules: Rules,
     taken: &Taken,
+    script: &[u8],
     text: &Text<'_>,
     out: &mut O,
 ) -> Result<(), ToolFault>
     ensures { (answer : Result (List ℕ) ToolFault) × IsTextAsked text.now (record {
       rules = rules;
       rows = option_map (λ bytes. bytes.items) taken.now.table;
-    }) taken.now.tree.items taken.now.script.items answer
+    }) taken.now.tree.items script.now answer
         × AnswersTo O.written O.failed answer result out.old out.new }
 {
-    let (tree, script) = (taken.tree.as_slice(), taken.script.as_slice());
+    let tree = taken.tree.as_slice();
     let rows = taken.table.as_ref().map(|bytes| bytes.as_slice());
     let table = TableChoice { rules, rows };
     match text {
