@@ -36,11 +36,11 @@ use std::alloc::Global;
 
 /// Does what a command asks for: the text of a run, of an audit, of a list of objects, of now or
 /// for ever, of a way, of a tightened script or of a tree goes to `out`, and of a fault a line or
-/// two go to `err`, which are dropped where they can't be written. The inputs are taken, first the tree's, then
-/// the script's, then the table's where one is named, before any of them is read as a listing, a
-/// script or a table; none behind one that can't be taken, and no others. Where the command names
-/// a line of the script, the text is that of the script's lines up to this one; [`REFUSED`] also
-/// where there is no such line.
+/// two go to `err`, which are dropped where they can't be written. The inputs are taken, first the
+/// tree's, then the script's, then the table's where one is named, before any of them is read as a
+/// listing, a script or a table; none behind one that can't be taken, and no others. Where the
+/// command names a line of the script, the text is that of the script's lines up to this one;
+/// [`REFUSED`] also where there is no such line.
 ///
 /// It answers the status. [`DONE`]: the text that is asked for, of the bytes that the inputs hold
 /// under the command's names, was written, and nothing to `err`; of a way it is one of several, as

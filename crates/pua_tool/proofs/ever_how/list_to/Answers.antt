@@ -28,7 +28,7 @@ returns-in_err-both g c =
     let behind = c.args.behind.now in
     let memory : p.0 ≡ OutOfMemory = p.2 in
     let unwritten : p.0 ≢ Write = λ same. cc in
-    rw p.1 (λ served.
+    rw p.1 (
     fault_after behind.rules (done_behind behind) behind.number g.S.Sink.written g.S.Sink.failed p.0 c.args.sink.now unwritten
     (λ other. absurd (other memory)))
 
@@ -62,7 +62,7 @@ returns-in_err-front g c =
     let behind = c.args.behind.now in
     let memory : p.0 ≡ OutOfMemory = p.2 in
     let unwritten : p.0 ≢ Write = λ same. cc in
-    rw p.1 (λ served.
+    rw p.1 (
     fault_after behind.rules (done_behind behind) behind.number g.S.Sink.written g.S.Sink.failed p.0 c.args.sink.now unwritten
     (λ other. absurd (other memory)))
 
@@ -72,7 +72,7 @@ returns-in_err-lists g c =
     let behind = c.args.behind.now in
     let memory : p.0 ≡ OutOfMemory = p.2 in
     let unwritten : p.0 ≢ Write = λ same. cc in
-    rw p.1 (λ served.
+    rw p.1 (
     fault_after behind.rules (done_behind behind) behind.number g.S.Sink.written g.S.Sink.failed p.0 c.args.sink.now unwritten
     (λ other. absurd (other memory)))
 

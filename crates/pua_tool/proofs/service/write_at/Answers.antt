@@ -27,7 +27,7 @@ pub returns : goal.returns
 returns g c =
     let text = c.write_text.ensures in (
       text.0,
-      of_served _ (Ok c.in_ok-script.field-0.now) _ _ _ text.0
+      of_served _ (Ok c.in_ok-script.script.now) _ _ _ text.0
           (ap (script_at c.args.command.now.at) (sym c.as_slice.ensures.value) ∙ c.in_ok-script.ensures.served) text.1,
       text.2,
     )

@@ -1,5 +1,5 @@
 use Rattle.pua_tool.proofs.Common.{◌≡◌, ℕ, List, ◌++◌, ◌∷◌, Ok, ap, sym, subst, ◌∙◌, None, CallTable, unless_reason, AnswersTo}
-use Rattle.pua_tool.proofs.Common.{err_from_is_err_and}
+use Rattle.pua_tool.proofs.Common.{◌≢◌, err_from_is_err_and, OutOfMemory, Write}
 use Rattle.pua_ever.specs.LastingList.{IsBothOf}
 use Rattle.pua_texts.specs.Members.{named_by}
 use Rattle.pua_texts.specs.TogetherLines.{one_for, together_list}
@@ -16,6 +16,17 @@ returns-in_err-one g c =
     answers_refused g.S.Sink.written g.S.Sink.failed
     (Ok (c.args.front.now ++ together_list c.args.rules w.table w.tree (named_by c.args.members.now)))
     c.in_err-one.field-0.0 c.args.sink.now c.in_err-one.ensures.unwritten (λ other. absurd (other c.in_err-one.ensures.memory)))
+
+pub returns-in_err-lists : goal.returns-in_err-lists
+returns-in_err-lists g c =
+    let w = c.args.world.now in
+    let p = err_from_is_err_and c.from_residual-in_err-lists.result c.from_residual-in_err-lists.ensures.1 in
+    let memory : p.0 ≡ OutOfMemory = p.2 in
+    let unwritten : p.0 ≢ Write = λ same. cc in
+    rw p.1 (λ live none.
+    answers_refused g.S.Sink.written g.S.Sink.failed
+    (Ok (c.args.front.now ++ together_list c.args.rules w.table w.tree (named_by c.args.members.now))) p.0 c.args.sink.now unwritten
+    (λ other. absurd (other memory)))
 
 pub returns-in-Err : goal.returns-in-Err
 returns-in-Err g c = λ live none.
