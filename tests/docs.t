@@ -57,7 +57,7 @@ my $MAY_LACK = qr{(?:^|/)(?:out|must-fail)(?:/|\z)};
 
 # Options that a usage line leaves out: that of runs and audits is fixed, and these came later
 # (docs/DECISIONS.md).
-my %LEFT_OUT = (run => [qw(rules why)], audit => [qw(rules)]);
+my %LEFT_OUT = (run => [qw(at rules why)], audit => [qw(at rules)]);
 
 # A room for what commands write, and a folder in which the program and the tools have the names
 # that pages use.
@@ -542,7 +542,7 @@ sub test_options {
     my @shown = content('README.md') =~ /^    (pua \w+ .*(?:\n {6,}.*)*)/mg;
     my %readme = usages_of(grep { /\[--/ } @shown);
     my %all;
-    for my $command (qw(run objects why tight how audit)) {
+    for my $command (qw(run tree objects why tight how audit)) {
         my @help = content("tests/data/help/$command") =~ /^ +(?:-\w, )?--([a-z]+)/mg;
         my $help = join ' ', sort grep { $_ ne 'help' } @help;
         $all{$_} = 1 for split ' ', $help;

@@ -388,7 +388,7 @@ sub beyond_okay {
     my ($world, $play, $asker, $call, @words) = @_;
     return "$asker put a veil" if $call eq 'unveil' && $words[0] ne '-';
     $play->{family}{ $words[0] } = 1 if $call eq 'fork';
-    return if $call =~ /\A(?:rename|link|unveil|pledge|fork|exit)\z/;
+    return if $call =~ /\A(?:rename|link|unveil|pledge|fork|exit|uses)\z/;
     my ($kind, $path) = split / /, $play->{model}->subject($asker, $call, $words[-1]);
     $counts{answers}++;
     note_exec($world, $play) if $call eq 'exec';

@@ -72,7 +72,7 @@ for my $number (1 .. $WORLDS) {
     my @lines = split /\n/, $spoken;
     my ($first) = grep { $CALLS{ (split / /, $lines[$_])[1] } } 0 .. $#lines;
     next if !defined $first || grep { !defined } $first;
-    my $front = join '', map { "$_\n" } grep { !/ (?:connect|bind|mknod|chown|create-rw|fchmod|fchown) / } @lines[0 .. $first];
+    my $front = join '', map { "$_\n" } grep { !/ (?:connect|bind|mknod|chown|create-rw|fchmod|fchown|uses) / } @lines[0 .. $first];
     my $at = () = $front =~ /\n/g;
     is(told($files, $front, 'run'), "1\n\npua: script: line $at: bad call\n", "world $number: a bad call by the standard rules");
 }

@@ -152,20 +152,25 @@ sub add_counts {
     return;
 }
 
-# Worlds by hand: of each kind of reason, and full of veils and of processes.
+# Worlds by hand: of each kind of reason, full of veils and of processes, and of calls without a path by OpenBSD's rules.
 my ($listing, $each) = each_kind();
 my $empty   = "tree 1\n0 dir\n";
 my @veils   = (map({ "1 unveil /n$_ r" } 1 .. 128), '1 stat /n1', '1 unveil /n rw', '1 unveil /n128 =');
 my @forks   = (map({ "1 fork $_" } 2 .. 255), '1 fork 256', '1 fork 255');
+my @uses    = (
+    '1 fork 2', '1 uses inet|id', '1 pledge stdio,unix,error rpath', '1 uses unix|inet', '1 uses inet|id', '1 uses proc',
+    '2 unveil - -', '2 pledge stdio,rpath -', '2 uses id|stdio', '2 uses proc|id', '2 uses stdio',
+);
 my @by_hand = (
     [ 'each kind', $listing, $each ],
     [ 'many veils', $empty, [ '1 fork ' . OBSERVER, @veils ] ],
     [ 'many processes', $empty, [ '1 fork ' . OBSERVER, @forks ] ],
+    [ 'calls without a path', $empty, [ '1 fork ' . OBSERVER, @uses ], 'openbsd' ],
 );
 for (@by_hand) {
-    my ($name, $tree, $script) = @$_;
-    my $world = Why::World->new($PROGRAM, $tree, {});
-    ask($world, "world of $name", $script, $name eq 'each kind');
+    my ($name, $tree, $script, $rules) = @$_;
+    my $world = Why::World->new($PROGRAM, $tree, { rules => $rules });
+    ask($world, "world of $name", $script, $name !~ /many/);
     list($world, "world of $name", $script, \%NEEDS) if $name eq 'each kind';
     add_counts($world->counts);
 }

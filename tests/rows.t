@@ -4,8 +4,8 @@
 #     perl tests/rows.t [--plain] [PROGRAM]
 #
 # Each audit that a row has whole is also resumed after each of its lines. With --plain the program is one that reads no
-# table of calls, has no reasons, and lists for ever by the standard rules alone, of one process, saying nothing of execs:
-# rows that ask for more are left out.
+# table of calls, has no reasons, says nothing behind a fault's line, and lists for ever by the standard rules alone, of one
+# process, saying nothing of execs: rows that ask for more are left out.
 use strict;
 use warnings;
 use FindBin qw($Bin);
@@ -19,7 +19,7 @@ my $PROGRAM = program_in(@ARGV);
 
 # The commands that refuse an input. The last one's limit is refused too, though later.
 my @REFUSING = ('run TREE SCRIPT', 'objects TREE SCRIPT', 'audit --limit 1 TREE SCRIPT', 'audit --limit 17 TREE SCRIPT');
-push @REFUSING, 'tight TREE SCRIPT', 'tight --why TREE SCRIPT' if !$is_plain;
+push @REFUSING, 'tight TREE SCRIPT', 'tight --why TREE SCRIPT', 'tree TREE SCRIPT' if !$is_plain;
 
 # A listing in which nothing stands.
 my $ROOT = "tree 1\n0 dir\n";
@@ -81,12 +81,18 @@ sub wrong_resumed {
     return $wrong;
 }
 
+# What is told of a fault on standard error: its line, and what is said behind it, if something is.
+sub told_of {
+    my ($entry) = @_;
+    return ended($entry->{fault}) . ended($entry->{advice});
+}
+
 # What is wrong with what a row's command writes.
 sub wrong_row {
     my ($row) = @_;
     my @words = words_of($row);
     my ($front, $pairs, $rest) = parts_of($row);
-    my $wrong = otherwise(\@words, join('', $front, @$pairs, $rest), ended($row->{fault}), $row->{status} || 0);
+    my $wrong = otherwise(\@words, join('', $front, @$pairs, $rest), told_of($row), $row->{status} || 0);
     $wrong .= wrong_resumed(\@words, $pairs) if exists $row->{reach};
     return $wrong;
 }
@@ -95,7 +101,8 @@ sub wrong_row {
 sub is_left_out {
     my ($entry, @words) = @_;
     return 0 if !$is_plain;
-    return 1 if @words && $words[0] =~ /\A(?:why|tight|how)\z/;
+    return 1 if exists $entry->{advice};
+    return 1 if @words && $words[0] =~ /\A(?:why|tree|tight|how)\z/;
     my $is_ever = grep { $_ eq '--ever' } @words;
     return 1 if $is_ever && (text($entry, 'state') =~ /^exec /m || grep { /\A(?:all|\d+(?:,\d+)+)\z/ } @words);
     return 1 if ($entry->{status} || 0) != 2 && grep { /\A\d+(?:,\d+)+\z/ } @words;
@@ -130,6 +137,9 @@ sub test_refused {
         put(exists $refused->{listing} ? $refused->{listing} : @by ? 'tree 0' : $ROOT,
             exists $refused->{script} ? $refused->{script} : '0', $refused->{table});
         my @wrong = map { otherwise([split(/ /), @by], '', "$refused->{fault}\n", 1) } @REFUSING;
+        if (!$is_plain && exists $refused->{advice}) {
+            push @wrong, map { otherwise([split(/ /), qw(--rules openbsd)], '', told_of($refused), 1) } @REFUSING;
+        }
         is_right(join('', @wrong), "refused ($refused->{from}): $refused->{name}");
     }
     return;

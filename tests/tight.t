@@ -17,7 +17,7 @@ use Listed qw(lists_of state_of);
 use Tables qw(content);
 use Test::More;
 use Tight;
-use Worlds qw(program_in);
+use Worlds qw(program_in rules_of);
 
 my $PROGRAM = program_in(@ARGV);
 
@@ -25,9 +25,6 @@ my $PROGRAM = program_in(@ARGV);
 my ($WORLDS, $SEED) = (60, 11);
 $WORLDS = $ARGV[1] if @ARGV > 1;
 $SEED   = $ARGV[2] if @ARGV > 2;
-
-# What calls without a path ask for, by OpenBSD's rules.
-my @USES = qw(inet id unix stdio proc rpath inet|unix id|settime|rpath proc|wpath);
 
 # Of so few words all that can be left out is tried.
 my $FEW = 6;
@@ -185,15 +182,20 @@ sub with_uses {
     for (0 .. $worlds->number(3)) {
         my $place = $worlds->number(scalar @lines);
         my ($asker) = $worlds->pick(@lines) =~ /\A([0-9]+)/;
-        splice @lines, $place, 0, "$asker uses " . $worlds->pick(@USES) . "\n";
+        splice @lines, $place, 0, "$asker uses " . $worlds->used . "\n";
     }
     return join '', @lines;
 }
 
+# Whether each request of a script rests on one set of promises, without a table.
+sub has_one_set { return $_[0] !~ /^\S+\s+f?chown\s|^\S+ uses \S*\|/m }
+
 for my $example (sort grep { -d } glob "$Bin/../examples/*") {
-    my @given = split /\n/, content("$example/script"), -1;
+    my $text = content("$example/script");
     my ($name) = $example =~ m{([^/]*)\z};
-    is_right("the example $name", Tight->new($PROGRAM, content("$example/listing")), 1, @given);
+    my ($rules) = rules_of($text);
+    my $world = Tight->new($PROGRAM, content("$example/listing"), rules => $rules);
+    is_right("the example $name", $world, has_one_set($text), split /\n/, $text, -1);
 }
 for my $number (1 .. $WORLDS) {
     my $listing = $worlds->listing;
@@ -201,7 +203,7 @@ for my $number (1 .. $WORLDS) {
     my %how = $number % 3 == 1 ? () : $number % 3 == 2 ? (rules => 'openbsd') : (table => $worlds->table);
     my $text = $number % 5 ? $worlds->script({ lines => 2 + $worlds->number(8) }) : $worlds->moving_script;
     $text = with_uses($text) if $how{rules};
-    my $has_one_set = !$how{table} && $text !~ /^\S+\s+f?chown\s|^\S+ uses \S*\|/m;
+    my $has_one_set = !$how{table} && has_one_set($text);
     is_right("world $number", Tight->new($PROGRAM, $listing, %how), $has_one_set, lines_in($text));
 }
 note "$count{words} words, of which $count{left} are left; $count{lines} lines of objects, $count{fewer} fewer after";

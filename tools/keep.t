@@ -388,7 +388,7 @@ sub fails {
 }
 my $ended = qr/keep\.pl: \Q$PUA\E objects ended with 1\n/;
 file('bad', '1 open /etc/hosts');
-fails('a bad script', ['front.listing', 'bad'], qr/pua: script: line 1: bad call\n$ended/);
+fails('a bad script', ['front.listing', 'bad'], qr/pua: script: line 1: bad call\npua: no call "open" by these rules\n$ended/);
 fails('a script that is not there', ['front.listing', 'no'],
     qr/pua: cannot read no\nkeep\.pl: .* ended with 3\n/);
 fails('a file that was not kept', ['-c', 'front.script', @front],

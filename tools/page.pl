@@ -1,10 +1,10 @@
 #!/usr/bin/perl
-# Writes a page of what a process can touch, from a listing and what `pua objects` prints:
+# Writes a page of what a process can touch, from what `pua tree` and `pua objects` print:
 #
 #     page.pl [-d DEPTH] [-m MANIFEST] TREE [OBJECTS [EVER]]
 #
-# TREE is the listing, and OBJECTS the output of `pua objects` over it, of now or with `--ever`;
-# standard input if it is left out. What is written is one HTML file, without scripts, that loads
+# TREE is the listing that `pua tree` prints, of the tree behind the script, and OBJECTS the output
+# of `pua objects`, of now or with `--ever`; standard input if it is left out. What is written is one HTML file, without scripts, that loads
 # nothing. For each list of OBJECTS, of which `--process all` prints several, it has the state of
 # the process, if there are lines about it, and the tree: beside each name what can be read,
 # written, executed, made and removed there, the veil whose place stands there now, and what a
@@ -19,9 +19,9 @@
 # what it has more is marked. What MANIFEST has, as list.pl -m writes it, is marked as not listed,
 # or as a directory of which not all is listed.
 #
-# The tree is that of the listing, before the script, with what the list adds; such a name is
-# marked `not listed`. What the script removed stands there still, as something that can't be
-# touched.
+# The tree is that of TREE with what the list adds, which is marked `not listed`. Where TREE is the
+# listing before the script, so is what the script made, and what it removed stands there still,
+# as something that can't be touched.
 #
 # Status 0: the page was written. Status 1: a file can't be read, TREE is no listing, or OBJECTS
 # or EVER is no list of objects; then nothing was written. Status 2: the words are no use of it.

@@ -228,6 +228,15 @@ my @site = ('1 dir 0 www', '2 dir 1 site', '3 file 2 index', '4 file 1 key', '5 
         'links have their targets, further names their nodes, and names stand in the order of their bytes');
 }
 
+# Over the listing of the tree behind the script, as `pua tree` prints it, all that is there is listed.
+{
+    my @said = ('1 ok', '2 ok', 'objects 1', 'file /made stat');
+    is_deeply([rows(page_of('the listing before a script', ['1 file 0 gone'], \@said))],
+        ['0 | /', '1 | gone file', '1 | made file not listed | read: stat'], 'what it made is marked, and what it removed stays');
+    is_deeply([rows(page_of('the tree behind it', ['1 file 0 made'], \@said))], ['0 | /', '1 | made file | read: stat'],
+        'what it made is listed, and what it removed is gone');
+}
+
 # Hostile names stay text: whatever a listing or a list has, the page has the tags of page.pl alone.
 {
     my @hostile = ('<script>alert(1)<\057script>', '"><img', "'onclick='alert(1)", '&amp;', '<!--', '-->', ']]>',

@@ -1394,6 +1394,7 @@ struct Words<'a> {
     limit: Option<u8>,
     /// None for all processes, for which only `objects` can be asked.
     process: Option<u32>,
+    at: Option<u32>,
     is_ever: bool,
     is_openbsd: bool,
     from_root: bool,
@@ -1411,7 +1412,7 @@ fn read_words(words: &[String]) -> Option<(Command, Words<'_>)> {
     };
     let is_audit = command == Command::Audit;
     let (is_ever, is_openbsd, from_root) = (false, false, true);
-    let mut read = Words { limit: None, process: Some(1), is_ever, is_openbsd, from_root, after: None, operands: Vec::new() };
+    let mut read = Words { limit: None, process: Some(1), at: None, is_ever, is_openbsd, from_root, after: None, operands: Vec::new() };
     let (mut has_options, mut given) = (true, Vec::new());
     while let [word, more @ ..] = rest {
         rest = more;
@@ -1436,6 +1437,7 @@ fn read_words(words: &[String]) -> Option<(Command, Words<'_>)> {
         given.push(option);
         match option {
             "--rules" => read.is_openbsd = *["profile", "openbsd"].iter().find(|rules| value == **rules)? == "openbsd",
+            "--at" => read.at = Some(number(value.as_bytes())?),
             _ if command == Command::Run => return None,
             "--process" if !is_audit && value == "all" => read.process = None,
             "--process" => read.process = Some(value.parse().ok().filter(|process| (1..=999_999).contains(process))?),
@@ -1917,15 +1919,24 @@ fn printed(letter: &[u8]) -> Vec<u8> {
     text
 }
 
+/// The first lines of a script up to the one that is named.
+fn script_at(text: &[u8], at: Option<u32>) -> Result<&[u8], String> {
+    let Some(line) = at else { return Ok(text) };
+    let sizes: Vec<usize> = text.split_inclusive(|byte| *byte == b'\n').map(<[u8]>::len).collect();
+    let front = sizes.get(..line as usize).ok_or_else(|| format!("pua: script: line {line}: no such line"))?;
+    Ok(&text[..front.iter().sum()])
+}
+
 fn perform(command: Command, words: &Words) -> Result<(), (u8, String)> {
     let take = |file: &str| match fs::read(file) {
         Ok(bytes) if bytes.len() <= 64 << 20 => Ok(bytes),
         _ => Err((3, format!("pua: cannot read {file}"))),
     };
     let (listing, text) = (take(words.operands[0])?, take(words.operands[1])?);
+    let text = script_at(&text, words.at).map_err(|fault| (1, fault))?;
     RULES.get_or_init(if words.is_openbsd { Rules::openbsd } else { Rules::standard });
     let tree = read_listing(&listing).map_err(|fault| (1, fault))?;
-    let script = read_script(&text).map_err(|fault| (1, fault))?;
+    let script = read_script(text).map_err(|fault| (1, fault))?;
     let mut world = World { tree, processes: Map::from_iter([(1, Process::default())]) };
     let (mut out, mut count) = (Vec::new(), Count::default());
     for (process, action) in &script {
@@ -1947,7 +1958,7 @@ fn perform(command: Command, words: &Words) -> Result<(), (u8, String)> {
 /// rules of one process, which say nothing of execs.
 const USAGE: &str = "pua: usage: pua run [--table FILE] TREE SCRIPT; \
                      pua audit --limit N [--process P] [--base root|cwd] [--after CALL:PATH] [--table FILE] TREE SCRIPT [NAME...]";
-const OBJECTS_USAGE: &str = "pua: usage: pua objects [--ever [--how]|--why] [--process P,...|all] [--rules profile|openbsd] [--table FILE] TREE SCRIPT";
+const OBJECTS_USAGE: &str = "pua: usage: pua objects [--ever [--how]|--why] [--process P,...|all] [--at N] [--rules profile|openbsd] [--table FILE] TREE SCRIPT";
 
 fn main() -> ExitCode {
     let words: Vec<String> = std::env::args().skip(1).collect();

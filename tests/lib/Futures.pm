@@ -51,6 +51,7 @@ sub _line {
     return "$asker exec " . $futures->_program . "\n"
         if $way == 2 && $holds->{exec} && $worlds->number($futures->{exec_in}) == 0;
     return "$asker exec " . $futures->_program . "\n" if $way == 3 && $holds->{bounded};
+    return "$asker uses " . $worlds->used . "\n" if $way == 4 && $worlds->uses;
     my $list = $way < 5 || !@{ $futures->{edits} } ? $futures->{looks} : $futures->{edits};
     my @calls = grep { $futures->_may($asker, $_) } @$list;
     return "$asker " . $futures->_request(@calls ? $worlds->pick(@calls) : 'stat') . "\n";

@@ -110,6 +110,7 @@ my %REQUESTS = (
     unveil  => \&_unveil,
     fork    => \&_fork,
     exit    => \&_exit,
+    uses    => \&_uses,
 );
 
 # A world: the tree of a listing, and process 1. In %$how, optional: rules, `openbsd` for OpenBSD's; table, the
@@ -418,6 +419,12 @@ sub _exit {
     my ($model, $process) = @_;
     $process->{ended} = 1;
     return 'ok';
+}
+
+# A call without a path, by OpenBSD's rules: one of these promises is enough.
+sub _uses {
+    my ($model, $process, $promises) = @_;
+    return _unpromised($process, split /\|/, $promises) || 'ok';
 }
 
 # --- The texts ---

@@ -12,7 +12,7 @@ use File::Temp qw(tempdir);
 use POSIX ();
 use Tables qw(content);
 
-our @EXPORT_OK = qw(answer_in answer_of program_in worlds_told);
+our @EXPORT_OK = qw(answer_in answer_of program_in rules_of worlds_told);
 
 # All names of trees; each world has a few of them.
 my @NAMES = ('a', 'b', 'c', 'd', 'e', 'f\040g');
@@ -62,6 +62,10 @@ my @REQUESTS = (
 my @MORE = (('connect FILE', 'bind NEW') x 2, 'connect PATH', 'bind PATH', ('mknod NEW', 'chown HIGH') x 2, 'mknod PATH', 'chown PATH',
     'create-rw NEW', 'create-rw FILE', 'fchmod FILE', 'fchmod PATH', 'fchown HIGH');
 
+# What it asks for in a call without a path by these rules, and the promises of which such a call needs one.
+my @WITHOUT_PATH = ('uses USED') x 5;
+my @USED = qw(inet id unix stdio proc rpath inet|unix id|settime|rpath proc|wpath);
+
 # What is drawn seldom: what is refused for its text, an end, a lock in the midst.
 my @SELDOM = (
     'exit', 'unveil - -', 'unveil PATH rq', 'unveil = r', 'stat =', 'pledge rpath,nothing -', 'pledge - MILD',
@@ -84,10 +88,12 @@ my @STRETCHES = (
     "ASKER rename DIR/. NEW\nASKER rename FILE /\nASKER rename FILE FILE",
 );
 
-# Makes a generator of worlds. Those of one seed are always the same.
+# Makes a generator of worlds. Those of one seed are always the same. In %$how, optional: paths_alone, where scripts
+# have no call without a path.
 sub new {
-    my ($class, $seed) = @_;
+    my ($class, $seed, $how) = @_;
     my $worlds = bless { state => 1 + $seed % 2147483646, names => [@NAMES] }, $class;
+    $worlds->{paths_alone} = $how->{paths_alone};
     @$worlds{qw(paths of)} = (['/'], { dir => [''] });
     $worlds->number(2) for 1 .. 5;
     return $worlds;
@@ -207,7 +213,7 @@ sub requests {
 
 sub _request {
     my ($worlds) = @_;
-    my @requests = (@REQUESTS, $worlds->{further} ? @MORE : ());
+    my @requests = (@REQUESTS, $worlds->{further} ? @MORE : (), $worlds->uses ? @WITHOUT_PATH : ());
     my $request = $worlds->pick($worlds->number($SELDOM_IN) ? @requests : @SELDOM);
     return join ' ', map { $worlds->_drawn($_) } split / /, $request;
 }
@@ -233,6 +239,10 @@ sub promises {
     return "$list," . $worlds->pick('unix', 'dpath', 'unix,dpath,chown');
 }
 
+# Whether scripts have calls without a path, and what one asks for.
+sub uses { return $_[0]{further} && !$_[0]{paths_alone} }
+sub used { return $_[0]->pick(@USED) }
+
 # What is drawn for a word, or the word itself.
 sub _drawn {
     my ($worlds, $word) = @_;
@@ -252,6 +262,7 @@ sub _drawn {
         : $word eq 'EXECPROMISES' ? $worlds->promises(@EXECPROMISES)
         : $word eq 'SET'          ? $worlds->promises(grep { $_ ne '-' } @EXECPROMISES)
         : $word eq 'NAME'         ? $worlds->name
+        : $word eq 'USED'         ? $worlds->used
         : $word eq 'CHILD'        ? $worlds->pick(3, 4)
         :                           $word;
 }
@@ -327,6 +338,13 @@ sub _end {
     push @lines, "$process pledge " . $worlds->promises(@LAST) . ' ' . $worlds->promises(@EXECPROMISES) . "\n"
         if $worlds->number(3);
     return @lines;
+}
+
+# The rules by which a script can be read: OpenBSD's alone where it has a call of theirs.
+sub rules_of {
+    my ($script) = @_;
+    my $further = join '|', @FURTHER, 'uses';
+    return $script =~ /^[0-9]+ (?:$further) /m ? ('openbsd') : ('profile', 'openbsd');
 }
 
 # The text of a random table of calls: rows of two or three of the calls.

@@ -89,7 +89,7 @@ expect 'a long file' 1 'pua: script: line 20001: bad line'
 mkfifo pipe unread
 # (an output that is open and that nobody reads)
 exec 3<> unread 4> unread 3>&-
-for words in 'audit --limit 0 tree asks' 'objects --process all tree asks' 'run tree asks' 'tight tree asks' 'tight --why tree veils' \
+for words in 'audit --limit 0 tree asks' 'objects --process all tree asks' 'run tree asks' 'tree tree asks' 'tight tree asks' 'tight --why tree veils' \
     --help --version; do
     "$program" $words > /dev/full 2> told
     status=$?

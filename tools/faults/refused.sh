@@ -31,6 +31,7 @@ printf '%s\n' '1 fork 2' '2 mkdir /n' '1 unveil /n rwc' '1 unveil /n/x =' '1 unv
     '1 pledge stdio,rpath,exec stdio,rpath' '2 rmdir /n' > gone
 printf '%s\n' '1 fork 2' '2 unveil /d rwc' '2 unveil /g rc' '2 unveil /n c' '2 unveil - -' > moves
 printf '%s\n' '1 pledge stdio,,rpath -' > list
+printf '%s\n' '1 uses inet|unix|inet' > asks
 printf '%s\n' '1 unveil /d rwc' '1 unveil - -' '1 fork 2' '2 pledge stdio,rpath -' > both
 printf '%s\n' '1 unveil /d wc' '1 unveil /o rwc' '1 unveil - -' > drop
 printf '%s\n' '[chmod]' 'promises = ["fattr", "rpath"]' 'veil = "r"' 'stat = { promises = [""], veil = "" }' > nested
@@ -100,6 +101,7 @@ sweep 'objects of another process' 0 objects --process 2 twice links
 sweep 'objects of two processes' 0 objects --process 2,1 twice links
 sweep 'objects of all processes' 0 objects --process all tree forks
 sweep 'objects, and places that are gone' 0 objects tree gone
+sweep 'objects at a line' 0 objects --at 4 tree gone
 sweep 'for ever' 0 objects --ever tree one
 sweep 'for ever, and what can be moved' 0 objects --ever --process 2 twice moves
 sweep 'for ever, and places that are gone' 0 objects --ever tree gone
@@ -130,9 +132,12 @@ sweep 'a listing that is cut' 1 run cut none
 sweep 'a further name of no node' 1 run lost none
 sweep 'a list with an empty word' 1 run tree list
 sweep 'a tightened list with an empty word' 1 tight tree list
+sweep 'a promise twice, and what is wrong' 1 run --rules openbsd tree asks
+sweep 'a request with no path, and what is wrong' 1 why --rules openbsd tree edits stat '/\x'
 sweep 'a process that can still unveil' 1 objects --ever tree none
 sweep 'no such list' 1 objects --ever --why tree none
 sweep 'a table by which nothing stays' 1 objects --ever --table stays tree one
+sweep 'no such line' 1 objects --at 1 tree none
 sweep 'no such process' 1 audit --limit 1 --process 9 tree none
 sweep 'no such pair' 1 audit --limit 3 --after stat:/nope tree one
 sweep 'a limit too large' 1 audit --limit 17 tree none

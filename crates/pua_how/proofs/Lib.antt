@@ -1,3 +1,5 @@
+mod Placed
+mod Means
 mod Lived
 mod Listing
 mod Coming

@@ -6,7 +6,7 @@ use Rattle.std.proofs.lemmas.List.Sums.{sum_by-cons}
 use Rattle.std.specs.Prelude.{◌==◌, count_by, is_some, option_map}
 use Rattle.std.specs.List.{AllByRecursion}
 use Rattle.pua_tree.specs.Tree.{Tree, Spot, Node, WellFormed, node_at}
-use Rattle.pua_tree.proofs.ForCallers.{sound_from, tally_counts}
+use Rattle.pua_tree.proofs.ForCallers.{None≢Some, sound_from, tally_counts}
 use Rattle.pua_tree.specs.LentRows.{lent_entry}
 use Rattle.pua_tree.specs.declared.tree.LentRow.{LentRow}
 use Rattle.pua_how.specs.Targets.{IsLast}
@@ -48,3 +48,11 @@ last_is t last well all (suc x) k is =
     living : (o : Option Node) → option_map (λ (n : Node). n.kind) o ≡ Some k → is_some o ≡ true
     living (Some n) e = refl
     living None e = cc
+
+-- the number that is given next is above all of them
+pub next_is_last : (t : Tree) → WellFormed t → IsLast t t.next
+next_is_last t well x k is = by (node_at t x) refl is
+  where
+    by : (o : Option Node) → node_at t x ≡ o → option_map (λ (n : Node). n.kind) o ≡ Some k → x ≤ t.next
+    by None e none = absurd (None≢Some k none)
+    by (Some n) e some = omega (arith, ((sound_from t well).node x n e).0)

@@ -5,21 +5,24 @@ use Rattle.std.proofs.lemmas.Bool.{and_right, eqb-true, lt-ltb}
 use Rattle.std.proofs.lemmas.List.Folds.{list_any_at, list_any_more}
 use Rattle.std.proofs.lemmas.Map.Views.{any-filter_same}
 use Rattle.std.specs.List.{list_any}
-use Rattle.std.specs.Prelude.{◌&&◌, ◌||◌, ◌==◌, filter}
+use Rattle.std.specs.Prelude.{◌&&◌, ◌||◌, ◌==◌, filter, Option, Some, None, option_map}
 use Rattle.pua_tree.specs.Tree.{Tree}
+use Rattle.pua_path.specs.declared.found.Found.TheVariants.{Slot, Whole}
 use Rattle.pua_calls.specs.Calls.{calls, call_number}
 use Rattle.pua_calls.specs.CallSets.{calls_in, has}
 use Rattle.pua_calls.specs.declared.call.Call.{Call}
 use Rattle.pua_calls.specs.declared.call.Call.TheVariants as call
 use Rattle.pua_calls.proofs.ForCallers.{same_bit}
 use Rattle.pua_audit.specs.Reach.{Word}
-use Rattle.pua_ever.specs.Ever.{EverLine, Thing, has_ever_calls}
+use Rattle.pua_objects.specs.Objects.{At, Others}
+use Rattle.pua_ever.specs.Ever.{EverLine, Thing, Stands, Comes, NewDir, NewOthers, NewFile, NewLink, has_ever_calls}
 use Rattle.pua_ever.specs.EverList.{AreEverTold, word_of_row}
 use Rattle.pua_ever.specs.declared.list.EverRow.{EverRow}
-use Rattle.pua_how.specs.Outlooks.{row_has}
+use Rattle.pua_how.specs.Outlooks.{row_has, same_target}
 use Rattle.pua_how.specs.Steps.{is_some_by}
-use Rattle.pua_how.specs.Targets.{has_call, is_about, is_listed, line_has}
+use Rattle.pua_how.specs.Targets.{has_call, is_about, is_listed, line_has, target_about}
 use Rattle.pua_how.specs.declared.target.Target.{Target}
+use Rattle.pua_how.specs.declared.target.Target.TheVariants as target
 
 and_true : (b : Bool) → (b && true) ≡ b
 and_true true = refl
@@ -60,6 +63,31 @@ passing p call cs = any-filter_same (is_call call) p (p call) (λ other same. ap
 
 among_all : (p : Call → Bool) (call : Call) → has_call (filter p calls) call ≡ p call
 among_all p call = passing p call calls ∙ ap (λ b. p call && b) (one_of call) ∙ and_true (p call)
+
+-- ---- what rows are about
+
+about_same : (asked : Target) (last : ℕ) (thing : Thing) → is_about asked thing ≡ same_target asked (target_about last thing)
+about_same (target.Directory asked) last (Stands (At (Whole dir way))) = refl
+about_same _ last (Stands (At (Whole dir way))) = refl
+about_same (target.Node asked) last (Stands (At (Slot dir name (Some node)))) = refl
+about_same _ last (Stands (At (Slot dir name (Some node)))) = refl
+about_same (target.Name asked called) last (Stands (At (Slot dir name None))) = refl
+about_same _ last (Stands (At (Slot dir name None))) = refl
+about_same (target.Others asked) last (Stands (Others dir)) = refl
+about_same _ last (Stands (Others dir)) = refl
+about_same (target.NewDirectory before) last (Comes NewDir) = refl
+about_same _ last (Comes NewDir) = refl
+about_same (target.NewOthers before) last (Comes NewOthers) = refl
+about_same _ last (Comes NewOthers) = refl
+about_same (target.NewFile before) last (Comes NewFile) = refl
+about_same _ last (Comes NewFile) = refl
+about_same (target.NewLink before) last (Comes NewLink) = refl
+about_same _ last (Comes NewLink) = refl
+
+pub some_about : (asked : Target) (last : ℕ) (o : Option Thing) →
+    is_some_by (same_target asked) (option_map (target_about last) o) ≡ is_some_by (is_about asked) o
+some_about asked last None = refl
+some_about asked last (Some thing) = sym (about_same asked last thing)
 
 -- ---- lines
 

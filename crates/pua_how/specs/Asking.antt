@@ -11,8 +11,11 @@ use Rattle.pua_tree.specs.declared.node.Kind.{Kind}
 use Rattle.pua_tree.specs.declared.node.Kind.TheVariants as node
 use Rattle.pua_policy.specs.States.{ProcessState, perms_kept}
 use Rattle.pua_policy.specs.declared.place.Place.TheVariants as place
+use Rattle.pua_audit.specs.Reach.{Word}
+use Rattle.pua_objects.specs.Objects.{subject_word}
 use Rattle.pua_objects.specs.declared.kind.ObjectKind.{ObjectKind}
 use Rattle.pua_objects.specs.declared.kind.ObjectKind.TheVariants as kind
+use Rattle.pua_ever.specs.Ever.{Thing, Stands, Comes, new_word}
 use Rattle.pua_how.specs.declared.target.Target.{Target}
 use Rattle.pua_how.specs.declared.target.Target.TheVariants as target
 
@@ -104,3 +107,12 @@ targets_asked t h last Making = targets_new last
 -- all that may be meant, of a kind if one is asked for; none where what is to lead there is no directory
 abbrev pub targets_of : Tree → ProcessState → ℕ → Asking → Option ObjectKind → List Target
 targets_of t h last asking kind = filter (may_be_of t kind) (targets_asked t h last asking)
+
+-- the path and the kind of a line of a list for ever, as a way is asked for by them
+abbrev pub asking_by : Word → Thing → Asking
+asking_by word (Stands subject) = Standing word
+asking_by word (Comes new) = Making
+
+abbrev pub thing_word : Tree → Thing → List ℕ
+thing_word t (Stands subject) = subject_word t subject
+thing_word t (Comes new) = new_word new

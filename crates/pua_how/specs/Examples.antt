@@ -18,9 +18,11 @@ use Rattle.pua_script.specs.declared.answer.Answer.TheVariants.{Failed, Okay}
 use Rattle.pua_script.specs.declared.request.Action.{Action}
 use Rattle.pua_script.specs.declared.request.Action.TheVariants.{OnPath, Link}
 use Rattle.pua_objects.specs.declared.kind.ObjectKind.TheVariants as kind
+use Rattle.pua_objects.specs.Objects as objects
+use Rattle.pua_ever.specs.Ever.{Stands, Comes, NewLink}
 use Rattle.pua_ever.specs.Through.{ever_lasting}
 use Rattle.pua_how.specs.Asking.{Standing, Making, asking_of, targets_of}
-use Rattle.pua_how.specs.Targets.{is_listed, is_of}
+use Rattle.pua_how.specs.Targets.{is_listed, is_of, target_about}
 use Rattle.pua_how.specs.Steps.{comes, step_text}
 use Rattle.pua_how.specs.Ways.{IsWay}
 use Rattle.pua_how.specs.declared.step.At.{At}
@@ -190,15 +192,26 @@ step_rows = record {
 }
 
 -- lines of the list for ever about it that have a call: by OpenBSD's rules the file can come to be written, by a further name, and
--- by the standard ones it can't; a name with a veil can come to be free
+-- by the standard ones it can't; a name with a veil can come to be free. And what lines are about
 pub record ListedRows : Type 0 where
   pub by_link : is_listed (ever_lasting pid_tree openbsd_table pid_now) (target.Node 2) call.OpenWrite ≡ true
   pub without_link : is_listed (ever_lasting pid_tree standard_table pid_now) (target.Node 2) call.OpenWrite ≡ false
   pub of_the_name : is_listed (ever_lasting pid_tree standard_table pid_now) (target.Name 3 (codes "pid")) call.Create ≡ true
   pub of_no_name : is_listed (ever_lasting pid_tree standard_table pid_now) (target.Others 3) call.Create ≡ false
+  pub what_stands : target_about 4 (Stands (objects.At (Slot 3 (codes "pid") (Some 4)))) ≡ target.Node 4
+  pub what_is_freed : target_about 4 (Stands (objects.At (Slot 3 (codes "pid") None))) ≡ target.Name 3 (codes "pid")
+  pub what_comes : target_about 4 (Comes NewLink) ≡ target.NewLink 4
 
 pub listed_rows : ListedRows
-listed_rows = record { by_link = refl; without_link = refl; of_the_name = refl; of_no_name = refl }
+listed_rows = record {
+  by_link = refl;
+  without_link = refl;
+  of_the_name = refl;
+  of_no_name = refl;
+  what_stands = refl;
+  what_is_freed = refl;
+  what_comes = refl;
+}
 
 -- what paths ask about
 pub record AskedRows : Type 0 where

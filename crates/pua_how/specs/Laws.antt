@@ -1,5 +1,7 @@
 -- What is true of ways, and of what no line of the list for ever has.
 use Rattle.std.specs.Prelude.{◌≡◌, ℕ, [], ◌∷◌, List, true, Some, Ok, IsTrue, IsFalse}
+use Rattle.std.specs.List.{Contains}
+use Rattle.pua_tree.specs.Tree.{Tree, WellFormed}
 use Rattle.pua_path.specs.Resolution.{resolution_of_text}
 use Rattle.pua_path.specs.declared.found.Found.{Found}
 use Rattle.pua_calls.specs.Calls.{CallTable, ending_of, last_of}
@@ -13,10 +15,13 @@ use Rattle.pua_script.specs.Laws.{IsConfined}
 use Rattle.pua_script.specs.Family.{family, none_done, is_member, is_exec, HasKept}
 use Rattle.pua_script.specs.Tightening.{NoCallNeedsError}
 use Rattle.pua_script.specs.Confinement.{TreesAlong}
-use Rattle.pua_ever.specs.Ever.{ever}
+use Rattle.pua_objects.specs.Lines.{kind_word}
+use Rattle.pua_objects.specs.declared.kind.ObjectKind.{ObjectKind}
+use Rattle.pua_ever.specs.Ever.{EverLine, ever}
 use Rattle.pua_ever.specs.Laws.{EditsNeedC, VeilsStand, MembersEdit}
 use Rattle.pua_ever.specs.Through.{bound_of, ever_lasting}
-use Rattle.pua_how.specs.Targets.{IsGiven, is_listed, is_of}
+use Rattle.pua_how.specs.Asking.{asking_by, targets_of, thing_word}
+use Rattle.pua_how.specs.Targets.{IsGiven, is_listed, is_of, target_about}
 use Rattle.pua_how.specs.Ways.{IsWay}
 use Rattle.pua_how.specs.declared.target.Target.{Target}
 
@@ -58,3 +63,10 @@ NeverComesThrough =
     HasKept after member (λ last. (from : ℕ) (text : List ℕ) (object : Found) →
     resolution_of_text after.tree from (ending_of call) text (last_of call) ≡ Ok object → is_of after.tree now asked object ≡ true →
     verdict after.tree table last call object ≡ Allowed → ⊥)
+
+-- the path and the kind of a line of the list that holds longest mean what the line is about, and nothing else
+abbrev pub LinesMeanTheirOwn : Type 0
+LinesMeanTheirOwn =
+    (t : Tree) (table : CallTable) (h : ProcessState) → WellFormed t → (line : EverLine) → Contains (ever_lasting t table h) line →
+    (kind : ObjectKind) → kind_word kind ≡ thing_word t line.thing → (last : ℕ) →
+    targets_of t h last (asking_by line.word line.thing) (Some kind) ≡ target_about last line.thing ∷ []

@@ -63,6 +63,17 @@ is_about (target.NewFile last) (Comes NewFile) = true
 is_about (target.NewLink last) (Comes NewLink) = true
 is_about _ _ = false
 
+-- what a line is about, as a way is asked for to it; what is made has a number above this one
+abbrev pub target_about : ℕ → Thing → Target
+target_about last (Stands (At (Whole dir way))) = target.Directory dir
+target_about last (Stands (At (Slot dir name (Some node)))) = target.Node node
+target_about last (Stands (At (Slot dir name None))) = target.Name dir name
+target_about last (Stands (Others dir)) = target.Others dir
+target_about last (Comes NewDir) = target.NewDirectory last
+target_about last (Comes NewOthers) = target.NewOthers last
+target_about last (Comes NewFile) = target.NewFile last
+target_about last (Comes NewLink) = target.NewLink last
+
 -- some line about it has the call
 abbrev pub has_call : List Call → Call → Bool
 has_call calls call = list_any (λ other. call_number other == call_number call) calls

@@ -1,7 +1,7 @@
 //! What the words of a question are about.
 
-ghost use Rattle.std.specs.Prelude.{◌≡◌, ◌==◌, ◌≤◌, ◌∷◌, [], IfOk, filter, map, option_map};
-ghost use Rattle.std.specs.Prelude.{unwrap_or};
+ghost use Rattle.std.specs.Prelude.{◌≡◌, ◌==◌, ◌≤◌, ◌∷◌, [], ℕ, IfOk, filter, map};
+ghost use Rattle.std.specs.Prelude.{option_map, unwrap_or};
 ghost use Rattle.std.specs.List.{AllByRecursion, slice_split};
 ghost use Rattle.pua_tree.specs.LentRows.{lent_entry};
 ghost use Rattle.pua_tree.specs.Tree.{is_dir};
@@ -9,7 +9,8 @@ ghost use Rattle.pua_policy.specs.States.{ProcessState};
 ghost use Rattle.pua_how.specs.Asking.{asking_of, directory_at_name, is_of_kind as has_kind};
 ghost use Rattle.pua_how.specs.Asking.{is_same_kind};
 ghost use Rattle.pua_how.specs.Asking.{may_be_of, names_read, path_names, standing_at};
-ghost use Rattle.pua_how.specs.Asking.{targets_at, targets_by, targets_in, targets_new};
+ghost use Rattle.pua_how.specs.Asking.{targets_asked, targets_at, targets_by, targets_in};
+ghost use Rattle.pua_how.specs.Asking.{targets_new};
 ghost use Rattle.pua_how.specs.Targets.{IsLast};
 ghost use Rattle.pua_how.specs.Asked.{IsAskedBy, asking_given};
 
@@ -106,19 +107,36 @@ pub fn find_meant<T: FileTree>(
     ensures { IfOk result (λ found. IsAskedBy (T.content tree.now) process.now
         (asking_given asking.now) kind found.targets.items) }
 {
-    let last = last_number(alloc, tree)?;
-    let targets = match asking {
-        Asking::Standing(names) => standing(alloc, tree, process, names.as_slice())?,
-        Asking::Making => making(alloc, last)?,
-    };
+    let targets = all_meant(alloc, tree, process, asking)?;
     Ok(Meant {
         targets: of_kind(alloc, tree, targets.as_slice(), kind)?,
         name: wanted_name(tree, asking),
     })
 }
 
-/// The highest number of the nodes that live.
-fn last_number<T: FileTree>(alloc: Global, tree: &T) -> Result<NodeId, OutOfMemory>
+/// The same of any kind. Only what can be made is told by the nodes that live.
+fn all_meant<T: FileTree>(
+    alloc: Global,
+    tree: &T,
+    process: &Process,
+    asking: &Asking,
+) -> Result<Vec<Target>, OutOfMemory>
+    ensures { IfOk result (λ targets. (last : ℕ) × IsLast (T.content tree.now) last
+        × (targets.items ≡ targets_asked (T.content tree.now) process.now last
+        (asking_given asking.now))) }
+{
+    tree.known();
+    match asking {
+        Asking::Standing(names) => Ok(standing(alloc, tree, process, names.as_slice())?),
+        Asking::Making => {
+            let last = last_number(alloc, tree)?;
+            Ok(making(alloc, last)?)
+        }
+    }
+}
+
+/// The highest number of the nodes that live. The only error is that a growth was refused.
+pub fn last_number<T: FileTree>(alloc: Global, tree: &T) -> Result<NodeId, OutOfMemory>
     ensures { IfOk result (λ last. IsLast (T.content tree.now) last) }
 {
     tree.known();

@@ -1,7 +1,8 @@
 //! Laws and worked examples, each the contract of a function that does nothing.
 
 ghost use Rattle.pua_how.specs.Examples.{AskedRows, ListedRows, OfRows, StepRows, WayRows};
-ghost use Rattle.pua_how.specs.Laws.{NeverComes, NeverComesThrough, WaysAreListed};
+ghost use Rattle.pua_how.specs.Laws.{LinesMeanTheirOwn, NeverComes, NeverComesThrough};
+ghost use Rattle.pua_how.specs.Laws.{WaysAreListed};
 
 use pua_ever::{ever_law, through_law};
 
@@ -18,6 +19,12 @@ pub fn how_law()
     ever_law();
     through_law();
 }
+
+/// The path and the kind of a line of the list for ever that holds longest, asked for a way, mean
+/// what the line is about, and nothing else.
+pub fn meaning_law()
+    ensures { LinesMeanTheirOwn }
+{}
 
 /// Examples of what is asked about, by a path too, of ways, and of steps that come to one.
 #[tactic(auto, using(crate::specs::Examples::of_rows, crate::specs::Examples::way_rows, crate::specs::Examples::step_rows, crate::specs::Examples::asked_rows))]

@@ -1,6 +1,7 @@
 //! Ways to what a process can ever touch: requests that are served one after another, up to a call.
 #![tactic(auto)]
 
+mod about;
 mod asking;
 mod laws;
 mod line;
@@ -11,8 +12,9 @@ mod step;
 mod target;
 mod way;
 
-pub use asking::{Asking, Meant, find_meant};
-pub use laws::{how_examples, how_law, listed_examples};
+pub use about::target_of;
+pub use asking::{Asking, Meant, find_meant, last_number};
+pub use laws::{how_examples, how_law, listed_examples, meaning_law};
 pub use line::WayLine;
 pub use outlook::{Outlook, find_outlook};
 pub use plan::Planner;

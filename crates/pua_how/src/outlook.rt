@@ -1,25 +1,20 @@
 //! Whether a list for ever has a call on what is asked about.
 
-ghost use Rattle.std.specs.Prelude.{◌≡◌, None, option_map};
+ghost use Rattle.std.specs.Prelude.{◌≡◌};
 ghost use Rattle.std.specs.List.{list_any};
-ghost use Rattle.pua_tree.specs.Tree.{look as look_at};
-ghost use Rattle.pua_path.specs.declared.found.Found.TheVariants.{Slot, Whole};
-ghost use Rattle.pua_path.specs.declared.found.Way.{Way};
 ghost use Rattle.pua_calls.specs.Calls.{CallTable};
 ghost use Rattle.pua_policy.specs.States.{ProcessState};
-ghost use Rattle.pua_objects.specs.Objects.{At};
-ghost use Rattle.pua_ever.specs.Ever.{Comes, Stands};
-ghost use Rattle.pua_ever.specs.EverLines.{new_of};
-ghost use Rattle.pua_ever.specs.EverList.{subject_at, thing_of};
+ghost use Rattle.pua_ever.specs.EverList.{thing_of};
 ghost use Rattle.pua_ever.specs.LastingList.{IsLasting};
-ghost use Rattle.pua_how.specs.Outlooks.{IsOutlook, row_has};
+ghost use Rattle.pua_how.specs.Outlooks.{IsOutlook, row_has, same_target};
 ghost use Rattle.pua_how.specs.Steps.{is_some_by};
 ghost use Rattle.pua_how.specs.Targets.{is_about as about_it};
 
+use crate::about::target_of;
 use crate::target::Target;
 use pua_calls::Call;
-use pua_ever::{EverAbout, EverPlace, EverRow, ExecBound, LastingList, Made};
-use pua_tree::{FileTree, Name, NodeId};
+use pua_ever::{EverRow, ExecBound, LastingList};
+use pua_tree::{FileTree, NodeId};
 
 /// What the list for ever that holds longest says of a call on what is asked about.
 #[derive(Clone, Copy, PartialEq, Eq)]
@@ -86,77 +81,25 @@ fn has_on<T: FileTree>(tree: &T, row: &EverRow<'_>, asked: &Target, call: Call) 
 fn is_about<T: FileTree>(tree: &T, row: &EverRow<'_>, asked: &Target) -> bool
     ensures { result ≡ is_some_by (about_it asked.now) (thing_of (T.content tree.now) row.now) }
 {
-    match &row.about {
-        EverAbout::Stands(place, _, _) => is_place(tree, place, row.name, asked),
-        EverAbout::Freed(dir) => is_free(*dir, row.name, asked),
-        EverAbout::Comes(made) => is_made(*made, asked),
-    }
-}
-
-/// Whether what stands or could stand at a place, by its name if it has one, is what is asked
-/// about.
-fn is_place<T: FileTree>(tree: &T, place: &EverPlace, name: Option<&Name>, asked: &Target) -> bool
-    ensures { result ≡ is_some_by (λ about. about_it asked.now (Stands about))
-        (subject_at (T.content tree.now) (option_map (λ name. name.now) name.entry) place.now) }
-{
-    match place {
-        EverPlace::Root => is_directory(NodeId::ROOT, asked),
-        EverPlace::Dir(id, _) => name.is_some() && is_directory(*id, asked),
-        EverPlace::Others(dir) => matches!(asked, Target::Others(id) if id == dir),
-        EverPlace::Name(dir) => is_named(tree, *dir, name, asked),
-    }
-}
-
-/// Whether a name in a directory, with what stands there, is what is asked about.
-fn is_named<T: FileTree>(tree: &T, dir: NodeId, name: Option<&Name>, asked: &Target) -> bool
-    ensures { result ≡ is_some_by (λ own. about_it asked.now
-        (Stands (At (Slot dir own (look_at (T.content tree.now) dir own)))))
-        (option_map (λ name. name.now) name.entry) }
-{
-    match name {
-        Some(name) => is_at(tree.look(dir, name), dir, name, asked),
+    match target_of(tree, NodeId::ROOT, row) {
+        Some(own) => is_same(asked, &own),
         None => false,
     }
 }
 
-/// Whether a name in a directory, while nothing stands there, is what is asked about.
-fn is_free(dir: NodeId, name: Option<&Name>, asked: &Target) -> bool
-    ensures { result ≡ is_some_by (λ own. about_it asked.now (Stands (At (Slot dir own None))))
-        (option_map (λ name. name.now) name.entry) }
+/// Whether two things are one; of what can be made, by whichever last number.
+fn is_same(asked: &Target, own: &Target) -> bool
+    ensures { result ≡ same_target asked.now own.now }
 {
-    match name {
-        Some(name) => is_at(None, dir, name, asked),
-        None => false,
-    }
-}
-
-/// Whether a directory is what is asked about.
-fn is_directory(dir: NodeId, asked: &Target) -> bool
-    ensures { (way : Way) → result ≡ about_it asked.now (Stands (At (Whole dir way))) }
-{
-    matches!(asked, Target::Directory(id) if *id == dir)
-}
-
-/// Whether a name, with what stands there, is what is asked about.
-fn is_at(node: Option<NodeId>, dir: NodeId, name: &Name, asked: &Target) -> bool
-    ensures { result ≡ about_it asked.now (Stands (At (Slot dir name.now node))) }
-{
-    match (asked, node) {
-        (Target::Node(id), Some(node)) => node == *id,
-        (Target::Name(id, asked_name), None) => dir == *id && name == asked_name,
-        _ => false,
-    }
-}
-
-/// Whether what can be made is what is asked about.
-fn is_made(made: Made, asked: &Target) -> bool
-    ensures { result ≡ about_it asked.now (Comes (new_of made)) }
-{
-    match (asked, made) {
-        (Target::NewDirectory(_), Made::Dir) => true,
-        (Target::NewOthers(_), Made::Others) => true,
-        (Target::NewFile(_), Made::File) => true,
-        (Target::NewLink(_), Made::Link) => true,
+    match (asked, own) {
+        (Target::Directory(one), Target::Directory(other))
+        | (Target::Others(one), Target::Others(other))
+        | (Target::Node(one), Target::Node(other)) => one == other,
+        (Target::Name(dir, name), Target::Name(other, called)) => dir == other && name == called,
+        (Target::NewDirectory(_), Target::NewDirectory(_))
+        | (Target::NewOthers(_), Target::NewOthers(_))
+        | (Target::NewFile(_), Target::NewFile(_))
+        | (Target::NewLink(_), Target::NewLink(_)) => true,
         _ => false,
     }
 }

@@ -4,6 +4,7 @@ mod answers;
 mod edits;
 mod faults;
 mod fields;
+mod listed;
 mod listings;
 mod names;
 mod slab_edits;

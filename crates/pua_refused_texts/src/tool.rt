@@ -90,6 +90,7 @@ fn table_not_taken(alloc: Global) {
     let run = Command {
         tree: "T",
         script: "S",
+        at: None,
         rules: Rules::Standard,
         table: Some("C"),
         text: Text::Run,
@@ -112,6 +113,7 @@ fn further_input_taken<I: Inputs, O: Sink, E: Sink>(
     let run = Command {
         tree: "T",
         script: "S",
+        at: None,
         rules: Rules::Standard,
         table: None,
         text: Text::Run,

@@ -9,7 +9,7 @@ use Rattle.pua_ever.specs.Ever.{EverLine, Thing, Stands, Comes, ever_line_text, 
 use Rattle.pua_ever.specs.EverLines.{IsThing, line_with}
 use Rattle.pua_ever.specs.declared.line.EverThing.{EverThing}
 use Rattle.pua_ever.specs.declared.line.EverThing.TheVariants as told
-use Rattle.pua_texts.specs.ColumnsState.{plain}
+use Rattle.pua_texts.specs.EndingsState.{plain}
 use Rattle.pua_texts.specs.EverLines.{kind_of, path_or_new}
 use Rattle.pua_ever.specs.EverList.{AreEverTold, word_of_row}
 use Rattle.pua_texts.specs.ListLines.{last_word, lines_text, text_at, unless_none}

@@ -11,7 +11,7 @@ use Rattle.pua_ever.specs.declared.line.EverThing.TheVariants.{Stands}
 use Rattle.pua_objects.specs.Objects.{Subject, Item, Line, line_of, line_text, has_calls}
 use Rattle.pua_objects.specs.Lines.{IsLineOn}
 use Rattle.pua_objects.specs.declared.line.ObjectLine.{ObjectLine}
-use Rattle.pua_texts.specs.ColumnsState.{ColumnsState, columns_of}
+use Rattle.pua_texts.specs.EndingsState.{EndingsState, columns_of}
 use Rattle.pua_objects.specs.ListItems as given
 use Rattle.pua_texts.specs.ListLines.{last_word, lines_text, text_at, unless_none, word_after}
 use Rattle.pua_objects.specs.declared.list.ListItem.{ListItem}
@@ -64,7 +64,7 @@ module _ (t : Tree) (table : CallTable) (h : ProcessState) (behind : Line → Li
         ∙ by_calls (calls_in given.calls) _ (line_on word subject given) (lines_of t table h rest) refl
 
   -- one more line, of the next of some items
-  module _ (columns : ColumnsState) (items : List ListItem) (item : ListItem) (i : ℕ) (within : i < length items)
+  module _ (columns : EndingsState) (items : List ListItem) (item : ListItem) (i : ℕ) (within : i < length items)
       (is : item ≡ slice_index_or items i item) (name : Option (Bor (List ℕ)))
       (named : option_map (λ n. n.now) name ≡ given.last_name item.item.subject) (line : ObjectLine)
       (on : IsLineOn t table h (subject_given t item.item.subject) line) (resting : ℕ) (veil : Option ℕ) where
@@ -102,7 +102,7 @@ module _ (t : Tree) (table : CallTable) (h : ProcessState) (behind : Line → Li
         ∙ ap (λ its. told (given.items_told t word its)) (sym (drop_more items i item within ∙ ap (λ l. l ∷ drop (i + 1) items) (sym is))))
         ∙ so_far
 
-  pub told_all : (columns : ColumnsState) (items : List ListItem) (i : ℕ) (lines : List ListLine) (all : List ℕ) → length items ≤ i →
+  pub told_all : (columns : EndingsState) (items : List ListItem) (i : ℕ) (lines : List ListLine) (all : List ℕ) → length items ≤ i →
       lines_text columns [] lines ++ told (given.items_told t (last_word [] lines) (drop i items)) ≡ all → lines_text columns [] lines ≡ all
   told_all columns items i lines all past so_far =
       sym (append-nil (lines_text columns [] lines))

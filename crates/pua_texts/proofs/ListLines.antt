@@ -6,14 +6,14 @@ use Rattle.std.proofs.lemmas.List.{get_or_append_left}
 use Rattle.std.proofs.Math.Seq.{take-append_seam}
 use Rattle.std.specs.List.{AllByRecursion}
 use Rattle.pua_objects.specs.Lines.{kind_word}
-use Rattle.pua_texts.specs.ColumnsState.{ColumnsState, veil_column}
+use Rattle.pua_texts.specs.EndingsState.{EndingsState, veil_column}
 use Rattle.pua_texts.specs.EverLines.{kind_of, path_or_new}
 use Rattle.pua_objects.specs.ListItems.{with_name}
 use Rattle.pua_texts.specs.ListLines.{NamedState, last_word, lines_text, text_at, unless_none, word_after}
 use Rattle.pua_texts.specs.declared.list_line.ListLine.{ListLine}
 
 -- the line that comes next stands before the others
-pub line_next : (columns : ColumnsState) (old new : NamedState) (line : ListLine) → old.left ≡ line ∷ new.left →
+pub line_next : (columns : EndingsState) (old new : NamedState) (line : ListLine) → old.left ≡ line ∷ new.left →
     new.word ≡ word_after old.word line
     → lines_text columns old.word old.left ≡ text_at columns new.word line ++ lines_text columns new.word new.left
 line_next columns old new line left word =
@@ -48,7 +48,7 @@ long_enough word None = omega arith
 long_enough word (Some name) = omega (arith, length-append word (name ∷ []))
 
 -- a line behind others
-pub line_added : (columns : ColumnsState) (before : Word) (lines : List ListLine) (line : ListLine) →
+pub line_added : (columns : EndingsState) (before : Word) (lines : List ListLine) (line : ListLine) →
     lines_text columns before (lines ++ line ∷ []) ≡ lines_text columns before lines
     ++ text_at columns (word_after (last_word before lines) line) line
 line_added columns before [] line = append-nil (text_at columns (word_after before line) line)
@@ -78,7 +78,7 @@ numbered_added resting [] line all within = (within, tt)
 numbered_added resting (first ∷ lines) line all within = (all.0, numbered_added resting lines line all.1 within)
 
 -- further columns of promises change nothing of lines
-module _ (old new : ColumnsState) (more : List (List ℕ)) (grows : new.resting ≡ old.resting ++ more) (veils : new.veils ≡ old.veils)
+module _ (old new : EndingsState) (more : List (List ℕ)) (grows : new.resting ≡ old.resting ++ more) (veils : new.veils ≡ old.veils)
     (unveiled : new.unveiled ≡ old.unveiled) where
   line_grown : (word : Word) (line : ListLine) → line.resting < length old.resting → text_at new word line ≡ text_at old word line
   line_grown word line within = λ i.

@@ -58,7 +58,7 @@ state_is_printed head h living = record {
   for_exec = pledged_text (held_for_exec h);
   unveils = unveil_word h;
   lines = ap (λ ended. if ended then with_end (codes "process ended") else living_lines head h) living ∙
-      one_by_one (with_end (codes "process alive")) (rules_line head.rules) _ _ _ (execs_told head.span) (openings_told head.rules head.span h)
+      one_by_one (with_end (codes "process alive")) (rules_line head.rules) _ _ _ (execs_told head.time) (openings_told head.rules head.time h)
       (unveiled_line h);
   held = tells (pledged_set h);
   held_for_exec = tells (held_for_exec h);

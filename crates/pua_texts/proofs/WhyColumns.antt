@@ -15,7 +15,7 @@ use Rattle.pua_objects.specs.Objects.{Subject, At, Others, Line, line_text}
 use Rattle.pua_why.specs.Columns.{columns, let_by, veil_columns}
 use Rattle.pua_why.specs.Since.{since}
 use Rattle.pua_why.specs.Texts.{has_veil_on, promises_text}
-use Rattle.pua_texts.specs.ColumnsState.{ColumnsState, columns_of, veil_column}
+use Rattle.pua_texts.specs.EndingsState.{EndingsState, columns_of, veil_column}
 use Rattle.pua_objects.specs.Veils.{covering_by, covering_over, veil_there}
 use Rattle.pua_texts.specs.WhyLines.{covering_of, why_line}
 use Rattle.pua_texts.specs.WhyLists.{AreColumnsOf, veil_behind, veil_kept}
@@ -102,7 +102,7 @@ behind p process h line =
     columns p.table p.world p.asks process h line.calls (covering_of (world_left p).tree h line.subject) ++ 10 ∷ []
 
 -- the column of the promises of some calls and that of a veil stand behind a line
-pub behind_is : (p : Posed) (process : ℕ) (h : ProcessState) (vs : List (Place × ℕ)) (cs : ColumnsState) (line : Line) (resting number : ℕ)
+pub behind_is : (p : Posed) (process : ℕ) (h : ProcessState) (vs : List (Place × ℕ)) (cs : EndingsState) (line : Line) (resting number : ℕ)
     (veil : Option ℕ) → AreColumnsOf p process vs cs → get_or cs.resting number [] ≡ 32 ∷ promises_text resting
     → resting ≡ resting_on p.table h line.calls → covering_by vs veil ≡ covering_of (world_left p).tree h line.subject
     → columns_of cs number veil ≡ behind p process h line

@@ -10,7 +10,7 @@ use Rattle.pua_ever.specs.EverLines.{IsThing, line_with}
 use Rattle.pua_ever.specs.EverList.{word_of_row}
 use Rattle.pua_ever.specs.Through.{execs_of}
 use Rattle.pua_ever.specs.declared.list.EverRow.{EverRow}
-use Rattle.pua_texts.specs.ColumnsState.{ColumnsState}
+use Rattle.pua_texts.specs.EndingsState.{EndingsState}
 use Rattle.pua_texts.specs.EverLines.{heading_ever}
 use Rattle.pua_texts.specs.States.{head_lines}
 use Rattle.pua_texts.specs.declared.list_line.ListLine.{ListLine}
@@ -47,5 +47,5 @@ lines_numbered n [] = []
 lines_numbered n (row ∷ rows) = line_numbered n row ∷ lines_numbered (n + 1) rows
 
 -- LF behind a line that has no text, and the text with its number behind one that has
-abbrev pub numbered : List (List ℕ) → ColumnsState
+abbrev pub numbered : List (List ℕ) → EndingsState
 numbered texts = record { resting = []; veils = texts; unveiled = 10 ∷ [] }

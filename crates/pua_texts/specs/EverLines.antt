@@ -15,7 +15,7 @@ use Rattle.pua_objects.specs.declared.kind.ObjectKind.{ObjectKind}
 use Rattle.pua_texts.specs.States.{head_lines}
 use Rattle.pua_texts.specs.Lines.{with_end}
 use Rattle.pua_texts.specs.declared.state.Heading.{Heading}
-use Rattle.pua_texts.specs.declared.state.Span.TheVariants.{Ever}
+use Rattle.pua_texts.specs.declared.state.Time.TheVariants.{Ever}
 
 abbrev pub ever_lines : Tree → List EverLine → List ℕ
 ever_lines t lines = flat_map (λ line. with_end (line_text t line)) lines
@@ -32,7 +32,7 @@ path_or_new (Comes kind) word = codes "new"
 
 -- the heading of a list for ever
 abbrev pub heading_ever : Rules → ExecBound → ℕ → Heading
-heading_ever rules execs process = record { span = Ever execs; rules = rules; number = process }
+heading_ever rules execs process = record { time = Ever execs; rules = rules; number = process }
 
 -- the list for ever of a process: its heading, its state, and a line for each thing that it and what it forks can ever touch;
 -- where all that they start is bounded, what they start can touch it too

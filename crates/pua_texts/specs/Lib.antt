@@ -9,7 +9,7 @@ pub mod TogetherLines
 pub mod WhyLines
 -- Notes: what the code has of lists, what a writing leaves, and what is put at once.
 pub mod Lists
-pub mod ColumnsState
+pub mod EndingsState
 pub mod ListLines
 pub mod VeilDates
 pub mod WhyLists

@@ -7,7 +7,7 @@ use Rattle.pua_calls.specs.declared.call.Call.{Call}
 use Rattle.pua_audit.specs.Reach.{Word}
 use Rattle.pua_objects.specs.Lines.{kind_word}
 use Rattle.pua_objects.specs.Objects.{with_commas}
-use Rattle.pua_texts.specs.ColumnsState.{ColumnsState, columns_of}
+use Rattle.pua_texts.specs.EndingsState.{EndingsState, columns_of}
 use Rattle.pua_texts.specs.EverLines.{kind_of, path_or_new}
 use Rattle.pua_objects.specs.ListItems.{with_name}
 use Rattle.pua_texts.specs.Lists.{HeadState}
@@ -28,16 +28,16 @@ abbrev pub unless_none : List Call → List ℕ → List ℕ
 unless_none [] text = []
 unless_none (call ∷ calls) text = text
 
-abbrev pub whole_line : ColumnsState → Word → ListLine → List ℕ
+abbrev pub whole_line : EndingsState → Word → ListLine → List ℕ
 whole_line columns word line =
     (kind_word (kind_of line.thing) ++ 32 ∷ []) ++ ((path_or_new line.thing word ++ 32 ∷ [])
     ++ (with_commas (map call_name (calls_in line.calls)) ++ columns_of columns line.resting line.veil))
 
-abbrev pub text_at : ColumnsState → Word → ListLine → List ℕ
+abbrev pub text_at : EndingsState → Word → ListLine → List ℕ
 text_at columns word line = unless_none (calls_in line.calls) (whole_line columns word line)
 
 -- lines, one after another, behind one about what these names lead to
-abbrev pub lines_text : ColumnsState → Word → List ListLine → List ℕ
+abbrev pub lines_text : EndingsState → Word → List ListLine → List ℕ
 lines_text columns before [] = []
 lines_text columns before (line ∷ lines) =
     text_at columns (word_after before line) line ++ lines_text columns (word_after before line) lines
@@ -51,7 +51,7 @@ pub record NamedState : Type 0 where
 pub record ListState : Type 0 where
   pub head : HeadState
   pub lines : List ListLine
-  pub columns : ColumnsState
+  pub columns : EndingsState
 
 abbrev pub head_text : Tree → HeadState → List ℕ
 head_text t head = head.text ++ veil_lines t head.veils

@@ -10,7 +10,7 @@ use Rattle.pua_objects.specs.Objects.{Line, line_text, objects}
 use Rattle.pua_texts.specs.States.{head_lines}
 use Rattle.pua_texts.specs.Lines.{with_end}
 use Rattle.pua_texts.specs.declared.state.Heading.{Heading}
-use Rattle.pua_texts.specs.declared.state.Span.TheVariants.{Now}
+use Rattle.pua_texts.specs.declared.state.Time.TheVariants.{Now}
 
 abbrev pub object_lines : Tree → List Line → List ℕ
 object_lines t lines = flat_map (λ line. with_end (line_text t line)) lines
@@ -21,7 +21,7 @@ process_list head table t h = head_lines t head h ++ object_lines t (objects t t
 
 -- the heading of a list of now
 abbrev pub heading_now : Rules → ℕ → Heading
-heading_now rules process = record { span = Now; rules = rules; number = process }
+heading_now rules process = record { time = Now; rules = rules; number = process }
 
 -- a number that was never made has no list
 abbrev pub object_list_of : Rules → CallTable → World → ℕ → List ℕ

@@ -20,8 +20,8 @@ use Rattle.pua_why.specs.Texts.{dir_names}
 use Rattle.pua_texts.specs.Lines.{with_end}
 use Rattle.pua_texts.specs.Openings.{opening_lines}
 use Rattle.pua_texts.specs.declared.state.Heading.{Heading}
-use Rattle.pua_texts.specs.declared.state.Span.{Span}
-use Rattle.pua_texts.specs.declared.state.Span.TheVariants.{Now, Ever}
+use Rattle.pua_texts.specs.declared.state.Time.{Time}
+use Rattle.pua_texts.specs.declared.state.Time.TheVariants.{Now, Ever}
 -- a text, or `=` where it is empty
 pub use Rattle.pua_why.specs.Texts.{or_equals}
 
@@ -44,21 +44,21 @@ exec_line Never = []
 exec_line Bounded = with_end (codes "exec bounded")
 exec_line Open = with_end (codes "exec open")
 
-abbrev pub execs_told : Span → List ℕ
+abbrev pub execs_told : Time → List ℕ
 execs_told Now = []
 execs_told (Ever execs) = exec_line execs
 
 -- the promises by which something is opened: those that were pledged; and at some time each one that can still be, also by
 -- what is started, where the list has what that can touch
-abbrev pub opening_set : Span → ProcessState → ℕ
+abbrev pub opening_set : Time → ProcessState → ℕ
 opening_set Now h = unwrap_or (pledged_set h) no_promises
 opening_set (Ever Never) h = held_set h
 opening_set (Ever Bounded) h = bit_or (held_set h) (unwrap_or (held_for_exec h) no_promises)
 opening_set (Ever Open) h = held_set h
 
 -- what promises open by themselves, which the standard rules know nothing of
-abbrev pub openings_told : Rules → Span → ProcessState → List ℕ
-openings_told rules span h = if (about_rules rules).has_openings then opening_lines (keywords_of (opening_set span h)) else []
+abbrev pub openings_told : Rules → Time → ProcessState → List ℕ
+openings_told rules time h = if (about_rules rules).has_openings then opening_lines (keywords_of (opening_set time h)) else []
 
 -- that there is none, where a process keeps no veil
 abbrev pub unveiled_line : ProcessState → List ℕ
@@ -70,12 +70,12 @@ held_lines rules h = rules_line rules ++ with_end (codes "promises " ++ pledged_
     ++ with_end (codes "execpromises " ++ pledged_text (held_for_exec h)) ++ with_end (codes "unveil " ++ unveil_word h)
 
 -- what becomes of a list for ever at an exec, what promises open by themselves, and that there is no veil
-abbrev pub bound_lines : Rules → Span → ProcessState → List ℕ
-bound_lines rules span h = execs_told span ++ openings_told rules span h ++ unveiled_line h
+abbrev pub bound_lines : Rules → Time → ProcessState → List ℕ
+bound_lines rules time h = execs_told time ++ openings_told rules time h ++ unveiled_line h
 
 -- the lines of a living process before those of its veils
 abbrev pub living_lines : Heading → ProcessState → List ℕ
-living_lines head h = with_end (codes "process alive") ++ held_lines head.rules h ++ bound_lines head.rules head.span h
+living_lines head h = with_end (codes "process alive") ++ held_lines head.rules h ++ bound_lines head.rules head.time h
 
 -- an ended process has one line
 abbrev pub own_lines : Heading → ProcessState → List ℕ
@@ -85,13 +85,13 @@ own_lines head h = if is_ended h then with_end (codes "process ended") else livi
 abbrev pub living_veils : ProcessState → List (Place × ℕ)
 living_veils h = if is_ended h then [] else veils h
 
-abbrev pub title_of : Span → List ℕ
+abbrev pub title_of : Time → List ℕ
 title_of Now = codes "objects"
 title_of (Ever execs) = codes "ever"
 
 -- the heading of a list, by what it is a list of and the number of its process
 abbrev pub heading_line : Heading → List ℕ
-heading_line head = with_end (title_of head.span ++ 32 ∷ decimal head.number)
+heading_line head = with_end (title_of head.time ++ 32 ∷ decimal head.number)
 
 -- the names of a directory and of those above it, up to the root
 abbrev pub names_over : Tree → ℕ → Word
@@ -146,7 +146,7 @@ pub record TellsState (head : Heading) (h : ProcessState) (text : List ℕ) : Ty
   pub unveils : List ℕ
   pub lines : text ≡ with_end (codes "process alive") ++ rules_line head.rules ++ with_end (codes "promises " ++ promises)
       ++ with_end (codes "execpromises " ++ for_exec) ++ with_end (codes "unveil " ++ unveils)
-      ++ execs_told head.span ++ openings_told head.rules head.span h ++ unveiled_line h
+      ++ execs_told head.time ++ openings_told head.rules head.time h ++ unveiled_line h
   pub held : TellsPromises (pledged_set h) promises
   pub held_for_exec : TellsPromises (held_for_exec h) for_exec
   pub confined : IsConfined h ↔ ((unveils ≡ codes "locked") ⊎ (unveils ≡ codes "given-up"))

@@ -10,7 +10,7 @@ use Rattle.pua_ever.specs.Together.{joined}
 use Rattle.pua_texts.specs.EverLines.{ever_lines}
 use Rattle.pua_texts.specs.Lines.{with_end}
 use Rattle.pua_texts.specs.States.{bound_lines, held_lines, veil_lines}
-use Rattle.pua_texts.specs.declared.state.Span.TheVariants.{Ever}
+use Rattle.pua_texts.specs.declared.state.Time.TheVariants.{Ever}
 
 -- the heading has the numbers of the processes, which are given with their processes
 abbrev pub together_heading : List (ℕ × ProcessState) → List ℕ

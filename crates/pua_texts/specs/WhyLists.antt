@@ -6,7 +6,7 @@ use Rattle.pua_policy.specs.declared.reason.Covering.{Covering}
 use Rattle.pua_why.specs.Columns.{veil_columns}
 use Rattle.pua_why.specs.Since.{since}
 use Rattle.pua_why.specs.Texts.{has_veil_on, letters_text, place_text}
-use Rattle.pua_texts.specs.ColumnsState.{ColumnsState}
+use Rattle.pua_texts.specs.EndingsState.{EndingsState}
 use Rattle.pua_texts.specs.WhyLines.{Posed, world_left}
 
 -- a blank, the columns of a veil that was put so and since this line, and LF
@@ -26,6 +26,6 @@ abbrev pub covering_behind : Posed → ℕ → Covering → List ℕ
 covering_behind p process over = 32 ∷ veil_columns p.table p.world p.asks process over ++ 10 ∷ []
 
 -- columns are those of these veils of a process with this number
-pub record AreColumnsOf (p : Posed) (process : ℕ) (vs : List (Place × ℕ)) (columns : ColumnsState) : Type 0 where
+pub record AreColumnsOf (p : Posed) (process : ℕ) (vs : List (Place × ℕ)) (columns : EndingsState) : Type 0 where
   pub veils : columns.veils ≡ veils_behind p process vs
   pub unveiled : columns.unveiled ≡ codes " - - -" ++ 10 ∷ []

@@ -1,63 +1,92 @@
-//! The list for ever of a process: its heading, its state, and what it can ever touch.
+//! The list for ever of a process: its heading, its state, and what it can ever touch; alone, or
+//! with a text behind the calls of each line.
 
-ghost use Rattle.std.specs.Prelude.{◌≡◌, ◌++◌, [], IfOk, List};
+ghost use Rattle.std.specs.Prelude.{◌≡◌, ◌++◌, [], ℕ, IfOk, List, map, string_bytes};
 ghost use Rattle.pua_calls.specs.Calls.{CallTable};
 ghost use Rattle.pua_tree.specs.Tree.{Tree};
 ghost use Rattle.pua_ever.specs.Ever.{EverLine as Told};
-ghost use Rattle.pua_texts.specs.ColumnsState.{plain};
 ghost use Rattle.pua_ever.specs.EverList.{AreEverTold};
 ghost use Rattle.pua_ever.specs.LastingList.{IsLasting};
-ghost use Rattle.pua_texts.specs.EverLines.{ever_lines, ever_list};
-ghost use Rattle.pua_texts.specs.ListLines.{lines_text};
-ghost use Rattle.pua_texts.specs.Tells.{TellsTo};
+ghost use Rattle.pua_ever.specs.Through.{execs_of};
+ghost use Rattle.pua_texts.specs.EndingsState.{plain};
+ghost use Rattle.pua_texts.specs.EverHowLines.{AreToldWith, ever_list_with, lines_numbered};
+ghost use Rattle.pua_texts.specs.EverLines.{ever_lines, ever_list, heading_ever};
+ghost use Rattle.pua_texts.specs.ListLines.{lines_text, lists_text};
+ghost use Rattle.pua_texts.specs.States.{head_lines};
 
-use crate::columns::Columns;
-use crate::fault::TextFault;
+use crate::endings::Endings;
 use crate::list_line::ListLine;
-use crate::lists::write_all;
+use crate::lists::alone;
 use crate::process_head::ProcessHead;
 use crate::process_list::ProcessList;
-use crate::state::{Heading, Span};
+use crate::state::{Heading, Time};
 use pua_calls::Rules;
 use pua_ever::{EverRow, LastingList};
-use pua_io::Sink;
 use pua_policy::Process;
-use pua_tree::{FileTree, OutOfMemory};
+use pua_tree::OutOfMemory;
 use std::alloc::Global;
 use std::collections::VecDeque;
 
-/// Writes the front of a text, and then this list, which is that of the process with this number;
-/// its state says whose rules the table of calls is by. `OutOfMemory` where a growth was refused,
-/// before anything is written. `Write` only where a put failed in this call, after a front of the
-/// text.
-pub fn write_ever<'t, T: FileTree, S: Sink>(
+/// This list, which is that of the process with this number, alone; its state says whose rules the
+/// table of calls is by. The only error is that a growth was refused.
+pub fn begin_ever<'t>(
     alloc: Global,
-    tree: &'t T,
     rules: Rules,
     number: u32,
     process: &'t Process,
     list: &LastingList<'t>,
-    front: &str,
-    sink: &mut S,
-) -> Result<(), TextFault>
-    ensures { (table : CallTable) → IsLasting (T.content tree.now) table process.now list.now →
-        TellsTo S.written S.failed
-        (front.now ++ ever_list rules table (T.content tree.now) number process.now)
-        result sink.old sink.new }
+) -> Result<VecDeque<ProcessList<'t>>, OutOfMemory>
+    ensures { IfOk result (λ lists. (t : Tree) (table : CallTable) →
+        IsLasting t table process.now list.now →
+        lists_text t lists.items ≡ ever_list rules table t number process.now) }
+{
+    let lines = ever_lines(alloc, list.rows.as_slice())?;
+    let columns = Endings::plain(alloc);
+    list_with(alloc, rules, number, process, list, lines, columns)
+}
+
+/// The same list with a text behind the calls of each row, which ends the line. The only error is
+/// that a growth was refused.
+pub fn begin_ever_with<'t>(
+    alloc: Global,
+    rules: Rules,
+    number: u32,
+    process: &'t Process,
+    list: &LastingList<'t>,
+    texts: Vec<String>,
+) -> Result<VecDeque<ProcessList<'t>>, OutOfMemory>
+    ensures { IfOk result (λ lists. (t : Tree) (table : CallTable) (lines : List (Told × List ℕ)) →
+        list.now.execs ≡ execs_of t table process.now →
+        AreToldWith t [] list.now.rows.items (map string_bytes texts.items) lines →
+        lists_text t lists.items ≡ ever_list_with rules table t number process.now lines) }
+{
+    let lines = numbered_lines(alloc, list.rows.as_slice())?;
+    let columns = Endings::of_lines(alloc, texts);
+    list_with(alloc, rules, number, process, list, lines, columns)
+}
+
+/// The list of a process with these lines and columns, alone. The only error is that a growth was
+/// refused.
+fn list_with<'t>(
+    alloc: Global,
+    rules: Rules,
+    number: u32,
+    process: &'t Process,
+    list: &LastingList<'t>,
+    lines: Vec<ListLine<'t>>,
+    columns: Endings,
+) -> Result<VecDeque<ProcessList<'t>>, OutOfMemory>
+    ensures { IfOk result (λ lists. (t : Tree) → lists_text t lists.items
+        ≡ head_lines t (heading_ever rules list.now.execs number) process.now
+        ++ lines_text columns [] lines.entry.items) }
 {
     let heading = Heading {
-        span: Span::Ever(list.execs),
+        time: Time::Ever(list.execs),
         rules,
         number,
     };
     let head = ProcessHead::begin(alloc, heading, process)?;
-    let lines = ever_lines(alloc, list.rows.as_slice())?;
-    let list = ProcessList::new(alloc, head, lines, Columns::plain(alloc))?;
-    let mut lists = VecDeque::new(alloc);
-    let Ok(()) = lists.push_back(list) else {
-        return Err(TextFault::OutOfMemory);
-    };
-    write_all(alloc, tree, front, &mut lists, sink)
+    alone(alloc, ProcessList::new(alloc, head, lines, columns)?)
 }
 
 /// The lines of these rows. The only error is that a growth was refused.
@@ -77,6 +106,28 @@ pub(crate) fn ever_lines<'t>(
             calls: row.line.calls,
             resting: 0,
             veil: None,
+        }) else {
+            return Err(OutOfMemory);
+        };
+    }
+    Ok(lines)
+}
+
+/// The lines of these rows, each with its number among them. The only error is that a growth was
+/// refused.
+fn numbered_lines<'t>(alloc: Global, rows: &[EverRow<'t>]) -> Result<Vec<ListLine<'t>>, OutOfMemory>
+    ensures { IfOk result (λ lines. lines.items ≡ lines_numbered 0 rows.now) }
+{
+    let mut lines = Vec::with_capacity(alloc, rows.len())?;
+    for row in rows {
+        let number = lines.len();
+        let Ok(()) = lines.push(ListLine {
+            depth: row.depth,
+            name: row.name,
+            thing: row.line.thing,
+            calls: row.line.calls,
+            resting: 0,
+            veil: Some(number),
         }) else {
             return Err(OutOfMemory);
         };

@@ -1,15 +1,15 @@
 //! The lines of texts, added to blocks of bytes on their way to a sink, and the lists that they
 //! make: of answers, of pairs, of objects, of now and for ever, of the state of a process, and of
-//! reasons. Each list is written by one call, which takes all its memory before it writes.
+//! reasons. Lists are made first, and then written by one call, which takes all its memory before
+//! it writes.
 #![tactic(auto)]
 
 mod answers;
 mod audit_list;
 mod block;
 mod calls_text;
-mod columns;
 mod copies;
-mod ever_how_list;
+mod endings;
 mod ever_list;
 mod fault;
 mod kept_path;
@@ -34,11 +34,12 @@ mod why_lists;
 
 pub use answers::{answer_text, front_text};
 pub use audit_list::{AuditList, write_audit};
-pub use ever_how_list::write_ever_how;
-pub use ever_list::write_ever;
+pub use ever_list::{begin_ever, begin_ever_with};
 pub use fault::TextFault;
 pub use laws::state_law;
+pub use lists::write_lists;
 pub use members::{Joint, Member};
-pub use object_lists::write_lists;
-pub use together_list::write_together;
-pub use why_lists::write_why_lists;
+pub use object_lists::begin_objects;
+pub use process_list::ProcessList;
+pub use together_list::begin_together;
+pub use why_lists::begin_reasons;

@@ -11,7 +11,7 @@ ghost use Rattle.pua_texts.specs.ListLines.{lines_text, text_at, whole_line};
 
 use crate::block::{Block, MOST_LINE};
 use crate::calls_text::CallsTexts;
-use crate::columns::Columns;
+use crate::endings::Endings;
 use crate::line::add_printed;
 use crate::named_lines::NamedLines;
 use pua_calls::Calls;
@@ -60,7 +60,7 @@ impl<'t> ListLine<'t> {
 pub(crate) fn add_lines<S: Sink>(
     block: &mut Block,
     lines: &mut NamedLines<'_>,
-    columns: &Columns,
+    columns: &Endings,
     texts: &mut CallsTexts,
     sink: &mut S,
 ) -> Result<(), PutFault>
@@ -79,7 +79,7 @@ fn add_last<S: Sink>(
     block: &mut Block,
     line: &ListLine<'_>,
     lines: &mut NamedLines<'_>,
-    columns: &Columns,
+    columns: &Endings,
     texts: &mut CallsTexts,
     sink: &mut S,
 ) -> Result<(), PutFault>
@@ -100,7 +100,7 @@ fn add_line<S: Sink>(
     block: &mut Block,
     line: &ListLine<'_>,
     lines: &NamedLines<'_>,
-    columns: &Columns,
+    columns: &Endings,
     texts: &mut CallsTexts,
     sink: &mut S,
 ) -> Result<(), PutFault>

@@ -1,8 +1,9 @@
 //! Lists, written one after another.
 
-ghost use Rattle.std.specs.Prelude.{◌++◌};
+ghost use Rattle.std.specs.Prelude.{◌≡◌, ◌++◌, IfOk};
+ghost use Rattle.pua_tree.specs.Tree.{Tree};
 ghost use Rattle.pua_texts.specs.Blocks.{PassesOn};
-ghost use Rattle.pua_texts.specs.ListLines.{lists_text};
+ghost use Rattle.pua_texts.specs.ListLines.{list_text, lists_text};
 ghost use Rattle.pua_texts.specs.Tells.{TellsTo};
 
 use crate::block::Block;
@@ -12,22 +13,22 @@ use crate::named_lines::NamedLines;
 use crate::places::Places;
 use crate::process_list::ProcessList;
 use pua_io::{PutFault, Sink};
-use pua_tree::FileTree;
+use pua_tree::{FileTree, OutOfMemory};
 use std::alloc::Global;
 use std::collections::VecDeque;
 
 /// Writes the front of a text, and then these lists, one after another. `OutOfMemory` where a
 /// growth was refused, before anything is written. `Write` only where a put failed in this call,
 /// after a front of the text.
-pub(crate) fn write_all<'t, T: FileTree, S: Sink>(
+pub fn write_lists<'t, T: FileTree, S: Sink>(
     alloc: Global,
     tree: &'t T,
     front: &str,
-    lists: &mut VecDeque<ProcessList<'t>>,
+    mut lists: VecDeque<ProcessList<'t>>,
     sink: &mut S,
 ) -> Result<(), TextFault>
     ensures { TellsTo S.written S.failed
-        (front.now ++ lists_text (T.content tree.now) lists.old.items)
+        (front.now ++ lists_text (T.content tree.now) lists.entry.items)
         result sink.old sink.new }
 {
     let mut places = Places::new(alloc, tree)?;
@@ -37,13 +38,25 @@ pub(crate) fn write_all<'t, T: FileTree, S: Sink>(
     let added = add_lists(
         &mut block,
         front,
-        lists,
+        &mut lists,
         &mut places,
         &mut lines,
         &mut texts,
         sink,
     );
     block.finish(added, sink)
+}
+
+/// A list alone. The only error is that a growth was refused.
+pub(crate) fn alone<'t>(
+    alloc: Global,
+    list: ProcessList<'t>,
+) -> Result<VecDeque<ProcessList<'t>>, OutOfMemory>
+    ensures { IfOk result (λ lists. (t : Tree) → lists_text t lists.items ≡ list_text t list.entry) }
+{
+    let mut lists = VecDeque::new(alloc);
+    lists.push_back(list)?;
+    Ok(lists)
 }
 
 /// Adds the front of a text to a block, and then lists, one after another.

@@ -8,14 +8,14 @@ ghost use Rattle.pua_policy.specs.Reasons.{promising};
 ghost use Rattle.pua_tree.specs.Tree.{Tree};
 ghost use Rattle.pua_objects.specs.Lines.{lines_of};
 ghost use Rattle.pua_why.specs.Columns.{let_by, resting_on};
-ghost use Rattle.pua_texts.specs.ColumnsState.{plain};
+ghost use Rattle.pua_texts.specs.EndingsState.{plain};
 ghost use Rattle.pua_objects.specs.ListItems.{IsToldIn, items_told};
 ghost use Rattle.pua_texts.specs.ListLines.{lines_text};
 ghost use Rattle.pua_texts.specs.ObjectLines.{object_lines};
 ghost use Rattle.pua_texts.specs.WhyLines.{Posed as Asking, why_line, world_left};
 ghost use Rattle.pua_texts.specs.WhyLists.{AreColumnsOf};
 
-use crate::columns::Columns;
+use crate::endings::Endings;
 use crate::list_line::ListLine;
 use pua_calls::{Call, CallTable, Calls, Promises};
 use pua_ever::EverThing;
@@ -60,7 +60,7 @@ pub(crate) fn why_lines<'t>(
     process: &Process,
     table: &CallTable,
     items: &[ListItem<'t>],
-    columns: &mut Columns,
+    columns: &mut Endings,
 ) -> Result<Vec<ListLine<'t>>, OutOfMemory>
     ensures { IfOk result (λ lines. (p : Asking) (number : ℕ) → table.now ≡ p.table →
         AllByRecursion (IsToldIn (world_left p).tree process.now) items.now →

@@ -6,7 +6,7 @@ ghost use Rattle.pua_texts.specs.ListLines.{list_text};
 
 use crate::block::Block;
 use crate::calls_text::CallsTexts;
-use crate::columns::Columns;
+use crate::endings::Endings;
 use crate::list_line::{ListLine, add_lines};
 use crate::named_lines::{ListLines, NamedLines};
 use crate::places::Places;
@@ -16,12 +16,13 @@ use pua_tree::{FileTree, OutOfMemory};
 use std::alloc::Global;
 use std::marker::Model;
 
-/// The list of a process, with all memory that writing it takes.
+/// The list of a process, or that of several together, as it is written by
+/// [`write_lists`](crate::write_lists).
 #[derive(Drop)]
-pub(crate) struct ProcessList<'t> {
+pub struct ProcessList<'t> {
     head: ProcessHead<'t>,
     lines: ListLines<'t>,
-    columns: Columns,
+    columns: Endings,
 }
 
 impl<'t> Model for ProcessList<'t> {
@@ -43,7 +44,7 @@ impl<'t> ProcessList<'t> {
         alloc: Global,
         head: ProcessHead<'t>,
         lines: Vec<ListLine<'t>>,
-        columns: Columns,
+        columns: Endings,
     ) -> Result<ProcessList<'t>, OutOfMemory>
         ensures { IfOk result (λ list. list ≡ record {
           head = head.entry;

@@ -15,9 +15,9 @@ use pua_why::push_promises;
 use std::alloc::{AllocError, Global};
 use std::fmt::Write;
 
-/// What a list is of.
+/// Of which time a list is.
 #[derive(Clone, Copy)]
-pub(crate) enum Span {
+pub(crate) enum Time {
     /// What is allowed now.
     Now,
     /// What can ever be, and what becomes of the list at an exec.
@@ -27,7 +27,7 @@ pub(crate) enum Span {
 /// What is told of a list beside the state of its process.
 #[derive(Clone, Copy)]
 pub(crate) struct Heading {
-    pub(crate) span: Span,
+    pub(crate) time: Time,
     /// Whose rules the table of calls is by, whatever rows a text puts into it.
     pub(crate) rules: Rules,
     /// The number of the process.
@@ -52,18 +52,18 @@ pub(crate) fn state_text(
 fn heading_text(alloc: Global, heading: Heading) -> Result<String, AllocError>
     ensures { IfOk result (λ text. string_bytes text ≡ heading_line heading) }
 {
-    let title = title(heading.span);
+    let title = title(heading.time);
     let mut text = String::new(alloc);
     writeln!(text, "{title} {}", heading.number)?;
     Ok(text)
 }
 
-fn title(span: Span) -> &'static str
-    ensures { result.now ≡ title_of span }
+fn title(time: Time) -> &'static str
+    ensures { result.now ≡ title_of time }
 {
-    match span {
-        Span::Now => "objects",
-        Span::Ever(_execs) => "ever",
+    match time {
+        Time::Now => "objects",
+        Time::Ever(_execs) => "ever",
     }
 }
 
@@ -95,7 +95,7 @@ fn push_living(
 {
     push_line(text, "process ", "alive")?;
     push_held(alloc, text, heading.rules, process)?;
-    push_bounds(alloc, text, heading.rules, heading.span, process)
+    push_bounds(alloc, text, heading.rules, heading.time, process)
 }
 
 /// Adds by which rules it is, what a process holds, and whether it may put veils. The only error is
@@ -123,14 +123,14 @@ pub(crate) fn push_bounds(
     alloc: Global,
     text: &mut String,
     rules: Rules,
-    span: Span,
+    time: Time,
     process: &Process,
 ) -> Result<(), AllocError>
     ensures { OnOk result (string_bytes text.new
-        ≡ string_bytes text.old ++ bound_lines rules span process.now) }
+        ≡ string_bytes text.old ++ bound_lines rules time process.now) }
 {
-    push_execs(text, span)?;
-    push_opened(alloc, text, rules, span, process)?;
+    push_execs(text, time)?;
+    push_opened(alloc, text, rules, time, process)?;
     push_unveiled(text, process)
 }
 
@@ -146,13 +146,13 @@ fn push_rules(text: &mut String, rules: Rules) -> Result<(), AllocError>
 }
 
 /// Adds what becomes of a list for ever at an exec, where one can succeed.
-fn push_execs(text: &mut String, span: Span) -> Result<(), AllocError>
-    ensures { OnOk result (string_bytes text.new ≡ string_bytes text.old ++ execs_told span) }
+fn push_execs(text: &mut String, time: Time) -> Result<(), AllocError>
+    ensures { OnOk result (string_bytes text.new ≡ string_bytes text.old ++ execs_told time) }
 {
-    match span {
-        Span::Now | Span::Ever(ExecBound::Never) => Ok(()),
-        Span::Ever(ExecBound::Bounded) => push_line(text, "exec ", "bounded"),
-        Span::Ever(ExecBound::Open) => push_line(text, "exec ", "open"),
+    match time {
+        Time::Now | Time::Ever(ExecBound::Never) => Ok(()),
+        Time::Ever(ExecBound::Bounded) => push_line(text, "exec ", "bounded"),
+        Time::Ever(ExecBound::Open) => push_line(text, "exec ", "open"),
     }
 }
 
@@ -161,14 +161,14 @@ fn push_opened(
     alloc: Global,
     text: &mut String,
     rules: Rules,
-    span: Span,
+    time: Time,
     process: &Process,
 ) -> Result<(), AllocError>
     ensures { OnOk result (string_bytes text.new
-        ≡ string_bytes text.old ++ openings_told rules span process.now) }
+        ≡ string_bytes text.old ++ openings_told rules time process.now) }
 {
     if rules.has_openings() {
-        push_openings(alloc, text, opening_promises(span, process))
+        push_openings(alloc, text, opening_promises(time, process))
     } else {
         Ok(())
     }
@@ -176,13 +176,13 @@ fn push_opened(
 
 /// The promises by which something is opened: those that were pledged; and at some time each one
 /// that can still be, also by what is started, where the list has what that can touch.
-fn opening_promises(span: Span, process: &Process) -> Promises
-    ensures { result ≡ opening_set span process.now }
+fn opening_promises(time: Time, process: &Process) -> Promises
+    ensures { result ≡ opening_set time process.now }
 {
-    match span {
-        Span::Now => process.promises().unwrap_or(Promises::NONE),
-        Span::Ever(ExecBound::Never | ExecBound::Open) => process.held(),
-        Span::Ever(ExecBound::Bounded) => {
+    match time {
+        Time::Now => process.promises().unwrap_or(Promises::NONE),
+        Time::Ever(ExecBound::Never | ExecBound::Open) => process.held(),
+        Time::Ever(ExecBound::Bounded) => {
             let given = process.execpromises().unwrap_or(Promises::NONE);
             process.held().union(given)
         }

@@ -7,7 +7,7 @@ ghost use Rattle.pua_texts.specs.VeilDates.{veil_dates};
 ghost use Rattle.pua_texts.specs.WhyLists.{AreColumnsOf, veil_behind, veils_behind};
 ghost use Rattle.pua_texts.specs.WhyLines.{Posed as Asking, world_left};
 
-use crate::columns::Columns;
+use crate::endings::Endings;
 use pua_calls::Perms;
 use pua_policy::{Place, Process};
 use pua_tree::{FileTree, OutOfMemory};
@@ -22,7 +22,7 @@ pub(crate) fn veil_columns<T: FileTree>(
     tree: &T,
     process: &Process,
     lines: &[Option<usize>],
-) -> Result<Columns, OutOfMemory>
+) -> Result<Endings, OutOfMemory>
     ensures { IfOk result (λ columns. (p : Asking) (number : ℕ) →
         T.content tree.now ≡ (world_left p).tree →
         lines.now ≡ veil_dates p number process.now.veils →
@@ -31,7 +31,7 @@ pub(crate) fn veil_columns<T: FileTree>(
     let veils = process.veils(alloc)?;
     let mut paths = TreePaths::new(alloc, tree)?;
     let texts = veil_texts(alloc, &mut paths, veils.as_slice(), lines)?;
-    Ok(Columns::of_veils(alloc, texts))
+    Ok(Endings::of_veils(alloc, texts))
 }
 
 /// The columns of these veils, in their order, which are so since these lines.

@@ -7,17 +7,13 @@ ghost use Rattle.pua_since.specs.Dates.{veil_date, veils_at};
 ghost use Rattle.pua_texts.specs.ListLines.{list_text, lists_text};
 ghost use Rattle.pua_texts.specs.VeilDates.{veil_dates};
 ghost use Rattle.pua_texts.specs.WhyLines.{Posed as Asking, why_list, why_lists_of, world_left};
-ghost use Rattle.pua_texts.specs.Tells.{TellsTo};
 
-use crate::fault::TextFault;
-use crate::lists::write_all;
 use crate::object_lines::why_lines;
 use crate::process_head::ProcessHead;
 use crate::process_list::ProcessList;
-use crate::state::{Heading, Span};
+use crate::state::{Heading, Time};
 use crate::veil_columns::veil_columns;
 use pua_calls::{CallTable, Rules};
-use pua_io::Sink;
 use pua_objects::list_items;
 use pua_policy::Process;
 use pua_script::World;
@@ -25,33 +21,10 @@ use pua_tree::{FileTree, OutOfMemory};
 use std::alloc::Global;
 use std::collections::VecDeque;
 
-/// Writes the front of a text, and then the lists of these processes with reasons, one after
-/// another, of which those are left out that were never made, where their veils are so since these
-/// lines; their states say whose rules the table of calls is by. `OutOfMemory` where a growth was
-/// refused, before anything is written. `Write` only where a put failed in this call, after a front
-/// of the text.
-pub fn write_why_lists<T: FileTree, S: Sink>(
-    alloc: Global,
-    world: &World<T>,
-    rules: Rules,
-    numbers: &[u32],
-    lines: &[Option<usize>],
-    front: &str,
-    sink: &mut S,
-) -> Result<(), TextFault>
-    ensures { (p : Asking) → world_of world.now ≡ world_left p →
-        world.now.table ≡ p.table → lines.now
-        ≡ map (veil_date p.table p.world p.asks) (flat_map (veils_at world.now) numbers.now) →
-        TellsTo S.written S.failed (front.now ++ why_lists_of rules p numbers.now)
-        result sink.old sink.new }
-{
-    let mut lists = begin_lists(alloc, world, rules, numbers, lines)?;
-    write_all(alloc, world.tree(), front, &mut lists, sink)
-}
-
-/// The list of each of these processes that was ever made, whose veils are so since these lines.
-/// The only error is that a growth was refused.
-fn begin_lists<'t, T: FileTree>(
+/// The lists of these processes with reasons, one after another, of which those are left out that
+/// were never made, where their veils are so since these lines; their states say whose rules the
+/// table of calls is by. The only error is that a growth was refused.
+pub fn begin_reasons<'t, T: FileTree>(
     alloc: Global,
     world: &'t World<T>,
     rules: Rules,
@@ -72,14 +45,12 @@ fn begin_lists<'t, T: FileTree>(
         process.known();
         let (own, more) = split_lines(alloc, process, left)?;
         let heading = Heading {
-            span: Span::Now,
+            time: Time::Now,
             rules,
             number: *number,
         };
         let list = begin_list(alloc, world.tree(), world.table(), heading, process, own)?;
-        let Ok(()) = lists.push_back(list) else {
-            return Err(OutOfMemory);
-        };
+        lists.push_back(list)?;
         left = more;
     }
     Ok(lists)

@@ -1,6 +1,5 @@
 -- Calls with their numbers of steps, one after another.
-use Rattle.pua_tool.proofs.Common.{◌≡◌, ℕ, List, [], ◌∷◌, ◌++◌, ◌∙◌, map, refl, sym, ap, Some, Result}
-use Rattle.pua_tool.proofs.Common.{ProcessState, Replayed}
+use Rattle.pua_tool.proofs.Common.{◌≡◌, ℕ, List, [], ◌∷◌, ◌++◌, ◌∙◌, map, refl, sym, subst, ap, Result, Ok, Err, Replayed}
 use Rattle.std.proofs.Common.{Bool, true, false, cond, ◌+◌, ◌<◌, ◌≤◌, take, get_or}
 use Rattle.std.specs.Prelude.{IfErr, IfOk, filter}
 use Rattle.std.specs.List.{AllByRecursion}
@@ -11,15 +10,10 @@ use Rattle.pua_calls.specs.CallSets.{calls_in, has}
 use Rattle.pua_calls.specs.declared.call.Call.{Call}
 use Rattle.pua_calls.specs.declared.call.Call.TheVariants.{Stat}
 use Rattle.pua_calls.specs.declared.rules.Rules.{Rules}
-use Rattle.pua_objects.specs.declared.kind.ObjectKind.{ObjectKind}
-use Rattle.pua_how.specs.Asked.{IsAskedBy}
-use Rattle.pua_how.specs.Asking.{Asking}
 use Rattle.pua_how.specs.Steps.{NoneComes}
 use Rattle.pua_how.specs.declared.target.Target.{Target}
 use Rattle.pua_how.specs.declared.way.NoWay.{NoWay}
-use Rattle.pua_tool.specs.EverHowTexts.{IsCount}
-use Rattle.pua_tool.specs.RowColumns.{AreStepsTo}
-use Rattle.pua_tool.proofs.RowColumns.{count_is}
+use Rattle.pua_tool.specs.RowColumns.{AreStepsTo, IsCountTo}
 
 abbrev pub Count : Type 0
 Count = Call × Result ℕ NoWay
@@ -64,17 +58,23 @@ module _ (set i : ℕ) (within : i < call_count) where
 pub all_counted : (set i : ℕ) → call_count ≤ i → (counts : List Count) → calls_of counts ≡ filter (has set) (take i calls) → calls_of counts ≡ calls_in set
 all_counted set i past counts is = is ∙ ap (filter (has set)) (take_all i calls past)
 
-pub one_counted : (P : Count → Type 0) (counts : List Count) (count : Count) → AllByRecursion P counts → P count →
+one_counted : (P : Count → Type 0) (counts : List Count) (count : Count) → AllByRecursion P counts → P count →
     AllByRecursion P (counts ++ count ∷ [])
 one_counted P [] count all is = (is, tt)
 one_counted P (other ∷ counts) count all is = (all.0, one_counted P counts count all.1 is)
 
 -- with the steps that were found to one call more, or plans that come to none
-module _ (rules : Rules) (done : Replayed) (process : ℕ) (h : ProcessState) (asking : Asking) (kind : ObjectKind) (things : List Target)
-    (asked : IsAskedBy done.world.tree h asking (Some kind) things) where
-  pub steps_counted : (counts : List Count) (call : Call) (found : Result ℕ NoWay) → AllByRecursion (IsCount rules done process h asking kind) counts →
-      IfOk found (AreStepsTo done process things call) → IfErr found (NoneComes rules done.table process call things done.world) →
-      AllByRecursion (IsCount rules done process h asking kind) (counts ++ (call, found) ∷ [])
-  steps_counted counts call found all steps none =
-      one_counted (IsCount rules done process h asking kind) counts (call, found) all
-      (count_is rules done process h asking kind things asked call found steps none)
+module _ (rules : Rules) (done : Replayed) (process : ℕ) (target : Target) where
+  found_to : (call : Call) (found : Result ℕ NoWay) → IfOk found (AreStepsTo done process (target ∷ []) call) →
+      IfErr found (NoneComes rules done.table process call (target ∷ []) done.world) → IsCountTo rules done process target (call, found)
+  found_to call (Ok steps) to none = to
+  found_to call (Err plans) to none = none
+
+  pub steps_counted : (counts : List Count) (call : Call) (found : Result ℕ NoWay) (things : List Target) → things ≡ target ∷ [] →
+      AllByRecursion (IsCountTo rules done process target) counts → IfOk found (AreStepsTo done process things call) →
+      IfErr found (NoneComes rules done.table process call things done.world) →
+      AllByRecursion (IsCountTo rules done process target) (counts ++ (call, found) ∷ [])
+  steps_counted counts call found things meant all steps none =
+      one_counted (IsCountTo rules done process target) counts (call, found) all
+      (found_to call found (subst (λ things. IfOk found (AreStepsTo done process things call)) meant steps)
+      (subst (λ things. IfErr found (NoneComes rules done.table process call things done.world)) meant none))

@@ -10,6 +10,8 @@ pub mod ListWritten
 pub mod Stops
 pub mod Pieces
 pub mod Ends
+pub mod Telling
+pub mod Advising
 pub mod WhyTexts
 pub mod Reasoned
 pub mod HowTexts
@@ -23,4 +25,8 @@ pub mod Several
 pub mod Never
 pub mod TightTexts
 pub mod Fewest
+pub mod ReadBack
 pub mod Headline
+pub mod Fronts
+pub mod FrontLines
+pub mod FrontRequests

@@ -1,42 +1,55 @@
 -- The columns of a list for ever, row by row.
-use Rattle.pua_tool.proofs.Common.{◌≡◌, ℕ, List, [], ◌∷◌, ◌++◌, ◌∙◌, map, refl, sym, subst, ap, ProcessState, Replayed, Option, Some, Result, Ok, Err}
-use Rattle.pua_tool.proofs.Common.{CallTable, Tree, as_replayed, with_end}
-use Rattle.std.proofs.Common.{Bool, true, false, cond, length, ◌+◌, ◌<◌, take, get_or}
-use Rattle.std.specs.Prelude.{IfErr, IfOk, filter, not, ◌&&◌}
+use Rattle.pua_tool.proofs.Common.{◌≡◌, ℕ, List, [], ◌∷◌, ◌++◌, ◌∙◌, arith, map, refl, sym, subst, ap, ProcessState, Replayed, Option, Some, None}
+use Rattle.pua_tool.proofs.Common.{CallTable, Tree, Result, Ok, Err, as_replayed, with_end}
+use Rattle.std.proofs.Common.{Bool, true, false, cond, length, ◌+◌, ◌<◌, take, get_or, zero, suc, inl, inr}
+use Rattle.std.specs.Prelude.{IfSome, filter, is_none, is_some, not, option_map, ◌&&◌}
 use Rattle.std.specs.List.{AllByRecursion, Contains}
 use Rattle.std.proofs.lemmas.List.{length-map, take_more}
 use Rattle.std.proofs.lemmas.List.Elements.{filter_agree}
+use Rattle.pua_tree.specs.Tree.{WellFormed, look}
+use Rattle.pua_tree.specs.declared.node.Kind.TheVariants as node
+use Rattle.pua_tree.proofs.ForCallers.{same_Some, None≢Some}
+use Rattle.pua_path.specs.declared.found.Found.TheVariants.{Slot}
 use Rattle.pua_calls.specs.Calls.{calls}
 use Rattle.pua_calls.specs.CallSets.{calls_in, has}
 use Rattle.pua_calls.specs.declared.call.Call.{Call}
 use Rattle.pua_calls.specs.declared.rules.Rules.{Rules}
 use Rattle.pua_policy.specs.Verdict.{Object, IsDir, Is, IsMissing, object_of}
-use Rattle.pua_tree.specs.declared.node.Kind.TheVariants as node
+use Rattle.pua_policy.specs.declared.answer.Cover.{Cover}
+use Rattle.pua_policy.specs.declared.object.Object as seen
 use Rattle.pua_audit.specs.Reach.{Word}
+use Rattle.pua_objects.specs.Items.{subject_given}
 use Rattle.pua_objects.specs.Lines.{kind_word}
-use Rattle.pua_objects.specs.Objects.{At, Others, object_word}
+use Rattle.pua_objects.specs.Objects.{At, Others, Subject, object_word}
+use Rattle.pua_objects.specs.declared.item.Subject as item
+use Rattle.pua_objects.specs.declared.item.Subject.TheVariants as subject
 use Rattle.pua_objects.specs.declared.kind.ObjectKind.{ObjectKind}
 use Rattle.pua_objects.specs.declared.kind.ObjectKind.TheVariants as kind
+use Rattle.pua_objects.proofs.ForCallers.{Among, contained}
 use Rattle.pua_ever.specs.Ever.{EverLine, Thing, Stands, Comes, NewDir, NewOthers, NewFile, NewLink, has_ever_calls}
-use Rattle.pua_ever.specs.EverLines.{IsThing, line_with}
-use Rattle.pua_ever.specs.EverList.{AreEverTold, last_row_word, word_of_row}
+use Rattle.pua_ever.specs.EverLines.{IsThing, line_with, new_of}
+use Rattle.pua_ever.specs.EverList.{AreEverTold, IsAboutOn, IsStandingOn, thing_by, word_of_row}
+use Rattle.pua_ever.specs.Through.{ever_lasting}
 use Rattle.pua_ever.specs.declared.line.EverLine as given
 use Rattle.pua_ever.specs.declared.line.EverThing.{EverThing}
 use Rattle.pua_ever.specs.declared.line.EverThing.TheVariants as told
+use Rattle.pua_ever.specs.declared.list.EverAbout.TheVariants as ever_about
 use Rattle.pua_ever.specs.declared.list.EverRow.{EverRow}
-use Rattle.pua_how.specs.Asked.{IsAskedBy}
-use Rattle.pua_how.specs.Asking.{Asking, targets_of}
+use Rattle.pua_ever.specs.declared.made.Made.{Made}
+use Rattle.pua_how.specs.Asking.{Asking, asking_by, targets_of, thing_word}
 use Rattle.pua_how.specs.Served.{AreWay, asks_of}
 use Rattle.pua_how.specs.Steps.{NoneComes, nothing_laid}
-use Rattle.pua_how.proofs.ForCallers.{nothing_comes}
+use Rattle.pua_how.specs.Targets.{IsLast, target_about}
+use Rattle.pua_how.proofs.ForCallers.{IsPlaced, lasting_placed, meant, nothing_comes}
 use Rattle.pua_how.specs.declared.line.WayLine.{WayLine}
 use Rattle.pua_how.specs.declared.target.Target.{Target}
 use Rattle.pua_how.specs.declared.way.NoWay.{NoWay}
 use Rattle.pua_texts.specs.EverHowLines.{AreToldWith, has_calls_with}
 use Rattle.pua_texts.specs.EverLines.{kind_of}
 use Rattle.pua_tool.specs.declared.script.Replay.{Replay}
-use Rattle.pua_tool.specs.RowColumns.{AreColumns, AreStepsTo, IsColumnAt}
-use Rattle.pua_tool.specs.EverHowTexts.{IsColumn, IsCount, asking_by, counts_text, is_now, lacking, subject_now, thing_word}
+use Rattle.pua_tool.specs.RowColumns.{AreColumns, AreStepsTo, IsColumnAt, IsColumnOf, IsCountTo, is_now_on, is_there}
+use Rattle.pua_tool.specs.EverHowTexts.{IsColumn, IsCount, counts_text, is_now, lacking}
+use Rattle.pua_tool.proofs.NowThere.{now_meant}
 
 -- ---- steps
 
@@ -51,24 +64,10 @@ steps_of rules replay process things call thing lines meant way = record {
   long = length-map lines (λ line. line.request);
 }
 
--- so they are to what a path and a kind mean
-module _ (rules : Rules) (done : Replayed) (process : ℕ) (h : ProcessState) (asking : Asking) (kind : ObjectKind) (things : List Target)
-    (asked : IsAskedBy done.world.tree h asking (Some kind) things) where
-  pub count_is : (call : Call) (found : Result ℕ NoWay) → IfOk found (AreStepsTo done process things call) →
-      IfErr found (NoneComes rules done.table process call things done.world) → IsCount rules done process h asking kind (call, found)
-  count_is call (Err plans) to none = record {
-    last = asked.last;
-    none = subst (λ all. NoneComes rules done.table process call all done.world plans) asked.are none;
-  }
-  count_is call (Ok steps) to none = record {
-    last = asked.last;
-    above = asked.above;
-    thing = to.thing;
-    meant = subst (λ all. Contains all to.thing) asked.are to.meant;
-    asks = to.asks;
-    way = to.way;
-    long = to.long;
-  }
+-- what is among one thing alone
+alone : {A : Type 0} (x y : A) → Contains (x ∷ []) y → x ≡ y
+alone x y (zero, low, is) = is
+alone x y (suc k, low, is) = absurd (omega (arith, low))
 
 -- ---- the calls of a column
 
@@ -83,14 +82,14 @@ both_pass p q (c ∷ cs) = by (p c) (both_pass p q cs)
     by true rest = ap (λ more. cond (q c) (c ∷ more) more) rest
 
 -- what is left of a line's calls without those of now are the calls that the list of now lacks
-pub lacking_is : (t : Tree) (table : CallTable) (h : ProcessState) (word : Word) (about : Thing) (line : given.EverLine) (left now : ℕ) →
+left_are : (t : Tree) (table : CallTable) (h : ProcessState) (about : Thing) (line : given.EverLine) (left now : ℕ) →
     ((call : Call) → has left call ≡ (has line.calls call && not (has now call))) →
-    ((call : Call) → has now call ≡ is_now t table h (subject_now t (kind_of line.thing) word about) call) →
-    calls_in left ≡ lacking t table h (kind_of line.thing) (line_with word about line)
-lacking_is t table h word about line left now without is =
-    filter_agree (has left) (λ call. has line.calls call && not (is_now t table h (subject_now t (kind_of line.thing) word about) call))
+    ((call : Call) → has now call ≡ is_now_on t table h about call) →
+    calls_in left ≡ filter (λ call. not (is_now_on t table h about call)) (calls_in line.calls)
+left_are t table h about line left now without is =
+    filter_agree (has left) (λ call. has line.calls call && not (is_now_on t table h about call))
     (λ call. without call ∙ ap (λ b. has line.calls call && not b) (is call)) calls
-    ∙ sym (both_pass (has line.calls) (λ call. not (is_now t table h (subject_now t (kind_of line.thing) word about) call)) calls)
+    ∙ sym (both_pass (has line.calls) (λ call. not (is_now_on t table h about call)) calls)
 
 -- the kind that a line of the code tells is its thing's
 pub kind_told : (t : Tree) (about : Thing) (thing : EverThing) → IsThing t about thing → kind_word (kind_of thing) ≡ thing_word t about
@@ -99,65 +98,87 @@ kind_told t (Comes new) (told.Comes kind) is = is
 kind_told t (Stands subject) (told.Comes kind) is = absurd is
 kind_told t (Comes new) (told.Stands kind) is = absurd is
 
--- the column of one line
-module _ (rules : Rules) (done : Replayed) (process : ℕ) (h : ProcessState) (word : Word) (about : Thing) (line : given.EverLine)
-    (thing : IsThing done.world.tree about line.thing) where
-  abbrev pub NowBy : Tree → CallTable → ℕ → Type 0
-  NowBy t table now = (call : Call) → has now call ≡ is_now t table h (subject_now t (kind_of line.thing) word about) call
-
-  pub now_behind : (t : Tree) (table : CallTable) (now : ℕ) → t ≡ done.world.tree → table ≡ done.table →
-      (IsThing t about line.thing → NowBy t table now) → NowBy done.world.tree done.table now
-  now_behind t table now at ruled is =
-      subst (λ (other : CallTable). NowBy done.world.tree other now) ruled
-      (subst (λ (other : Tree). IsThing other about line.thing → NowBy other table now) at is thing)
-
-  pub column_is : (left now : ℕ) (counts : List (Call × Result ℕ NoWay)) (text : List ℕ) →
-      ((call : Call) → has left call ≡ (has line.calls call && not (has now call))) → NowBy done.world.tree done.table now →
-      map (λ count. count.0) counts ≡ calls_in left →
-      AllByRecursion (IsCount rules done process h (asking_by word about) (kind_of line.thing)) counts →
-      text ≡ with_end (counts_text 32 counts) → IsColumn rules done process h (line_with word about line) text
-  column_is left now counts text without is calls counted told = record {
-    kind = kind_of line.thing;
-    told = kind_told done.world.tree about line.thing thing;
+-- the column of one row
+module _ (rules : Rules) (done : Replayed) (process : ℕ) (h : ProcessState) (row : EverRow) (about : Thing) where
+  pub column_is : (last left now : ℕ) (counts : List (Call × Result ℕ NoWay)) (text : List ℕ) → IsLast done.world.tree last →
+      IsThing done.world.tree about row.line.thing → ((call : Call) → has left call ≡ (has row.line.calls call && not (has now call))) →
+      ((call : Call) → has now call ≡ is_now_on done.world.tree done.table h about call) →
+      map (λ count. count.0) counts ≡ calls_in left → AllByRecursion (IsCountTo rules done process (target_about last about)) counts →
+      text ≡ with_end (counts_text 32 counts) → (word : Word) → IsColumnOf rules done process h (line_with word about row.line) text
+  column_is last left now counts text above thing without is calls counted told word = record {
+    kind = kind_of row.line.thing;
+    told = kind_told done.world.tree about row.line.thing thing;
+    last = last;
+    above = above;
     counts = counts;
-    calls = calls ∙ lacking_is done.world.tree done.table h word about line left now without is;
+    calls = calls ∙ left_are done.world.tree done.table h about row.line left now without is;
     counted = counted;
     is = told;
   }
 
+-- what an item is about is there now
+pub item_there : (t : Tree) (s : item.Subject) → is_there t (subject_given t s) ≡ true
+item_there t subject.Root = refl
+item_there t (subject.Dir id dir name) = refl
+item_there t (subject.Others dir) = refl
+item_there t (subject.Name dir name) = by (look t dir name.now) refl
+  where
+    by : (o : Option ℕ) → look t dir name.now ≡ o → is_there t (At (Slot dir name.now o)) ≡ true
+    by None none = ap is_none none
+    by (Some node) some = refl
+
+module _ (t : Tree) (h : ProcessState) where
+  -- what holds of what stands there holds of what a row is about
+  pub by_standing : (about : Thing) (object : seen.Object) (cover : Cover) (P : Thing → Type 0) (o : Option Subject) →
+      ((subject : Subject) → o ≡ Some subject → IsStandingOn t h object cover subject → P (Stands subject)) →
+      IfSome o (IsStandingOn t h object cover) → option_map Stands o ≡ Some about → P about
+  by_standing about object cover P None each on is = absurd (None≢Some about is)
+  by_standing about object cover P (Some subject) each on is = subst P (same_Some (Stands subject) about is) (each subject refl on)
+
+module _ (t : Tree) (table : CallTable) (h : ProcessState) where
+  taken : (o : Option ℕ) → is_some o ≡ true → is_none o ≡ false
+  taken None is = cc
+  taken (Some node) is = refl
+
+  -- the list of now has no call on a name at which something stands, nor on what is still to be made
+  pub now_freed : (dir : ℕ) (name : Option (List ℕ)) (about : Thing) → IsAboutOn t h name (ever_about.Freed dir) →
+      thing_by t name (ever_about.Freed dir) ≡ Some about → (call : Call) → false ≡ is_now_on t table h about call
+  now_freed dir None about on is call = absurd (None≢Some about is)
+  now_freed dir (Some name) about on is call =
+      let there : Subject = At (Slot dir name None) in
+      subst (λ (a : Thing). false ≡ is_now_on t table h a call) (same_Some (Stands there) about is)
+      (sym (ap (λ b. b && is_now t table h (Some there) call) (taken (look t dir name) on)))
+
+  pub now_made : (made : Made) (name : Option (List ℕ)) (about : Thing) → thing_by t name (ever_about.Comes made) ≡ Some about → (call : Call) →
+      false ≡ is_now_on t table h about call
+  now_made made name about is call = subst (λ (a : Thing). false ≡ is_now_on t table h a call) (same_Some (Comes (new_of made)) about is) refl
+
 -- ---- rows, one after another
 
 module _ (rules : Rules) (done : Replayed) (process : ℕ) (h : ProcessState) where
-  columns_more : (before : Word) (rows : List EverRow) (texts : List (List ℕ)) (row : EverRow) (text : List ℕ) →
-      AreColumns rules done process h before rows texts → IsColumnAt rules done process h (word_of_row (last_row_word before rows) row) row.line text →
-      AreColumns rules done process h before (rows ++ row ∷ []) (texts ++ text ∷ [])
-  columns_more before [] [] row text are column = (column, tt)
-  columns_more before [] (other ∷ texts) row text are column = absurd are
-  columns_more before (r ∷ rows) [] row text are column = absurd are
-  columns_more before (r ∷ rows) (other ∷ texts) row text are column =
-      (are.0, columns_more (word_of_row before r) rows texts row text are.1 column)
+  columns_more : (rows : List EverRow) (texts : List (List ℕ)) (row : EverRow) (text : List ℕ) → AreColumns rules done process h rows texts →
+      IsColumnAt rules done process h row text → AreColumns rules done process h (rows ++ row ∷ []) (texts ++ text ∷ [])
+  columns_more [] [] row text are column = (column, tt)
+  columns_more [] (other ∷ texts) row text are column = absurd are
+  columns_more (r ∷ rows) [] row text are column = absurd are
+  columns_more (r ∷ rows) (other ∷ texts) row text are column = (are.0, columns_more rows texts row text are.1 column)
 
   -- with the column of one row more
-  pub row_column : (rows : List EverRow) (row : EverRow) (i : ℕ) → i < length rows → row ≡ get_or rows i row → (word : Word) →
-      word ≡ word_of_row (last_row_word [] (take i rows)) row → (texts : List (List ℕ)) (text : List ℕ) →
-      AreColumns rules done process h [] (take i rows) texts → IsColumnAt rules done process h word row.line text →
-      AreColumns rules done process h [] (take (i + 1) rows) (texts ++ text ∷ [])
-  row_column rows row i within is word here texts text are column =
-      subst (λ front. AreColumns rules done process h [] front (texts ++ text ∷ []))
+  pub row_column : (rows : List EverRow) (row : EverRow) (i : ℕ) → i < length rows → row ≡ get_or rows i row → (texts : List (List ℕ))
+      (text : List ℕ) → AreColumns rules done process h (take i rows) texts → IsColumnAt rules done process h row text →
+      AreColumns rules done process h (take (i + 1) rows) (texts ++ text ∷ [])
+  row_column rows row i within is texts text are column =
+      subst (λ front. AreColumns rules done process h front (texts ++ text ∷ []))
       (sym (take_more rows i row within ∙ ap (λ r. take i rows ++ r ∷ []) (sym is)))
-      (columns_more [] (take i rows) texts row text are (subst (λ w. IsColumnAt rules done process h w row.line text) here column))
+      (columns_more (take i rows) texts row text are column)
 
-last_more : (before : Word) (rows : List EverRow) (row : EverRow) →
-    last_row_word before (rows ++ row ∷ []) ≡ word_of_row (last_row_word before rows) row
-last_more before [] row = refl
-last_more before (r ∷ rows) row = last_more (word_of_row before r) rows row
-
--- the names that lead to one row more
-pub row_names : (rows : List EverRow) (row : EverRow) (i : ℕ) → i < length rows → row ≡ get_or rows i row → (before after : Word) →
-    before ≡ last_row_word [] (take i rows) → after ≡ word_of_row before row → after ≡ last_row_word [] (take (i + 1) rows)
-row_names rows row i within is before after at next =
-    next ∙ ap (λ word. word_of_row word row) at ∙ sym (last_more [] (take i rows) row)
-    ∙ ap (last_row_word []) (sym (take_more rows i row within ∙ ap (λ r. take i rows ++ r ∷ []) (sym is)))
+pub row_on : {A : Type 0} (P : A → Type 0) (xs : List A) (i : ℕ) (x : A) → AllByRecursion P xs → i < length xs → x ≡ get_or xs i x → P x
+row_on P xs i x all within is = subst P (sym is) (at xs i all within)
+  where
+    at : (xs : List _) (i : ℕ) → AllByRecursion P xs → i < length xs → P (get_or xs i x)
+    at [] i all within = absurd (omega (arith, within))
+    at (y ∷ ys) zero all within = all.0
+    at (y ∷ ys) (suc i) all within = at ys i all.1 (omega (arith, within))
 
 -- ---- lines with their columns
 
@@ -167,7 +188,7 @@ pub record AreLinesWith (rules : Rules) (done : Replayed) (process : ℕ) (h : P
   pub told : List (EverLine × List ℕ)
   pub are : AreToldWith done.world.tree before rows texts told
   pub lines_are : map (λ line. line.0) told ≡ lines
-  pub columns : AllByRecursion (λ (line : EverLine × List ℕ). IsColumn rules done process h line.0 line.1) told
+  pub columns : AllByRecursion (λ (line : EverLine × List ℕ). IsColumnOf rules done process h line.0 line.1) told
 
 module _ (rules : Rules) (done : Replayed) (process : ℕ) (h : ProcessState) where
   first_lines : (b : Bool) (line : EverLine × List ℕ) (rest : List (EverLine × List ℕ)) →
@@ -176,15 +197,15 @@ module _ (rules : Rules) (done : Replayed) (process : ℕ) (h : ProcessState) wh
   first_lines false line rest = refl
 
   abbrev Columned : List (EverLine × List ℕ) → Type 0
-  Columned lines = AllByRecursion (λ (line : EverLine × List ℕ). IsColumn rules done process h line.0 line.1) lines
+  Columned lines = AllByRecursion (λ (line : EverLine × List ℕ). IsColumnOf rules done process h line.0 line.1) lines
 
-  first_columned : (b : Bool) (line : EverLine × List ℕ) (rest : List (EverLine × List ℕ)) → IsColumn rules done process h line.0 line.1 →
+  first_columned : (b : Bool) (line : EverLine × List ℕ) (rest : List (EverLine × List ℕ)) → IsColumnOf rules done process h line.0 line.1 →
       Columned rest → Columned (cond b (line ∷ []) [] ++ rest)
   first_columned true line rest column columns = (column, columns)
   first_columned false line rest column columns = columns
 
   pub lines_told : (before : Word) (rows : List EverRow) (texts : List (List ℕ)) (lines : List EverLine) →
-      AreEverTold done.world.tree before rows lines [] → AreColumns rules done process h before rows texts →
+      AreEverTold done.world.tree before rows lines [] → AreColumns rules done process h rows texts →
       AreLinesWith rules done process h before rows texts lines
   lines_told before [] [] lines ever are = record { told = []; are = refl; lines_are = sym ever; columns = tt }
   lines_told before [] (text ∷ texts) lines ever are = absurd are
@@ -201,8 +222,67 @@ module _ (rules : Rules) (done : Replayed) (process : ℕ) (h : ProcessState) wh
             first_lines (has_calls_with line) line rest.told
             ∙ ap (λ more. filter has_ever_calls (line_with word about row.line ∷ []) ++ more) rest.lines_are
             ∙ sym ever.3;
-        columns = first_columned (has_calls_with line) line rest.told (are.0 about ever.2) rest.columns;
+        columns = first_columned (has_calls_with line) line rest.told (are.0 about ever.2 ever.5 word) rest.columns;
       }
+
+-- ---- columns by path and kind
+
+module _ (rules : Rules) (done : Replayed) (process : ℕ) (h : ProcessState) where
+  -- steps to a thing are steps to what a path and a kind mean, where that is the thing alone
+  module _ (asking : Asking) (kind : ObjectKind) (last : ℕ) (own : Target) (above : IsLast done.world.tree last)
+      (mean : targets_of done.world.tree h last asking (Some kind) ≡ own ∷ []) where
+    count_of : (call : Call) (found : Result ℕ NoWay) → IsCountTo rules done process own (call, found) →
+        IsCount rules done process h asking kind (call, found)
+    count_of call (Err plans) none = record {
+      last = last;
+      none = subst (λ (things : List Target). NoneComes rules done.table process call things done.world plans) (sym mean) none;
+    }
+    count_of call (Ok steps) to = record {
+      last = last;
+      above = above;
+      thing = to.thing;
+      meant = subst (λ (things : List Target). Contains things to.thing) (sym mean) to.meant;
+      asks = to.asks;
+      way = to.way;
+      long = to.long;
+    }
+
+    counts_of : (counts : List (Call × Result ℕ NoWay)) → AllByRecursion (IsCountTo rules done process own) counts →
+        AllByRecursion (IsCount rules done process h asking kind) counts
+    counts_of [] all = tt
+    counts_of (count ∷ counts) all = (count_of count.0 count.1 all.0, counts_of counts all.1)
+
+  -- the column of a line by what it is about is one by its path and its kind
+  column_meant : (line : EverLine) (text : List ℕ) → IsPlaced done.world.tree h line.word line.thing →
+      IsColumnOf rules done process h line text → IsColumn rules done process h line text
+  column_meant line text placed column = record {
+    kind = column.kind;
+    told = column.told;
+    counts = column.counts;
+    calls =
+        column.calls
+        ∙ (λ i. filter (λ call. not (now_meant done.world.tree h done.table line.word line.thing placed column.kind column.told call i)) line.calls);
+    counted =
+        counts_of (asking_by line.word line.thing) column.kind column.last (target_about column.last line.thing) column.above
+        (meant done.world.tree h line.word line.thing placed column.kind column.told column.last) column.counts column.counted;
+    is = column.is;
+  }
+
+  columns_meant : (told : List (EverLine × List ℕ)) →
+      ((line : EverLine) → Among (map (λ line. line.0) told) line → IsPlaced done.world.tree h line.word line.thing) →
+      AllByRecursion (λ (line : EverLine × List ℕ). IsColumnOf rules done process h line.0 line.1) told →
+      AllByRecursion (λ (line : EverLine × List ℕ). IsColumn rules done process h line.0 line.1) told
+  columns_meant [] placed columns = tt
+  columns_meant (line ∷ told) placed columns =
+      (column_meant line.0 line.1 (placed line.0 (inl refl)) columns.0, columns_meant told (λ other a. placed other (inr a)) columns.1)
+
+  pub columns_told : WellFormed done.world.tree → (told : List (EverLine × List ℕ)) →
+      map (λ line. line.0) told ≡ ever_lasting done.world.tree done.table h →
+      AllByRecursion (λ (line : EverLine × List ℕ). IsColumnOf rules done process h line.0 line.1) told →
+      AllByRecursion (λ (line : EverLine × List ℕ). IsColumn rules done process h line.0 line.1) told
+  columns_told well told are columns =
+      columns_meant told (λ line a. lasting_placed done.world.tree done.table h well line
+      (contained (ever_lasting done.world.tree done.table h) line (subst (λ (lines : List EverLine). Among lines line) are a))) columns
 
 -- ---- some columns, where none need be found
 

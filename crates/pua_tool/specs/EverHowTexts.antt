@@ -17,14 +17,14 @@ use Rattle.pua_script.specs.Requests.{Asked}
 use Rattle.pua_script.specs.Replay.{kept_at}
 use Rattle.pua_audit.specs.Reach.{Word}
 use Rattle.pua_objects.specs.Lines.{kind_word}
-use Rattle.pua_objects.specs.Objects.{Subject, At, Others, is_named_by, subject_verdict, subject_word}
+use Rattle.pua_objects.specs.Objects.{Subject, At, Others, is_named_by, subject_verdict}
 use Rattle.pua_objects.specs.declared.kind.ObjectKind.{ObjectKind}
 use Rattle.pua_objects.specs.declared.kind.ObjectKind.TheVariants as kind
 use Rattle.pua_tree.specs.declared.node.Kind.TheVariants.{Dir}
-use Rattle.pua_ever.specs.Ever.{EverLine, Thing, Stands, Comes, new_word}
+use Rattle.pua_ever.specs.Ever.{EverLine, Thing, Stands, Comes}
 use Rattle.pua_ever.specs.Refusals.{refusal}
 use Rattle.pua_ever.specs.Through.{ever_lasting}
-use Rattle.pua_how.specs.Asking.{Asking, Standing, Making, directory_at_name, targets_of}
+use Rattle.pua_how.specs.Asking.{Asking, asking_by, directory_at_name, targets_of, thing_word}
 use Rattle.pua_how.specs.Steps.{NoneComes}
 use Rattle.pua_how.specs.Targets.{IsLast}
 use Rattle.pua_how.specs.Ways.{IsWay}
@@ -85,15 +85,6 @@ is_now t table h (Some subject) call = is_named_by t call subject && is_allowed 
 -- the calls of a line that the list of now lacks
 abbrev pub lacking : Tree → CallTable → ProcessState → ObjectKind → EverLine → List Call
 lacking t table h kind line = filter (λ call. not (is_now t table h (subject_now t kind line.word line.thing) call)) line.calls
-
--- the path of a line, as a way is asked for by it
-abbrev pub asking_by : Word → Thing → Asking
-asking_by word (Stands subject) = Standing word
-asking_by word (Comes new) = Making
-
-abbrev pub thing_word : Tree → Thing → List ℕ
-thing_word t (Stands subject) = subject_word t subject
-thing_word t (Comes new) = new_word new
 
 -- so many requests are a way to a call on what is meant by a path and a kind
 pub record IsWayOf (done : Replayed) (process : ℕ) (h : ProcessState) (asking : Asking) (kind : ObjectKind) (call : Call) (steps : ℕ) : Type 0

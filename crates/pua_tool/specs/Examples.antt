@@ -25,9 +25,10 @@ use Rattle.pua_tool.specs.WhyTexts.{objects_why_text, posed_script, run_why_text
 use Rattle.pua_tool.specs.TightTexts.{tight_text, tight_why_text, words_by}
 use Rattle.pua_texts.specs.Lines.{with_end}
 use Rattle.pua_tool.specs.FaultTexts.{fault_line}
+use Rattle.pua_tool.specs.Fronts.{script_at}
 use Rattle.pua_tool.specs.declared.fault.ToolFault.{ToolFault}
 use Rattle.pua_tool.specs.declared.fault.ToolFault.TheVariants.{Listing, Script, NoProcess, Audit, CanUnveil, OtherVeils, HowCall, HowPath, HowThing}
-use Rattle.pua_tool.specs.declared.fault.ToolFault.TheVariants.{HowLink, Table}
+use Rattle.pua_tool.specs.declared.fault.ToolFault.TheVariants.{HowLink, NoLine, Table}
 
 abbrev pub root_listing : List ℕ
 root_listing = text_of_lines (codes "tree 1" ∷ codes "0 dir" ∷ [])
@@ -241,10 +242,25 @@ pub record FaultTextRows : Type 0 where
   pub script : fault_line (Script (BadCall 1)) ≡ with_end (codes "pua: script: line 1: bad call")
   pub candidate : fault_line (Audit (BadCandidate 2)) ≡ with_end (codes "pua: audit: bad candidate 2")
   pub table : fault_line (Table (BadVeil OpenRead)) ≡ with_end (codes "pua: table: open-r: bad veil")
+  pub line : fault_line (NoLine 14) ≡ with_end (codes "pua: script: line 14: no such line")
 
 pub fault_text_rows : FaultTextRows
 unfolding digits
-fault_text_rows = record { listing = refl; script = refl; candidate = refl; table = refl }
+fault_text_rows = record { listing = refl; script = refl; candidate = refl; table = refl; line = refl }
+
+-- what is served of a script, and what of one whose last line has no end
+pub record FrontRows : Type 0 where
+  pub none : script_at (Some 0) forking ≡ Ok []
+  pub first : script_at (Some 1) forking ≡ Ok (text_of_lines (codes "1 fork 2" ∷ []))
+  pub both : script_at (Some 2) forking ≡ Ok forking
+  pub third : script_at (Some 3) forking ≡ Err (NoLine 3)
+  pub whole : script_at None forking ≡ Ok forking
+  pub without_end : script_at (Some 1) (codes "1 exit") ≡ Ok (codes "1 exit")
+  pub behind_it : script_at (Some 2) (codes "1 exit") ≡ Err (NoLine 2)
+  pub of_nothing : script_at (Some 1) [] ≡ Err (NoLine 1)
+
+pub front_rows : FrontRows
+front_rows = record { none = refl; first = refl; both = refl; third = refl; whole = refl; without_end = refl; behind_it = refl; of_nothing = refl }
 
 -- texts with reasons
 pub record ReasonTextRows : Type 0 where

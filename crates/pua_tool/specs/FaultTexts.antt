@@ -10,7 +10,7 @@ use Rattle.pua_texts.specs.Lines.{with_end}
 use Rattle.pua_tool.specs.declared.fault.ToolFault.{ToolFault}
 use Rattle.pua_tool.specs.declared.fault.ToolFault.TheVariants.{Listing, Script, Request, NoProcess, Audit, Write, OutOfMemory, Table, CanUnveil}
 use Rattle.pua_tool.specs.declared.fault.ToolFault.TheVariants.{LacksC, RenameLacksC, LinkLacksC, OtherVeils, EverWhy, NowHow, SeveralHow}
-use Rattle.pua_tool.specs.declared.fault.ToolFault.TheVariants.{HowCall, HowPath, HowThing, HowLink}
+use Rattle.pua_tool.specs.declared.fault.ToolFault.TheVariants.{NoLine, HowCall, HowPath, HowThing, HowLink, TooManyNames}
 
 -- the line of an input that is to blame, if one is, and what is wrong
 abbrev pub blame_line : Option ℕ → List ℕ → List ℕ
@@ -42,9 +42,11 @@ fault_line RenameLacksC = with_end (codes "pua: table: rename: no c")
 fault_line LinkLacksC = with_end (codes "pua: table: link: no c")
 fault_line (OtherVeils first other) =
     codes "pua: processes " ++ decimal first ++ codes " and " ++ decimal other ++ with_end (codes " have other veils")
+fault_line TooManyNames = with_end (codes "pua: tree: too many names")
 fault_line EverWhy = with_end (codes "pua: objects: no list for ever with --why")
 fault_line NowHow = with_end (codes "pua: objects: no list of now with --how")
 fault_line SeveralHow = with_end (codes "pua: objects: no list of several with --how")
+fault_line (NoLine line) = codes "pua: script: " ++ blame_line (Some line) (codes "no such line")
 fault_line HowCall = with_end (codes "pua: how: bad call")
 fault_line HowPath = with_end (codes "pua: how: bad path")
 fault_line HowThing = with_end (codes "pua: how: no such thing")

@@ -8,11 +8,14 @@ pub mod HowTexts
 pub mod EverHowTexts
 pub mod ListTexts
 pub mod TightTexts
+pub mod TreeTexts
 pub mod Answers
 pub mod Statuses
+pub mod Fronts
 pub mod FaultTexts
 pub mod Told
 pub mod Performed
+pub mod Advised
 -- What is proved of these.
 pub mod Futures
 pub mod Alike
@@ -22,12 +25,16 @@ pub mod Several
 pub mod Never
 pub mod Reasoned
 pub mod Fewest
+pub mod ReadBack
 pub mod Headline
+pub mod FrontLaws
 -- Worked rows, which hold by computation.
 pub mod Examples
 pub mod EverHowExamples
--- Notes: what the code has begun, and the pieces of its lines.
+pub mod TreeExamples
+-- Notes: what the code has begun, the pieces of its lines, and how a fault's telling ends.
 pub mod Begun
+pub mod Ended
 pub mod Pieces
 pub mod PosedScripts
 pub mod Questions

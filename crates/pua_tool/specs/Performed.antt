@@ -7,7 +7,7 @@ use Rattle.pua_words.specs.Usages.{AsksAbout}
 use Rattle.pua_words.specs.Plain.{IsMeantBy}
 use Rattle.pua_words.specs.declared.command.Command.{Command}
 use Rattle.pua_words.specs.declared.command.Text.{Text}
-use Rattle.pua_words.specs.declared.command.Text.TheVariants.{Run, RunWhy, Why, Audit, How, Tight, TightWhy}
+use Rattle.pua_words.specs.declared.command.Text.TheVariants.{Run, RunWhy, Why, Audit, How, Tree, Tight, TightWhy}
 use Rattle.pua_words.specs.declared.command.Text.TheVariants as text
 use Rattle.pua_tool.specs.declared.fault.ToolFault.{ToolFault}
 use Rattle.pua_tool.specs.declared.fault.ToolFault.TheVariants.{Write, OutOfMemory}
@@ -18,10 +18,12 @@ use Rattle.pua_io.specs.Held.{Asked, AsksFor, AsksForFront, Held, Holds, HoldsNo
 use Rattle.pua_io.specs.Sinks.{Adds, AddsFront, HasFailed}
 use Rattle.pua_tool.specs.Statuses.{status_of}
 use Rattle.pua_tool.specs.Texts.{Chosen, given_bytes, run_text, audit_text, wanted_by}
+use Rattle.pua_tool.specs.Fronts.{script_at}
 use Rattle.pua_tool.specs.HowTexts.{IsHowText, way_wanted}
 use Rattle.pua_tool.specs.ListTexts.{IsListText}
 use Rattle.pua_tool.specs.WhyTexts.{run_why_text, why_text}
 use Rattle.pua_tool.specs.TightTexts.{tight_text, tight_why_text}
+use Rattle.pua_tool.specs.TreeTexts.{tree_text}
 
 -- this is the text that is asked for, of a table, a listing and a script, or what refuses it; of a way, and of
 -- the list with the steps of ways, it is one of several, as which way is found is in no contract
@@ -33,8 +35,17 @@ IsTextAsked (Why words) choice tree script answer =
 IsTextAsked (Audit words) choice tree script answer = audit_text choice tree script (wanted_by words) ≡ answer
 IsTextAsked (text.List words) choice tree script answer = IsListText choice tree script words answer
 IsTextAsked (How words) choice tree script answer = IsHowText choice tree script (way_wanted words) answer
+IsTextAsked Tree choice tree script answer = tree_text choice tree script ≡ answer
 IsTextAsked Tight choice tree script answer = tight_text choice tree script ≡ answer
 IsTextAsked TightWhy choice tree script answer = tight_why_text choice tree script ≡ answer
+
+-- the same of the part of the script that is served, or there is no such part
+abbrev pub IsTextOf : Result (List ℕ) ToolFault → Text → Chosen → List ℕ → Result (List ℕ) ToolFault → Type 0
+IsTextOf (Ok served) text choice tree answer = IsTextAsked text choice tree served answer
+IsTextOf (Err fault) text choice tree answer = Err fault ≡ answer
+
+abbrev pub IsTextAt : Option ℕ → Text → Chosen → List ℕ → List ℕ → Result (List ℕ) ToolFault → Type 0
+IsTextAt at text choice tree script answer = IsTextOf (script_at at script) text choice tree answer
 
 -- the table's bytes are held under its name, or no table is named and there are none
 abbrev pub HoldsTable : Held → Option (Bor (List ℕ)) → Option (List ℕ) → Type 0
@@ -59,7 +70,7 @@ pub record Asks (held : Held) (command : Command) (answer : Result (List ℕ) To
   pub table_held : HoldsTable held command.table table
   pub tree_held : Holds held command.tree.now tree
   pub script_held : Holds held command.script.now script
-  pub answers : IsTextAsked command.text (record { rules = command.rules; rows = table }) tree script answer
+  pub answers : IsTextAt command.at command.text (record { rules = command.rules; rows = table }) tree script answer
 
 -- the whole text that is asked for was written
 pub record IsDone (held : Held) (command : Command) (old new : Option (List ℕ)) : Type 0 where

@@ -1,31 +1,32 @@
--- The columns of a list for ever, as the code makes them row by row.
-use Rattle.std.specs.Prelude.{◌≡◌, ⊤, ℕ, List, [], ◌∷◌, length}
-use Rattle.std.specs.List.{Contains}
+-- The columns of a list for ever, as the code makes them row by row: of what each row is about.
+use Rattle.std.specs.Prelude.{◌≡◌, ℕ, Bool, true, false, not, ◌&&◌, List, [], ◌∷◌, filter, is_none, length, map, Some, None, Result, MatchResult}
+use Rattle.std.specs.List.{AllByRecursion, AllZip, Contains}
+use Rattle.pua_tree.specs.Tree.{Tree, look}
+use Rattle.pua_path.specs.declared.found.Found.TheVariants.{Slot}
+use Rattle.pua_calls.specs.Calls.{CallTable}
 use Rattle.pua_calls.specs.declared.call.Call.{Call}
 use Rattle.pua_calls.specs.declared.rules.Rules.{Rules}
+use Rattle.pua_policy.specs.States.{ProcessState}
 use Rattle.pua_script.specs.Requests.{Asked}
+use Rattle.pua_audit.specs.Reach.{Word}
+use Rattle.pua_objects.specs.Lines.{kind_word}
+use Rattle.pua_objects.specs.Objects.{Subject, At}
+use Rattle.pua_objects.specs.declared.kind.ObjectKind.{ObjectKind}
+use Rattle.pua_ever.specs.Ever.{EverLine, Thing, Stands, Comes}
+use Rattle.pua_ever.specs.EverLines.{IsThing, line_with}
+use Rattle.pua_ever.specs.EverList.{thing_of}
+use Rattle.pua_ever.specs.declared.list.EverRow.{EverRow}
+use Rattle.pua_how.specs.Asking.{thing_word}
+use Rattle.pua_how.specs.Steps.{NoneComes}
+use Rattle.pua_how.specs.Targets.{IsLast, target_about}
 use Rattle.pua_how.specs.Ways.{IsWay}
 use Rattle.pua_how.specs.declared.target.Target.{Target}
-use Rattle.pua_policy.specs.States.{ProcessState}
-use Rattle.pua_audit.specs.Reach.{Word}
-use Rattle.pua_objects.specs.Objects.{Subject, At, Others}
-use Rattle.pua_path.specs.declared.found.Found.{Found}
-use Rattle.pua_path.specs.declared.found.Found.TheVariants.{Whole}
-use Rattle.pua_path.specs.declared.found.Way.TheVariants.{Top}
-use Rattle.pua_ever.specs.Ever.{Thing}
-use Rattle.pua_ever.specs.EverLines.{IsThing, line_with}
-use Rattle.pua_ever.specs.EverList.{word_of_row}
-use Rattle.pua_ever.specs.declared.line.EverLine.{EverLine}
-use Rattle.pua_ever.specs.declared.list.EverRow.{EverRow}
+use Rattle.pua_how.specs.declared.way.NoWay.{NoWay}
+use Rattle.pua_texts.specs.Lines.{with_end}
 use Rattle.pua_tool.specs.Begun.{as_replayed}
-use Rattle.pua_tool.specs.EverHowTexts.{IsColumn}
+use Rattle.pua_tool.specs.EverHowTexts.{counts_text, is_now}
 use Rattle.pua_tool.specs.Texts.{Replayed}
 use Rattle.pua_tool.specs.declared.columns.Behind.{Behind}
-
--- an object that has the cover of what a line is about
-abbrev pub found_for : Subject → Found
-found_for (At found) = found
-found_for (Others dir) = Whole dir Top
 
 -- what the script left
 abbrev pub done_behind : Behind → Replayed
@@ -39,15 +40,37 @@ pub record AreStepsTo (done : Replayed) (process : ℕ) (things : List Target) (
   pub way : IsWay done.table done.world process call thing asks
   pub long : length asks ≡ steps
 
--- a text is the column of a line of the code, at these names
-abbrev pub IsColumnAt : Rules → Replayed → ℕ → ProcessState → Word → EverLine → List ℕ → Type 0
-IsColumnAt rules done process h word line text =
-    (about : Thing) → IsThing done.world.tree about line.thing → IsColumn rules done process h (line_with word about line) text
+-- a number of steps is that of a way to a thing; without one none of the plans comes to one
+abbrev pub IsCountTo : Rules → Replayed → ℕ → Target → Call × Result ℕ NoWay → Type 0
+IsCountTo rules done process thing count =
+    MatchResult count.1 (AreStepsTo done process (thing ∷ []) count.0) (NoneComes rules done.table process count.0 (thing ∷ []) done.world)
 
--- texts are the columns of rows, by the names that lead to the row before
-abbrev pub AreColumns : Rules → Replayed → ℕ → ProcessState → Word → List EverRow → List (List ℕ) → Type 0
-AreColumns rules done process h before [] [] = ⊤
-AreColumns rules done process h before (row ∷ rows) (text ∷ texts) =
-    IsColumnAt rules done process h (word_of_row before row) row.line text
-    × AreColumns rules done process h (word_of_row before row) rows texts
-AreColumns rules done process h before _ _ = ⊥
+-- the list of now has the call on what a row is about: none on what is still to be made, nor on a name at which something stands
+abbrev pub is_there : Tree → Subject → Bool
+is_there t (At (Slot dir name None)) = is_none (look t dir name)
+is_there t _ = true
+
+abbrev pub is_now_on : Tree → CallTable → ProcessState → Thing → Call → Bool
+is_now_on t table h (Stands subject) call = is_there t subject && is_now t table h (Some subject) call
+is_now_on t table h (Comes new) call = false
+
+-- a text is the column of a line by what that is about, with this as the last number of the nodes that live
+pub record IsColumnOf (rules : Rules) (done : Replayed) (process : ℕ) (h : ProcessState) (line : EverLine) (text : List ℕ) : Type 0 where
+  pub kind : ObjectKind
+  pub told : kind_word kind ≡ thing_word done.world.tree line.thing
+  pub last : ℕ
+  pub above : IsLast done.world.tree last
+  pub counts : List (Call × Result ℕ NoWay)
+  pub calls : map (λ count. count.0) counts ≡ filter (λ call. not (is_now_on done.world.tree done.table h line.thing call)) line.calls
+  pub counted : AllByRecursion (IsCountTo rules done process (target_about last line.thing)) counts
+  pub is : text ≡ with_end (counts_text 32 counts)
+
+-- a text is the column of a row, whichever names lead there
+abbrev pub IsColumnAt : Rules → Replayed → ℕ → ProcessState → EverRow → List ℕ → Type 0
+IsColumnAt rules done process h row text =
+    (about : Thing) → IsThing done.world.tree about row.line.thing → thing_of done.world.tree row ≡ Some about → (word : Word) →
+    IsColumnOf rules done process h (line_with word about row.line) text
+
+-- texts are the columns of rows
+abbrev pub AreColumns : Rules → Replayed → ℕ → ProcessState → List EverRow → List (List ℕ) → Type 0
+AreColumns rules done process h rows texts = AllZip (IsColumnAt rules done process h) rows texts

@@ -7,6 +7,7 @@ ghost use Rattle.pua_words.specs.Usages.{line_for, usage_line_text};
 ghost use Rattle.pua_words.specs.declared.command.Command.{Command};
 ghost use Rattle.pua_tool.specs.Performed.{HasAnswered, HasAsked, HasEnded, HasHalted, IsAskedBy};
 ghost use Rattle.pua_tool.specs.Performed.{IsRefused};
+ghost use Rattle.pua_tool.specs.Advised.{HasTold};
 ghost use Rattle.pua_io.specs.Sinks.{Adds, AddsFront, HasFailed};
 ghost use Rattle.pua_texts.specs.Lines.{with_end};
 ghost use Rattle.pua_tool.specs.Told.{IsLineTold, Shows, ShowsFront, TellsStatus, TellsUsage};
@@ -43,7 +44,8 @@ pub fn program<I: Inputs, W: Write + Drop, E: Sink>(
         HasEnded (map (λ word. word.now) words.now) (I.holds inputs.old)
         (writer_contents W.contents out.old.0)
         (writer_contents W.contents out.new.0) out.old.1 out.new.1 }
-    ensures told { result ≢ DONE → TellsStatus result
+    ensures told { result ≢ DONE → HasTold (map (λ word. word.now) words.now)
+        (I.holds inputs.old) result
         (E.written err.old) (E.written err.new) (E.failed err.old) (E.failed err.new) }
     ensures handed { result ≡ DONE → writer_buffer out.new.0 ≡ [] }
     ensures unwritten { result ≢ DONE → result ≢ DEVICE →
@@ -107,7 +109,8 @@ pub fn command<I: Inputs, O: Sink, E: Sink>(
     ensures device { result ≡ DEVICE →
         HasHalted (map (λ word. word.now) words.now) (I.holds inputs.old)
         (O.written out.old) (O.written out.new) (O.failed out.old) (O.failed out.new) }
-    ensures told { result ≢ DONE → TellsStatus result
+    ensures told { result ≢ DONE → HasTold (map (λ word. word.now) words.now)
+        (I.holds inputs.old) result
         (E.written err.old) (E.written err.new) (E.failed err.old) (E.failed err.new) }
     ensures status { result ≤ MEMORY }
     ensures unwritten { result ≢ DONE → result ≢ DEVICE → O.written out.new ≡ O.written out.old }

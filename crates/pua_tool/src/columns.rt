@@ -1,31 +1,27 @@
 //! What stands behind the calls of a line of a list for ever: how many steps a way has to each call
 //! that the list of now lacks.
 
-ghost use Rattle.std.specs.Prelude.{◌≡◌, ◌&&◌, ◌++◌, ◌∷◌, [], IfErr, IfOk, OnOk, Some};
-ghost use Rattle.std.specs.Prelude.{map, not, string_bytes};
+ghost use Rattle.std.specs.Prelude.{◌≡◌, ◌&&◌, ◌++◌, ◌∷◌, [], IfErr, IfOk, OnOk, map, not};
+ghost use Rattle.std.specs.Prelude.{string_bytes};
 ghost use Rattle.std.specs.List.{AllByRecursion};
-ghost use Rattle.pua_tree.specs.Tree.{Tree};
 ghost use Rattle.pua_calls.specs.CallSets.{calls_in, has};
 ghost use Rattle.pua_calls.specs.declared.call.Call.{Call as AnyCall};
-ghost use Rattle.pua_ever.specs.Ever.{Thing};
-ghost use Rattle.pua_ever.specs.EverLines.{IsThing};
-ghost use Rattle.pua_ever.specs.EverList.{word_of_row};
-ghost use Rattle.pua_how.specs.Asked.{IsAskedBy, asking_given};
+ghost use Rattle.pua_ever.specs.EverList.{IsRowOn};
 ghost use Rattle.pua_how.specs.Steps.{NoneComes};
-ghost use Rattle.pua_texts.specs.EverLines.{kind_of};
+ghost use Rattle.pua_how.specs.Targets.{IsLast};
 ghost use Rattle.pua_texts.specs.Lines.{with_end};
-ghost use Rattle.pua_tool.specs.RowColumns.{AreColumns, AreStepsTo, IsColumnAt, done_behind};
-ghost use Rattle.pua_tool.specs.EverHowTexts.{IsCount, asking_by, count_text, counts_text};
+ghost use Rattle.pua_tool.specs.RowColumns.{AreColumns, AreStepsTo, IsColumnAt, IsCountTo};
+ghost use Rattle.pua_tool.specs.RowColumns.{done_behind};
+ghost use Rattle.pua_tool.specs.EverHowTexts.{count_text, counts_text};
 
 use crate::fault::ToolFault;
-use crate::now::calls_now;
+use crate::row::calls_now;
 use crate::script::Replay;
 use pua_calls::{Call, Calls, Rules};
-use pua_ever::{EverLine, EverRow, EverThing};
-use pua_how::{Asking, Meant, NoWay, Planner, find_meant};
-use pua_objects::ObjectKind;
+use pua_ever::EverRow;
+use pua_how::{Meant, NoWay, Planner, Target, last_number, target_of};
 use pua_policy::Process;
-use pua_tree::{FileTree, Name};
+use pua_tree::NodeId;
 use std::alloc::{AllocError, Global};
 
 /// What a script left, the rules by which its lines are read, and the number of the process whose
@@ -47,53 +43,44 @@ pub(crate) fn columns_of(
     rows: &[EverRow<'_>],
 ) -> Result<Vec<String>, ToolFault>
     ensures columns { IfOk result (λ columns.
-        AreColumns behind.now.rules (done_behind behind.now) behind.now.number process.now []
-        rows.now (map string_bytes columns.items)) }
+        AllByRecursion (IsRowOn (done_behind behind.now).world.tree process.now) rows.now →
+        AreColumns behind.now.rules (done_behind behind.now) behind.now.number process.now rows.now
+        (map string_bytes columns.items)) }
     ensures memory { IfErr result (λ fault. fault ≡ ToolFault.OutOfMemory) }
 {
     let world = &behind.replay.world;
+    let last = last_number(alloc, world.tree())?;
     let planner = Planner::new(alloc, world.tree(), process, world.table())?;
-    let mut names = Vec::new(alloc);
     let mut columns = Vec::new(alloc);
     for row in rows {
-        go_to(&mut names, row)?;
-        let names = names.as_slice();
-        let column = column_of(alloc, behind, process, &planner, names, &row.line)?;
+        let column = column_of(alloc, behind, process, &planner, last, row)?;
         columns.push(column)?;
     }
     Ok(columns)
 }
 
-/// Goes on to the names that lead to a row. The only error is that a growth was refused.
-fn go_to<'t>(names: &mut Vec<&'t Name>, row: &EverRow<'t>) -> Result<(), AllocError>
-    ensures { OnOk result (map (λ name. name.now) names.new.items
-        ≡ word_of_row (map (λ name. name.now) names.old.items) row.now) }
-{
-    names.truncate(row.depth);
-    if let Some(name) = row.name {
-        names.push(name)?;
-    }
-    Ok(())
-}
-
-/// The column of a line at the end of these names.
+/// The column of a row, by the last number of the nodes that live.
 fn column_of(
     alloc: Global,
     behind: &Behind<'_>,
     process: &Process,
     planner: &Planner<'_>,
-    names: &[&Name],
-    line: &EverLine,
+    last: NodeId,
+    row: &EverRow<'_>,
 ) -> Result<String, ToolFault>
-    ensures column { IfOk result (λ text.
-        IsColumnAt behind.now.rules (done_behind behind.now) behind.now.number process.now
-        (map (λ name. name.now) names.now) line.now (string_bytes text)) }
+    ensures column { IfOk result (λ text. IsLast (done_behind behind.now).world.tree last →
+        IsRowOn (done_behind behind.now).world.tree process.now row.now →
+        IsColumnAt behind.now.rules (done_behind behind.now) behind.now.number process.now row.now
+        (string_bytes text)) }
     ensures memory { IfErr result (λ fault. fault ≡ ToolFault.OutOfMemory) }
 {
     let world = &behind.replay.world;
-    let now = calls_now(world.tree(), process, world.table(), names, line.thing);
-    let lacking = without(line.calls, now);
-    let counts = counts_on(alloc, behind, process, planner, names, line.thing, lacking)?;
+    let now = calls_now(process, world.table(), row);
+    let lacking = without(row.line.calls, now);
+    let Some(target) = target_of(world.tree(), last, row) else {
+        return Ok(text_of(alloc, &[])?);
+    };
+    let counts = counts_on(alloc, behind, planner, &target, lacking)?;
     Ok(text_of(alloc, counts.as_slice())?)
 }
 
@@ -117,22 +104,17 @@ fn is_left(calls: Calls, others: Calls, call: Call) -> bool
     calls.contains(call) && !others.contains(call)
 }
 
-/// These calls on what a line at the end of these names is about, in their order, each with the
-/// number of steps of a way to it, or with plans of which none comes to one. Without calls nothing
-/// is asked.
+/// These calls on a thing, in their order, each with the number of steps of a way to it, or with
+/// plans of which none comes to one.
 fn counts_on(
     alloc: Global,
     behind: &Behind<'_>,
-    process: &Process,
     planner: &Planner<'_>,
-    names: &[&Name],
-    thing: EverThing,
+    target: &Target,
     calls: Calls,
 ) -> Result<Vec<(Call, Result<usize, NoWay>)>, ToolFault>
-    ensures counts { IfOk result (λ counts. (about : Thing) →
-        IsThing (done_behind behind.now).world.tree about thing →
-        AllByRecursion (IsCount behind.now.rules (done_behind behind.now) behind.now.number
-        process.now (asking_by (map (λ name. name.now) names.now) about) (kind_of thing))
+    ensures counts { IfOk result (λ counts. AllByRecursion
+        (IsCountTo behind.now.rules (done_behind behind.now) behind.now.number target.now)
         counts.items) }
     ensures calls { IfOk result (λ counts. map (λ count. count.0) counts.items ≡ calls_in calls) }
     ensures memory { IfErr result (λ fault. fault ≡ ToolFault.OutOfMemory) }
@@ -140,7 +122,7 @@ fn counts_on(
     if calls.is_empty() {
         return Ok(Vec::new(alloc));
     }
-    let meant = meant_on(alloc, behind.replay.world.tree(), process, names, thing)?;
+    let meant = meant_by(alloc, target)?;
     let mut counts = Vec::new(alloc);
     for call in Call::ALL {
         if calls.contains(call) {
@@ -151,46 +133,16 @@ fn counts_on(
     Ok(counts)
 }
 
-/// What is meant by the path and the kind of a line at the end of these names.
-fn meant_on<T: FileTree>(
-    alloc: Global,
-    tree: &T,
-    process: &Process,
-    names: &[&Name],
-    thing: EverThing,
-) -> Result<Meant, ToolFault>
-    ensures meant { IfOk result (λ meant. (about : Thing) →
-        IsThing (T.content tree.now) about thing →
-        IsAskedBy (T.content tree.now) process.now (asking_by (map (λ name. name.now) names.now) about)
-        (Some (kind_of thing)) meant.targets.items) }
-    ensures memory { IfErr result (λ fault. fault ≡ ToolFault.OutOfMemory) }
+/// A thing alone, as a way is asked for to it. The only error is that a growth was refused.
+fn meant_by(alloc: Global, target: &Target) -> Result<Meant, AllocError>
+    ensures { IfOk result (λ meant. meant.targets.items ≡ target.now ∷ []) }
 {
-    let asking = asking_on(alloc, names, thing)?;
-    Ok(find_meant(alloc, tree, process, &asking, Some(kind_in(thing)))?)
-}
-
-/// The kind of what a line is about.
-fn kind_in(thing: EverThing) -> ObjectKind
-    ensures { result ≡ kind_of thing }
-{
-    match thing {
-        EverThing::Stands(kind) | EverThing::Comes(kind) => kind,
-    }
-}
-
-/// The path of a line, as a way is asked for by it. The only error is that a growth was refused.
-fn asking_on(alloc: Global, names: &[&Name], thing: EverThing) -> Result<Asking, AllocError>
-    ensures { IfOk result (λ asking. (t : Tree) (about : Thing) → IsThing t about thing →
-        asking_given asking ≡ asking_by (map (λ name. name.now) names.now) about) }
-{
-    let EverThing::Stands(_) = thing else {
-        return Ok(Asking::Making);
-    };
-    let mut copies = Vec::new(alloc);
-    for name in names {
-        copies.push(**name)?;
-    }
-    Ok(Asking::Standing(copies))
+    let mut targets = Vec::with_capacity(alloc, 1)?;
+    targets.push(*target)?;
+    Ok(Meant {
+        targets,
+        name: None,
+    })
 }
 
 /// The number of steps of a way to a call on something that is meant; [`NoWay`] exactly where none

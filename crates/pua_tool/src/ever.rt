@@ -7,13 +7,13 @@ ghost use Rattle.pua_tool.specs.Texts.{choice_of};
 
 use crate::ever_fault::fault_of;
 use crate::fault::ToolFault;
-use crate::objects::told;
+use crate::objects::put_lists;
 use crate::script::{Replay, replay_script};
 use crate::table::TableChoice;
 use pua_calls::Rules;
 use pua_ever::{both_of, list_lasting};
 use pua_io::Sink;
-use pua_texts::{answer_text, write_ever};
+use pua_texts::{answer_text, begin_ever};
 use std::alloc::Global;
 
 /// Writes the list for ever of a process.
@@ -53,16 +53,12 @@ fn list_to<S: Sink>(
         return Err(ToolFault::NoProcess);
     };
     let (tree, table) = (world.tree(), world.table());
-    let Ok(both) = both_of(alloc, process, table) else {
-        return Err(ToolFault::OutOfMemory);
-    };
+    let both = both_of(alloc, process, table)?;
     let list = match list_lasting(alloc, tree, process, both.as_ref(), table) {
         Ok(list) => list,
         Err(fault) => return Err(fault_of(number, fault)),
     };
-    let Ok(front) = answer_text(alloc, replay.answers.as_slice()) else {
-        return Err(ToolFault::OutOfMemory);
-    };
-    let front = front.as_str();
-    told(write_ever(alloc, tree, rules, number, process, &list, front, sink))
+    let front = answer_text(alloc, replay.answers.as_slice())?;
+    let lists = begin_ever(alloc, rules, number, process, &list)?;
+    put_lists(alloc, tree, front.as_str(), lists, sink)
 }

@@ -9,12 +9,13 @@ ghost use Rattle.pua_tool.specs.Texts.{choice_of};
 use crate::columns::{Behind, columns_of};
 use crate::ever_fault::fault_of;
 use crate::fault::ToolFault;
-use crate::objects::told;
+use crate::objects::put_lists;
 use crate::script::replay_script;
 use crate::table::TableChoice;
 use pua_ever::{both_of, list_lasting};
 use pua_io::Sink;
-use pua_texts::{answer_text, write_ever_how};
+use pua_texts::{answer_text, begin_ever_with};
+use pua_tree::FileTree;
 use std::alloc::Global;
 
 /// Writes the list for ever of a process with the number of steps of ways.
@@ -53,19 +54,14 @@ fn list_to<S: Sink>(alloc: Global, behind: &Behind<'_>, sink: &mut S) -> Result<
         return Err(ToolFault::NoProcess);
     };
     let (tree, table) = (world.tree(), world.table());
-    let Ok(both) = both_of(alloc, process, table) else {
-        return Err(ToolFault::OutOfMemory);
-    };
+    tree.known();
+    let both = both_of(alloc, process, table)?;
     let list = match list_lasting(alloc, tree, process, both.as_ref(), table) {
         Ok(list) => list,
         Err(fault) => return Err(fault_of(number, fault)),
     };
     let columns = columns_of(alloc, behind, process, list.rows.as_slice())?;
-    let Ok(front) = answer_text(alloc, behind.replay.answers.as_slice()) else {
-        return Err(ToolFault::OutOfMemory);
-    };
-    let (rules, front) = (behind.rules, front.as_str());
-    told(write_ever_how(
-        alloc, tree, rules, number, process, &list, columns, front, sink,
-    ))
+    let front = answer_text(alloc, behind.replay.answers.as_slice())?;
+    let lists = begin_ever_with(alloc, behind.rules, number, process, &list, columns)?;
+    put_lists(alloc, tree, front.as_str(), lists, sink)
 }

@@ -1,5 +1,5 @@
-//! Why runs, audits, lists of objects, ways and tightened scripts are refused, each with the line
-//! that reports it.
+//! Why runs, audits, lists of objects, ways, tightened scripts and trees are refused, each with the
+//! line that reports it.
 
 ghost use Rattle.std.specs.Prelude.{◌≡◌, ◌++◌, codes};
 ghost use Rattle.pua_tool.specs.FaultTexts.{blame_line, fault_line, place_line, row_line};
@@ -16,8 +16,8 @@ use pua_tree::{ListingFault, OutOfMemory};
 use std::alloc::{AllocError, AllocFailed};
 use std::fmt;
 
-/// Why the text of a run, of an audit, of a list of objects, of now or for ever, of a way, or of a
-/// tightened script was not written, or not whole. It is displayed as the line that the program
+/// Why the text of a run, of an audit, of a list of objects, of now or for ever, of a way, of a
+/// tightened script or of a tree was not written, or not whole. It is displayed as the line that the program
 /// prints.
 #[derive(Clone, Copy, Debug, PartialEq, Eq)]
 pub enum ToolFault {
@@ -57,6 +57,11 @@ pub enum ToolFault {
     NowHow,
     /// There is no list for ever of several processes with ways, since a way is of one.
     SeveralHow,
+    /// The tree that the script leaves has more names than a listing has lines: over 1,000,000, the
+    /// root counted as one.
+    TooManyNames,
+    /// The script ends before this line, behind which it was asked how things stood.
+    NoLine(u32),
     /// What a way is asked for is none of the calls on one path.
     HowCall,
     /// Where it is to lead is no path as a list for ever prints it.
@@ -137,9 +142,11 @@ impl ToolFault {
                 let rest = " have other veils";
                 five("pua: processes ", first, " and ", other, rest)
             }
+            ToolFault::TooManyNames => one("pua: tree: too many names"),
             ToolFault::EverWhy => one("pua: objects: no list for ever with --why"),
             ToolFault::NowHow => one("pua: objects: no list of now with --how"),
             ToolFault::SeveralHow => one("pua: objects: no list of several with --how"),
+            ToolFault::NoLine(line) => blamed("pua: script: ", (Some(line), "no such line")),
             ToolFault::HowCall => one("pua: how: bad call"),
             ToolFault::HowPath => one("pua: how: bad path"),
             ToolFault::HowThing => one("pua: how: no such thing"),

@@ -4,33 +4,38 @@
 ghost use Rattle.std.specs.Prelude.{◌≡◌};
 ghost use Rattle.pua_tool.specs.Alike.{AnswersAlike, LinesAlike};
 ghost use Rattle.pua_tool.specs.EverHowExamples.{EverHowRows};
-ghost use Rattle.pua_tool.specs.Examples.{FaultTextRows, HowTextRows, ReasonTextRows, TextRows};
-ghost use Rattle.pua_tool.specs.Examples.{TightTextRows};
+ghost use Rattle.pua_tool.specs.Examples.{FaultTextRows, FrontRows, HowTextRows, ReasonTextRows};
+ghost use Rattle.pua_tool.specs.Examples.{TextRows, TightTextRows};
 ghost use Rattle.pua_tool.specs.Fewest.{TightAsWritten};
 ghost use Rattle.pua_tool.specs.Forever.{EverAsWritten};
+ghost use Rattle.pua_tool.specs.FrontLaws.{FrontLines, FrontRequests};
 ghost use Rattle.pua_tool.specs.Listed.{ObjectsAsWritten};
 ghost use Rattle.pua_tool.specs.Never.{NeverAsWritten};
+ghost use Rattle.pua_tool.specs.ReadBack.{TreeAsWritten};
 ghost use Rattle.pua_tool.specs.Reasoned.{ReasonsAsWritten};
 ghost use Rattle.pua_tool.specs.Several.{TogetherAsWritten};
 ghost use Rattle.pua_tool.specs.Headline.{IsOfHistories};
 ghost use Rattle.pua_tool.specs.Futures.{Confinement, ConfinementAsRead, Narrowing};
 ghost use Rattle.pua_tool.specs.Futures.{NarrowingAsRead, NarrowingNow};
+ghost use Rattle.pua_tool.specs.TreeExamples.{TreeTextRows};
 ghost use Rattle.pua_script.specs.Futures.{RulesNarrow};
 ghost use Rattle.pua_script.specs.Tightening.{OthersLeave, OthersLeaveAlways};
 
 use pua_ever::together_law;
+use pua_listing::read_back_law;
 use pua_objects::{completeness_law, soundness_law};
-use pua_script::pasts_law;
+use pua_script::{bytes_law, pasts_law};
 use pua_tree::FileTree;
 
 /// Examples of whole texts, and of what refuses them.
-#[tactic(auto, using(crate::specs::Examples::text_rows, crate::specs::Examples::reason_text_rows, crate::specs::Examples::tight_text_rows, crate::specs::Examples::how_text_rows, crate::specs::Examples::fault_text_rows))]
+#[tactic(auto, using(crate::specs::Examples::text_rows, crate::specs::Examples::reason_text_rows, crate::specs::Examples::tight_text_rows, crate::specs::Examples::how_text_rows, crate::specs::Examples::fault_text_rows, crate::specs::Examples::front_rows))]
 pub fn text_examples()
     ensures texts { TextRows }
     ensures reasons { ReasonTextRows }
     ensures tightened { TightTextRows }
     ensures ways { HowTextRows }
     ensures faults { FaultTextRows }
+    ensures fronts { FrontRows }
 {}
 
 /// Narrowing ("Every future of a locked process" in docs/DEFINITIONS.md): over each tree the later
@@ -119,6 +124,15 @@ pub fn tight_text_law()
     ensures { TightAsWritten }
 {}
 
+/// Where there is a text of the tree that a script leaves, it is a listing again, of the same tree
+/// but for the numbers of nodes.
+pub fn tree_text_law()
+    ensures { TreeAsWritten }
+{
+    read_back_law();
+    bytes_law();
+}
+
 /// What `narrowing`, `confined`, and the laws of texts say of what processes keep is so of
 /// histories: wherever a script ends, what a process keeps is what is left of its history, by a
 /// replay that keeps the events of each process. So a reader who believes histories alone has each
@@ -141,8 +155,22 @@ pub fn trees_alike<S: FileTree, T: FileTree>(first: &S, second: &T)
     second.known();
 }
 
+/// The first lines of a script, to the byte, are read as the first of its lines, and there are none
+/// exactly where it has fewer; and the requests of a script's first lines are the first of its
+/// requests. So with `--at N` a text is of the world that the script's first N requests leave.
+pub fn front_law()
+    ensures lines { FrontLines }
+    ensures requests { FrontRequests }
+{}
+
 /// Examples of columns.
 #[tactic(auto, using(crate::specs::EverHowExamples::ever_how_rows))]
 pub fn column_examples()
     ensures { EverHowRows }
+{}
+
+/// Examples of the listings of trees that scripts leave.
+#[tactic(auto, using(crate::specs::TreeExamples::tree_text_rows))]
+pub fn tree_examples()
+    ensures { TreeTextRows }
 {}

@@ -1,8 +1,9 @@
-//! Whole texts of runs, of audits, of lists of objects, of now and for ever, of ways, and of
-//! tightened scripts, or what refuses them, and the whole program as a function over its inputs.
+//! Whole texts of runs, of audits, of lists of objects, of now and for ever, of ways, of tightened
+//! scripts and of trees, or what refuses them, and the whole program as a function over its inputs.
 #![tactic(auto)]
 
 mod acting;
+mod advised;
 mod audit;
 mod cli;
 mod columns;
@@ -10,17 +11,18 @@ mod ever;
 mod ever_fault;
 mod ever_how;
 mod fault;
+mod front;
 mod how;
 mod job;
 mod laws;
 mod line;
 mod lists;
-mod now;
 mod objects;
 mod objects_why;
 mod outcome;
 mod posed;
 mod refused;
+mod row;
 mod run;
 mod run_why;
 mod script;
@@ -30,6 +32,7 @@ mod table;
 mod tight;
 mod tight_why;
 mod together;
+mod tree;
 mod why;
 
 pub use audit::{audit_by, audit_to};
@@ -38,9 +41,9 @@ pub use fault::ToolFault;
 pub use how::how_to;
 pub use job::Job;
 pub use laws::{
-    column_examples, confined, ever_text_law, headline_law, narrowing, never_text_law,
+    column_examples, confined, ever_text_law, front_law, headline_law, narrowing, never_text_law,
     objects_text_law, reasons_text_law, text_examples, tight_text_law, together_text_law,
-    trees_alike,
+    tree_examples, tree_text_law, trees_alike,
 };
 pub use lists::list_to;
 pub use pua_io::{
@@ -58,4 +61,5 @@ pub use status::{DEVICE, DONE, MEMORY, REFUSED, USAGE};
 pub use table::TableChoice;
 pub use tight::tight_to;
 pub use tight_why::tight_why_to;
+pub use tree::tree_to;
 pub use why::why_to;

@@ -1,9 +1,10 @@
 //! The text of the lists of processes.
 
-ghost use Rattle.std.specs.Prelude.{◌≡◌, ◌≢◌, ℕ, List, Option, Ok, Err, IfOk, IfErr, is_some};
+ghost use Rattle.std.specs.Prelude.{◌≡◌, ◌≢◌, ◌++◌, ℕ, List, Option, Ok, Err, IfOk, IfErr, is_some};
 ghost use Rattle.std.specs.List.{list_all};
 ghost use Rattle.pua_script.specs.Replay.{kept_at};
 ghost use Rattle.pua_script.specs.Worlds.{world_of};
+ghost use Rattle.pua_texts.specs.ListLines.{lists_text};
 ghost use Rattle.pua_texts.specs.Tells.{Tells};
 ghost use Rattle.pua_tool.specs.ObjectTexts.{lists_asked, numbers_asked, numbers_made, objects_text};
 ghost use Rattle.pua_tool.specs.Begun.{as_replayed};
@@ -16,10 +17,11 @@ use crate::table::TableChoice;
 use pua_calls::Rules;
 use pua_io::{Sink, put_all};
 use pua_script::World;
-use pua_texts::{TextFault, answer_text, write_lists};
+use pua_texts::{ProcessList, TextFault, answer_text, begin_objects, write_lists};
 use pua_tree::FileTree;
 use pua_words::Processes;
 use std::alloc::Global;
+use std::collections::VecDeque;
 
 /// Writes the lists of processes, of one, of several, or of all that were ever made, one after
 /// another.
@@ -54,18 +56,11 @@ fn asked_to<S: Sink>(
     ensures { AnswersTo S.written S.failed
         (lists_asked rules (as_replayed replay.now) whose.now) result sink.old sink.new }
 {
-    let numbers = numbers_of(alloc, &replay.world, whose)?;
-    let Ok(front) = answer_text(alloc, replay.answers.as_slice()) else {
-        return Err(ToolFault::OutOfMemory);
-    };
-    told(write_lists(
-        alloc,
-        &replay.world,
-        rules,
-        numbers.as_slice(),
-        front.as_str(),
-        sink,
-    ))
+    let world = &replay.world;
+    let numbers = numbers_of(alloc, world, whose)?;
+    let front = answer_text(alloc, replay.answers.as_slice())?;
+    let lists = begin_objects(alloc, world, rules, numbers.as_slice())?;
+    put_lists(alloc, world.tree(), front.as_str(), lists, sink)
 }
 
 /// The numbers of the processes that are asked for: `NoProcess` where one that is named was never
@@ -127,6 +122,21 @@ pub(crate) fn told(written: Result<(), TextFault>) -> Result<(), ToolFault>
         Err(TextFault::Write) => Err(ToolFault::Write),
         Err(TextFault::OutOfMemory) => Err(ToolFault::OutOfMemory),
     }
+}
+
+/// Puts the front of a text, and then lists, as the tool reports it.
+pub(crate) fn put_lists<'t, T: FileTree, S: Sink>(
+    alloc: Global,
+    tree: &'t T,
+    front: &str,
+    lists: VecDeque<ProcessList<'t>>,
+    sink: &mut S,
+) -> Result<(), ToolFault>
+    ensures { AnswersTo S.written S.failed
+        (Ok (front.now ++ lists_text (T.content tree.now) lists.entry.items))
+        result sink.old sink.new }
+{
+    told(write_lists(alloc, tree, front, lists, sink))
 }
 
 /// Puts a text, as the tool reports it.

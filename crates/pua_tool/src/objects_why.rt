@@ -4,19 +4,18 @@ ghost use Rattle.std.specs.Prelude.{◌≡◌, ◌++◌, Ok};
 ghost use Rattle.pua_script.specs.Scripts.{script_by};
 ghost use Rattle.pua_tool.specs.Texts.{choice_of};
 ghost use Rattle.pua_tool.specs.PosedScripts.{IsPosed, as_asking};
-ghost use Rattle.pua_texts.specs.Tells.{TellsTo};
 ghost use Rattle.pua_texts.specs.WhyLines.{why_lists_of};
 ghost use Rattle.pua_tool.specs.Answers.{AnswersTo};
 ghost use Rattle.pua_tool.specs.WhyTexts.{objects_why_text, reason_lines, why_lists_asked};
 
 use crate::fault::ToolFault;
-use crate::objects::{numbers_of, told};
+use crate::objects::{numbers_of, put_lists};
 use crate::posed::{Posed, pose};
 use crate::table::TableChoice;
 use pua_calls::Rules;
 use pua_io::Sink;
 use pua_since::{dated_text, veils_of};
-use pua_texts::{TextFault, write_why_lists};
+use pua_texts::begin_reasons;
 use pua_words::Processes;
 use std::alloc::Global;
 
@@ -55,13 +54,10 @@ fn write_asked<S: Sink>(
         result sink.old sink.new }
 {
     let numbers = numbers_of(alloc, &posed.after, whose)?;
-    let numbers = numbers.as_slice();
-    told(write_all(alloc, script_bytes, posed, rules, numbers, sink))
+    write_all(alloc, script_bytes, posed, rules, numbers.as_slice(), sink)
 }
 
-/// Writes the lines of a script with reasons, and then the lists of these processes. `OutOfMemory`
-/// where a growth was refused, before anything is written. `Write` only where a put failed in this
-/// call, after a front of the text.
+/// Writes the lines of a script with reasons, and then the lists of these processes.
 fn write_all<S: Sink>(
     alloc: Global,
     script_bytes: &[u8],
@@ -69,10 +65,10 @@ fn write_all<S: Sink>(
     rules: Rules,
     numbers: &[u32],
     sink: &mut S,
-) -> Result<(), TextFault>
+) -> Result<(), ToolFault>
     ensures { script_by rules script_bytes.now ≡ Ok posed.old.script → IsPosed posed.old →
-        TellsTo S.written S.failed (reason_lines rules (as_asking posed.old)
-        ++ why_lists_of rules (as_asking posed.old) numbers.now) result sink.old sink.new }
+        AnswersTo S.written S.failed (Ok (reason_lines rules (as_asking posed.old)
+        ++ why_lists_of rules (as_asking posed.old) numbers.now)) result sink.old sink.new }
 {
     let (requests, answers) = (posed.script.requests(), posed.answers.as_slice());
     let veils = veils_of(alloc, &posed.after, numbers)?;
@@ -86,6 +82,6 @@ fn write_all<S: Sink>(
         answers,
         veils,
     )?;
-    let (front, lines) = (front.as_str(), lines.as_slice());
-    write_why_lists(alloc, &posed.after, rules, numbers, lines, front, sink)
+    let lists = begin_reasons(alloc, &posed.after, rules, numbers, lines.as_slice())?;
+    put_lists(alloc, posed.after.tree(), front.as_str(), lists, sink)
 }

@@ -6,24 +6,28 @@ ghost use Rattle.pua_io.specs.Held.{AsksFor, AsksForFront, Holds};
 ghost use Rattle.pua_tool.specs.Answers.{AnswersTo};
 ghost use Rattle.pua_tool.specs.Performed.{HoldsTable, IsCutShort, IsDone, IsRefused, IsStopped};
 ghost use Rattle.pua_tool.specs.Performed.{IsTableUnheld, IsUnheld, IsUntaken, LacksInput};
-ghost use Rattle.pua_tool.specs.Performed.{IsTextAsked, inputs_of, table_names};
+ghost use Rattle.pua_tool.specs.Performed.{IsTextAsked, IsTextAt, inputs_of, table_names};
 ghost use Rattle.pua_tool.specs.Statuses.{fault_status};
 ghost use Rattle.pua_tool.specs.Texts.{given_bytes};
-ghost use Rattle.pua_tool.specs.Told.{IsFaultTold};
+ghost use Rattle.pua_tool.specs.Advised.{IsToldOf};
+ghost use Rattle.pua_tool.specs.Ended.{IsHalted};
 ghost use Rattle.pua_tool.specs.declared.outcome.CommandFault.{CommandFault};
 
+use crate::advised::{Halt, end};
 use crate::audit::audit_by;
 use crate::fault::ToolFault;
+use crate::front::script_at;
 use crate::how::how_to;
 use crate::job::job_of;
 use crate::lists::list_to;
-use crate::outcome::{CommandFault, finish};
+use crate::outcome::CommandFault;
 use crate::run::run_by;
 use crate::run_why::run_why_to;
 use crate::status::{DEVICE, DONE, MEMORY, REFUSED, USAGE};
 use crate::table::TableChoice;
 use crate::tight::tight_to;
 use crate::tight_why::tight_why_to;
+use crate::tree::tree_to;
 use crate::why::why_to;
 use pua_calls::Rules;
 use pua_io::{InputFault, Inputs, Sink};
@@ -31,10 +35,12 @@ use pua_words::{Command, Text};
 use std::alloc::Global;
 
 /// Does what a command asks for: the text of a run, of an audit, of a list of objects, of now or
-/// for ever, of a way, or of a tightened script goes to `out`, and of a fault one line goes to
-/// `err`, which is dropped where it can't be written. The inputs are taken, first the tree's, then
-/// the script's, then the table's where one is named, before any of them is read as a listing, a
-/// script or a table; none behind one that can't be taken, and no others.
+/// for ever, of a way, of a tightened script or of a tree goes to `out`, and of a fault a line or
+/// two go to `err`, which are dropped where they can't be written. The inputs are taken, first the
+/// tree's, then the script's, then the table's where one is named, before any of them is read as a
+/// listing, a script or a table; none behind one that can't be taken, and no others. Where the
+/// command names a line of the script, the text is that of the script's lines up to this one;
+/// [`REFUSED`] also where there is no such line.
 ///
 /// It answers the status. [`DONE`]: the text that is asked for, of the bytes that the inputs hold
 /// under the command's names, was written, and nothing to `err`; of a way it is one of several, as
@@ -44,7 +50,8 @@ use std::alloc::Global;
 /// [`REFUSED`] and [`MEMORY`] nothing was written. After each but [`DONE`] the line of what stopped
 /// it went to `err`: all of it, or a front of it before a put that failed. Of an input that is
 /// refused this is the line with what is wrong, and with which line, candidate or call, if with
-/// one.
+/// one. Behind that line of a script, or of a request that is asked about, a second one says by
+/// OpenBSD's rules what is wrong with it ([`advise`](pua_advice::advise)).
 pub fn perform<I: Inputs, O: Sink, E: Sink>(
     alloc: Global,
     command: &Command<'_>,
@@ -65,15 +72,18 @@ pub fn perform<I: Inputs, O: Sink, E: Sink>(
     ensures told { result ≢ DONE → (fault : CommandFault) × (fault_status fault ≡ result)
         × IsStopped (I.holds inputs.old) command.now fault
         (O.written out.old) (O.written out.new) (O.failed out.old) (O.failed out.new)
-        × IsFaultTold fault (E.written err.old) (E.written err.new) (E.failed err.old)
-        (E.failed err.new) }
+        × IsToldOf (I.holds inputs.old) command.now fault
+        (E.written err.old) (E.written err.new) (E.failed err.old) (E.failed err.new) }
     ensures statuses { result ≤ MEMORY }
     ensures words { result ≢ USAGE }
     ensures inputs { result ≡ DONE →
         AsksFor (I.asked inputs.old) (I.asked inputs.new) (inputs_of command.now) }
     ensures asks { AsksForFront (I.asked inputs.old) (I.asked inputs.new) (inputs_of command.now) }
 {
-    finish(serve(alloc, command, inputs, out), err)
+    match serve(alloc, command, inputs, out) {
+        Ok(()) => DONE,
+        Err(halt) => end(alloc, command, halt, err),
+    }
 }
 
 /// Takes the inputs, and writes the text that is asked for.
@@ -82,20 +92,23 @@ fn serve<'c, I: Inputs, O: Sink>(
     command: &Command<'c>,
     inputs: &mut I,
     out: &mut O,
-) -> Result<(), CommandFault<'c>>
+) -> Result<(), Halt<'c>>
     ensures done { OnOk result
         (IsDone (I.holds inputs.old) command.now (O.written out.old) (O.written out.new)) }
     ensures unfailed { OnOk result (O.failed out.new ≡ O.failed out.old) }
-    ensures stopped { IfErr result (λ fault. IsStopped (I.holds inputs.old) command.now fault
+    ensures stopped { IfErr result (λ halt. IsHalted (I.holds inputs.old) command.now halt
         (O.written out.old) (O.written out.new) (O.failed out.old) (O.failed out.new)) }
     ensures inputs { OnOk result
         (AsksFor (I.asked inputs.old) (I.asked inputs.new) (inputs_of command.now)) }
     ensures asks { AsksForFront (I.asked inputs.old) (I.asked inputs.new) (inputs_of command.now) }
 {
-    let taken = take_all(alloc, command, inputs)?;
-    match write_text(alloc, command.rules, &taken, &command.text, out) {
+    let taken = match take_all(alloc, command, inputs) {
+        Ok(taken) => taken,
+        Err(fault) => return Err(Halt::Untaken(fault)),
+    };
+    match write_at(alloc, command, &taken, out) {
         Ok(()) => Ok(()),
-        Err(fault) => Err(CommandFault::Tool(fault)),
+        Err(fault) => Err(Halt::Unwritten(fault, taken.script)),
     }
 }
 
@@ -170,22 +183,41 @@ fn take_named<'c, I: Inputs>(
     }
 }
 
+/// Writes the text that is asked for, of the lines of the script up to the one that is named.
+fn write_at<O: Sink>(
+    alloc: Global,
+    command: &Command<'_>,
+    taken: &Taken,
+    out: &mut O,
+) -> Result<(), ToolFault>
+    ensures { (answer : Result (List ℕ) ToolFault)
+        × IsTextAt command.now.at command.now.text (record {
+          rules = command.now.rules;
+          rows = option_map (λ bytes. bytes.items) taken.now.table;
+        }) taken.now.tree.items taken.now.script.items answer
+        × AnswersTo O.written O.failed answer result out.old out.new }
+{
+    let script = script_at(taken.script.as_slice(), command.at)?;
+    write_text(alloc, command.rules, taken, script, &command.text, out)
+}
+
 /// Writes the text that is asked for, by these rules, of these bytes of a listing, a script and a
 /// table.
 fn write_text<O: Sink>(
     alloc: Global,
     rules: Rules,
     taken: &Taken,
+    script: &[u8],
     text: &Text<'_>,
     out: &mut O,
 ) -> Result<(), ToolFault>
     ensures { (answer : Result (List ℕ) ToolFault) × IsTextAsked text.now (record {
       rules = rules;
       rows = option_map (λ bytes. bytes.items) taken.now.table;
-    }) taken.now.tree.items taken.now.script.items answer
+    }) taken.now.tree.items script.now answer
         × AnswersTo O.written O.failed answer result out.old out.new }
 {
-    let (tree, script) = (taken.tree.as_slice(), taken.script.as_slice());
+    let tree = taken.tree.as_slice();
     let rows = taken.table.as_ref().map(|bytes| bytes.as_slice());
     let table = TableChoice { rules, rows };
     match text {
@@ -198,6 +230,7 @@ fn write_text<O: Sink>(
         Text::Audit(words) => audit_by(alloc, tree, script, rules, &job_of(words, rows), out),
         Text::List(words) => list_to(alloc, tree, script, table, words, out),
         Text::How(words) => how_to(alloc, tree, script, table, words, out),
+        Text::Tree => tree_to(alloc, tree, script, table, out),
         Text::Tight => tight_to(alloc, tree, script, table, out),
         Text::TightWhy => tight_why_to(alloc, tree, script, table, out),
     }

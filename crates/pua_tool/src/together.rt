@@ -12,7 +12,7 @@ ghost use Rattle.pua_tool.specs.TogetherTexts.{together_text};
 use crate::acting::{check_members, check_veils, living_of, members_of};
 use crate::ever_fault::fault_of;
 use crate::fault::ToolFault;
-use crate::objects::told;
+use crate::objects::put_lists;
 use crate::script::{ProgramTree, Replay, replay_script};
 use crate::table::TableChoice;
 use pua_calls::{CallTable, Rules};
@@ -20,8 +20,7 @@ use pua_ever::{both_of, join, list_lasting};
 use pua_io::Sink;
 use pua_policy::Process;
 use pua_script::World;
-use pua_texts::{Joint, Member, answer_text, write_together};
-use pua_tree::OutOfMemory;
+use pua_texts::{Joint, Member, answer_text, begin_together};
 use pua_words::Processes;
 use std::alloc::Global;
 
@@ -78,9 +77,7 @@ fn list_to<S: Sink>(
     check_members(members, replay.world.table())?;
     let living = living_of(alloc, members)?;
     check_veils(alloc, living.as_slice())?;
-    let Ok(front) = answer_text(alloc, replay.answers.as_slice()) else {
-        return Err(ToolFault::OutOfMemory);
-    };
+    let front = answer_text(alloc, replay.answers.as_slice())?;
     let front = front.as_str();
     match living.as_slice().split_first() {
         Some((first, more)) => {
@@ -96,8 +93,8 @@ fn list_to<S: Sink>(
             )
         }
         None => {
-            let tree = replay.world.tree();
-            told(write_together(alloc, tree, rules, members, None, front, sink))
+            let lists = begin_together(alloc, rules, members, None)?;
+            put_lists(alloc, replay.world.tree(), front, lists, sink)
         }
     }
 }
@@ -123,9 +120,7 @@ fn joint_to<S: Sink>(
 {
     let (tree, table) = (world.tree(), world.table());
     let one = join_all(alloc, first, more, table)?;
-    let Ok(both) = both_of(alloc, &one, table) else {
-        return Err(ToolFault::OutOfMemory);
-    };
+    let both = both_of(alloc, &one, table)?;
     let list = match list_lasting(alloc, tree, &one, both.as_ref(), table) {
         Ok(list) => list,
         Err(fault) => return Err(fault_of(first.number, fault)),
@@ -134,7 +129,8 @@ fn joint_to<S: Sink>(
         one: &one,
         list: &list,
     });
-    told(write_together(alloc, tree, rules, members, joint, front, sink))
+    let lists = begin_together(alloc, rules, members, joint)?;
+    put_lists(alloc, tree, front, lists, sink)
 }
 
 /// Makes the process that stands for these. The only error is that a growth was refused.
@@ -155,8 +151,5 @@ fn join_all(
             return Err(ToolFault::OutOfMemory);
         };
     }
-    match join(alloc, first.process, others.as_slice(), table) {
-        Ok(one) => Ok(one),
-        Err(OutOfMemory) => Err(ToolFault::OutOfMemory),
-    }
+    Ok(join(alloc, first.process, others.as_slice(), table)?)
 }

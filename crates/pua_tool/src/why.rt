@@ -101,8 +101,9 @@ fn read_asked(
     }
 }
 
-/// The line of a script with this process and these fields behind it.
-fn line_of(alloc: Global, process: u32, fields: &[&[u8]]) -> Result<Vec<u8>, AllocError>
+/// The line of a script with this process and these fields behind it. The only error is that a
+/// growth was refused.
+pub(crate) fn line_of(alloc: Global, process: u32, fields: &[&[u8]]) -> Result<Vec<u8>, AllocError>
     ensures { IfOk result (λ line. line.items ≡ request_line process
         (map (λ field. field.now) fields.now)) }
 {

@@ -12,13 +12,13 @@ use Rattle.clap.proofs.WalkLemmas.{first_value-rows, one_text-rows, raw_values-r
 use Rattle.pua_audit.specs.declared.Base.{Base}
 use Rattle.pua_audit.specs.declared.Base.TheVariants.{Cwd, Root}
 use Rattle.pua_calls.specs.Calls.{rules_named}
-use Rattle.pua_words.specs.Commands.{AreFieldsOf, IsLimitText, IsNumberText, values_found}
+use Rattle.pua_words.specs.Commands.{AreFieldsOf, IsLimitText, IsNumberText, at_read, values_found}
 use Rattle.pua_words.specs.Grammar.{Parsers, pua_app}
 use Rattle.pua_words.specs.Plain.{IsMadeOf, Meanings, IsMeantBy, means}
 use Rattle.pua_words.specs.Reading.{HasInputsOf, IsCommandOf, IsListRead}
 use Rattle.pua_words.specs.declared.command.Command.{Command}
 use Rattle.pua_words.specs.declared.command.Processes.TheVariants.{One}
-use Rattle.pua_words.proofs.Walking.{audit_meets, Meets, process_meets, how_meets, objects_meets, pua_is_simple, run_meets, tight_meets, why_meets}
+use Rattle.pua_words.proofs.Walking.{audit_meets, Meets, process_meets, how_meets, objects_meets, pua_is_simple, run_meets, tight_meets, tree_meets, why_meets}
 
 some_is : {A : Type 0} {a b : A} → Some a ≡ Some b → a ≡ b
 some_is {A} {a} {b} e = ap (λ (o : Option A). unwrap_or o a) e
@@ -58,34 +58,37 @@ byte (b ∷ more) = b
 first_byte : {a b : Text} → Some a ≡ Some b → byte a ≡ byte b
 first_byte e = ap byte (some_is e)
 
-made_of : (found : Found) (rows : List Row) (tree script : Text) (command : Command) → HasInputsOf found command → rows_of found ≡ rows
-    → first_of (codes "tree") rows ≡ Some tree → first_of (codes "script") rows ≡ Some script
-    → first_of (codes "rules") rows ≡ Some (codes "profile") → first_of (codes "table") rows ≡ None → IsMadeOf tree script command
-made_of found rows tree script command inputs e is_tree is_script is_rules is_table = (
+made_of : (found : Found) (rows : List Row) (at : Option Text) (tree script : Text) (command : Command) → HasInputsOf found command
+    → rows_of found ≡ rows → first_of (codes "tree") rows ≡ Some tree → first_of (codes "script") rows ≡ Some script
+    → first_of (codes "at") rows ≡ at → first_of (codes "rules") rows ≡ Some (codes "profile") → first_of (codes "table") rows ≡ None
+    → IsMadeOf tree script at command
+made_of found rows at tree script command inputs e is_tree is_script is_at is_rules is_table = (
   some_is (inputs.tree ∙ value_is found _ rows _ e is_tree),
   some_is (inputs.script ∙ value_is found _ rows _ e is_script),
+  ap at_read (sym (value_is found _ rows _ e is_at)) ∙ inputs.at,
   inputs.rules ∙ ap rules_named (value_is found _ rows _ e is_rules),
   no_value _ command.table (inputs.table ∙ value_is found _ rows _ e is_table),
 )
 
 -- of words that meet a command it has their inputs, and what was found behind its name
-pub record Found_by (m : ArgMatches) (command : Command) (name tree script : Text) (Has : List Row → Type 0) : Type 0 where
+pub record Found_by (m : ArgMatches) (command : Command) (name : Text) (at : Option Text) (tree script : Text) (Has : List Row → Type 0) :
+    Type 0 where
   pub is_command : IsCommandOf m command
   pub name_is : is_command.name ≡ name
-  pub is_made : IsMadeOf tree script command
+  pub is_made : IsMadeOf tree script at command
   pub rows : List Row
   pub rows_are : rows_of is_command.found ≡ rows
   pub has : Has rows
 
-found_by : (p : Parsers) (m : ArgMatches) (command : Command) (words form : List Text) (name tree script : Text)
-    (Has : List Row → Type 0) → subcommand_rows_of m ≡ subcommand_of (pua_app p) words → IsCommandOf m command → words ≡ form
-    → Meets p form name tree script Has → Found_by m command name tree script Has
-found_by p m command words form name tree script Has met k is meets =
+found_by : (p : Parsers) (m : ArgMatches) (command : Command) (words form : List Text) (name : Text) (at : Option Text)
+    (tree script : Text) (Has : List Row → Type 0) → subcommand_rows_of m ≡ subcommand_of (pua_app p) words → IsCommandOf m command
+    → words ≡ form → Meets p form name at tree script Has → Found_by m command name at tree script Has
+found_by p m command words form name at tree script Has met k is meets =
     let b = behind m command name meets.rows k (met ∙ ap (subcommand_of (pua_app p)) is ∙ meets.is_met) in
     record {
       is_command = b.is_command;
       name_is = b.name_is;
-      is_made = made_of b.is_command.found meets.rows tree script command b.is_command.inputs b.rows_are meets.tree_is meets.script_is meets.rules_is meets.table_is;
+      is_made = made_of b.is_command.found meets.rows at tree script command b.is_command.inputs b.rows_are meets.tree_is meets.script_is meets.at_is meets.rules_is meets.table_is;
       rows = meets.rows;
       rows_are = b.rows_are;
       has = meets.has;
@@ -120,29 +123,34 @@ is_one = search rules
 pub meant : (p : Parsers) (m : ArgMatches) (command : Command) (words : List Text)
     → subcommand_rows_of m ≡ subcommand_of (pua_app p) words → IsCommandOf m command → Meanings words command
 meant p m command words met k = record {
-  run = λ why tree script is is_tree is_script.
-      let f = found_by p m command words _ _ tree script _ met k is (run_meets p why tree script is_tree is_script) in
+  run = λ why at tree script is is_at is_tree is_script.
+      let f = found_by p m command words _ _ at tree script _ met k is (run_meets p why at tree script is_at is_tree is_script) in
       (f.is_made, f.is_command.text.run f.name_is why (flag_is f.is_command.found _ f.rows _ f.rows_are f.has));
+  tree = λ at tree script is is_at is_tree is_script.
+      let f = found_by p m command words _ _ at tree script _ met k is (tree_meets p at tree script is_at is_tree is_script) in
+      (f.is_made, f.is_command.text.tree f.name_is);
   tight = λ why tree script is is_tree is_script.
-      let f = found_by p m command words _ _ tree script _ met k is (tight_meets p why tree script is_tree is_script) in
+      let f = found_by p m command words _ _ None tree script _ met k is (tight_meets p why tree script is_tree is_script) in
       (f.is_made, f.is_command.text.tight f.name_is why (flag_is f.is_command.found _ f.rows _ f.rows_are f.has));
-  objects = λ ever how why tree script is is_tree is_script.
-      let f = found_by p m command words _ _ tree script _ met k is (objects_meets p ever how why tree script is_tree is_script) in (
+  objects = λ ever how why at tree script is is_at is_tree is_script.
+      let f =
+      found_by p m command words _ _ at tree script _ met k is (objects_meets p ever how why at tree script is_at is_tree is_script) in (
         f.is_made,
         (f.is_command.text.objects f.name_is ever how why (flag_is f.is_command.found _ f.rows _ f.rows_are f.has.0)
             (flag_is f.is_command.found _ f.rows _ f.rows_are f.has.1) (flag_is f.is_command.found _ f.rows _ f.rows_are f.has.2)).1 (One 1)
             (subst (λ (t : Option Text). IsNumberText t 1) (sym (value_is f.is_command.found _ f.rows _ f.rows_are f.has.3)) is_one),
       );
-  of_process = λ ever how why process tree script is is_process is_tree is_script.
+  of_process = λ ever how why process at tree script is is_process is_at is_tree is_script.
       let f =
-      found_by p m command words _ _ tree script _ met k is (process_meets p ever how why process tree script is_process is_tree is_script) in (
+      found_by p m command words _ _ at tree script _ met k is (process_meets p ever how why process at tree script is_process is_at is_tree is_script) in (
         f.is_made,
         subst (λ (t : Option Text). IsListRead ever how why t command.text) (value_is f.is_command.found _ f.rows _ f.rows_are f.has.3)
             (f.is_command.text.objects f.name_is ever how why (flag_is f.is_command.found _ f.rows _ f.rows_are f.has.0)
             (flag_is f.is_command.found _ f.rows _ f.rows_are f.has.1) (flag_is f.is_command.found _ f.rows _ f.rows_are f.has.2)),
       );
-  how = λ tree script call path is is_tree is_script is_call is_path.
-      let f = found_by p m command words _ _ tree script _ met k is (how_meets p tree script call path is_tree is_script is_call is_path) in
+  how = λ at tree script call path is is_at is_tree is_script is_call is_path.
+      let f =
+      found_by p m command words _ _ at tree script _ met k is (how_meets p at tree script call path is_at is_tree is_script is_call is_path) in
       let h = f.is_command.text.how f.name_is in (
         f.is_made,
         (
@@ -154,9 +162,9 @@ meant p m command words met k = record {
           no_value _ h.0.kind (h.2.3 ∙ value_is f.is_command.found _ f.rows _ f.rows_are f.has.3),
         ),
       );
-  why = λ tree script call arguments is is_tree is_script is_call is_more.
+  why = λ at tree script call arguments is is_at is_tree is_script is_call is_more.
       let f =
-      found_by p m command words _ _ tree script _ met k is (why_meets p tree script call arguments is_tree is_script is_call is_more) in
+      found_by p m command words _ _ at tree script _ met k is (why_meets p at tree script call arguments is_at is_tree is_script is_call is_more) in
       let h = f.is_command.text.why f.name_is in (
         f.is_made,
         (
@@ -167,9 +175,9 @@ meant p m command words met k = record {
               (all_are f.is_command.found _ f.rows _ f.rows_are f.has.2) h.2.1,
         ),
       );
-  audit = λ limit tree script names is is_limit is_tree is_script is_more.
+  audit = λ limit at tree script names is is_limit is_at is_tree is_script is_more.
       let f =
-      found_by p m command words _ _ tree script _ met k is (audit_meets p limit tree script names is_limit is_tree is_script is_more) in
+      found_by p m command words _ _ at tree script _ met k is (audit_meets p limit at tree script names is_limit is_at is_tree is_script is_more) in
       let h = f.is_command.text.audit f.name_is in (
         f.is_made,
         (

@@ -44,6 +44,7 @@ objects_read (Err e) name found is form meant = tt
 objects_read (Ok None) name found is form meant = tt
 objects_read (Ok (Some text)) name found is form meant = record {
   run = λ n. absurd (let bad : 111 ≡ 114 = alike is n in omega arith);
+  tree = λ n. absurd (let bad : 111 ≡ 116 = alike is n in omega arith);
   tight = λ n. absurd (let bad : 111 ≡ 116 = alike is n in omega arith);
   objects = λ n ever how why e h w. (form ever how why e h w, meant ever how why e h w);
   why = λ n. absurd (let bad : 111 ≡ 119 = alike is n in omega arith);
@@ -58,6 +59,7 @@ why_read (Err e) name found is read = tt
 why_read (Ok None) name found is read = tt
 why_read (Ok (Some text)) name found is read = record {
   run = λ n. absurd (let bad : 119 ≡ 114 = alike is n in omega arith);
+  tree = λ n. absurd (let bad : 119 ≡ 116 = alike is n in omega arith);
   tight = λ n. absurd (let bad : 119 ≡ 116 = alike is n in omega arith);
   objects = λ n. absurd (let bad : 119 ≡ 111 = alike is n in omega arith);
   why = λ n. read;
@@ -66,13 +68,14 @@ why_read (Ok (Some text)) name found is read = record {
 }
 
 pub audit_read : {E : Type 0} (r : Result (Option Asked) E) (name : Text) (found : Found) → (name ≡ codes "run" → ⊥)
-    → (name ≡ codes "objects" → ⊥) → (name ≡ codes "why" → ⊥) → (name ≡ codes "tight" → ⊥) → (name ≡ codes "how" → ⊥)
+    → (name ≡ codes "tree" → ⊥) → (name ≡ codes "objects" → ⊥) → (name ≡ codes "why" → ⊥) → (name ≡ codes "tight" → ⊥) → (name ≡ codes "how" → ⊥)
     → IfOk r (λ text. IfSome text (λ text. (words : AuditWords) × (text ≡ Audit words) × IsAuditOf found words))
     → IfOk r (λ text. IfSome text (IsReadAs name found))
-audit_read (Err e) name found run objects why tight how read = tt
-audit_read (Ok None) name found run objects why tight how read = tt
-audit_read (Ok (Some text)) name found run objects why tight how read = record {
+audit_read (Err e) name found run tree objects why tight how read = tt
+audit_read (Ok None) name found run tree objects why tight how read = tt
+audit_read (Ok (Some text)) name found run tree objects why tight how read = record {
   run = λ n. absurd (run n);
+  tree = λ n. absurd (tree n);
   tight = λ n. absurd (tight n);
   objects = λ n. absurd (objects n);
   why = λ n. absurd (why n);

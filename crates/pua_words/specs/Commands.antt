@@ -6,7 +6,7 @@ use Rattle.std.specs.Str.Parse.{IsNumeral, digits_value, without_leading_plus}
 use Rattle.clap.specs.Matches.{matched_of, raw_values}
 use Rattle.clap.specs.declared.parser.matches.Found.{Found}
 use Rattle.pua_words.specs.declared.command.Text.{Text}
-use Rattle.pua_words.specs.declared.command.Text.TheVariants.{Run, RunWhy, Why, Audit, Tight, TightWhy, How}
+use Rattle.pua_words.specs.declared.command.Text.TheVariants.{Run, RunWhy, Why, Audit, Tree, Tight, TightWhy, How}
 use Rattle.pua_words.specs.declared.command.Text.TheVariants as text
 use Rattle.pua_words.specs.declared.command.Columns.{Columns}
 use Rattle.pua_words.specs.declared.command.Columns.TheVariants as columns
@@ -51,6 +51,11 @@ abbrev pub IsLimitText : Option (List ℕ) → ℕ → Type 0
 IsLimitText None limit = ⊥
 IsLimitText (Some text) limit = digits_value 10 (without_leading_plus text) ≡ limit
 
+-- the line after which a script is looked at, where a text has the number of one; none of any other text
+abbrev pub at_read : Option (List ℕ) → Option (Option ℕ)
+at_read None = Some None
+at_read (Some text) = option_map Some (number_within 0 MOST_NUMBER text)
+
 -- the values that were found of an id, in their order; none where it has no entry
 abbrev pub values_found : Found → List ℕ → List (List ℕ)
 values_found found id = unwrap_or (option_map raw_values (matched_of found id)) []
@@ -71,6 +76,7 @@ AsksSoundly RunWhy = ⊤
 AsksSoundly (Why words) = IsProcessNumber words.process
 AsksSoundly (Audit words) = IsProcessNumber words.process
 AsksSoundly (text.List words) = MayBeAsked words.whose
+AsksSoundly Tree = ⊤
 AsksSoundly Tight = ⊤
 AsksSoundly TightWhy = ⊤
 AsksSoundly (How words) = IsProcessNumber words.process

@@ -58,19 +58,26 @@ input_rules rules =
 abbrev pub process_rule : Option ValueParser → Rule
 process_rule process = judged process (by_default (codes "1") (option_rule (codes "process")))
 
+-- the line after which the script is looked at
+abbrev pub at_rule : Rule
+at_rule = option_rule (codes "at")
+
 abbrev pub run_app : Option ValueParser → App
-run_app rules = with_rules (with_rule (new_app (codes "run")) (flag_rule (codes "why"))) (input_rules rules)
+run_app rules = with_rules (with_rules (new_app (codes "run")) (flag_rule (codes "why") ∷ at_rule ∷ [])) (input_rules rules)
+
+abbrev pub tree_app : Option ValueParser → App
+tree_app rules = with_rules (with_rule (new_app (codes "tree")) at_rule) (input_rules rules)
 
 abbrev pub objects_app : Option ValueParser → App
 objects_app rules =
     with_rules
     (with_rules (new_app (codes "objects"))
     (flag_rule (codes "ever") ∷ flag_rule (codes "how") ∷ flag_rule (codes "why")
-    ∷ by_default (codes "1") (option_rule (codes "process")) ∷ [])) (input_rules rules)
+    ∷ by_default (codes "1") (option_rule (codes "process")) ∷ at_rule ∷ [])) (input_rules rules)
 
 abbrev pub why_app : Option ValueParser → Option ValueParser → App
 why_app process rules =
-    with_rules (with_rules (with_rule (new_app (codes "why")) (process_rule process)) (input_rules rules))
+    with_rules (with_rules (with_rules (new_app (codes "why")) (process_rule process ∷ at_rule ∷ [])) (input_rules rules))
     (required (operand_rule (codes "call")) ∷ operands_rule (codes "arguments") ∷ [])
 
 abbrev pub tight_app : Option ValueParser → App
@@ -78,7 +85,7 @@ tight_app rules = with_rules (with_rule (new_app (codes "tight")) (flag_rule (co
 
 abbrev pub how_app : Option ValueParser → Option ValueParser → Option ValueParser → App
 how_app process rules kind =
-    with_rules (with_rules (with_rule (new_app (codes "how")) (process_rule process)) (input_rules rules))
+    with_rules (with_rules (with_rules (new_app (codes "how")) (process_rule process ∷ at_rule ∷ [])) (input_rules rules))
     (required (operand_rule (codes "call")) ∷ required (operand_rule (codes "path"))
     ∷ judged kind (operand_rule (codes "kind")) ∷ [])
 
@@ -93,7 +100,7 @@ walk_rules process base =
 
 abbrev pub audit_app : Option ValueParser → Option ValueParser → Option ValueParser → App
 audit_app process base rules =
-    with_rule (with_rules (with_rules (new_app (codes "audit")) (walk_rules process base)) (input_rules rules))
+    with_rule (with_rules (with_rule (with_rules (new_app (codes "audit")) (walk_rules process base)) at_rule) (input_rules rules))
     (operands_rule (codes "names"))
 
 -- the program, without its commands
@@ -106,6 +113,7 @@ program_app = record {
 -- which texts the values of each command may be
 pub record Parsers : Type 0 where
   pub run : Option ValueParser
+  pub tree : Option ValueParser
   pub objects : Option ValueParser
   pub why_process : Option ValueParser
   pub why : Option ValueParser
@@ -123,7 +131,7 @@ pua_app p =
     (with_subcommand
     (with_subcommand
     (with_subcommand
-    (with_subcommand (with_subcommand program_app (run_app p.run).top) (objects_app p.objects).top)
+    (with_subcommand (with_subcommand (with_subcommand program_app (run_app p.run).top) (tree_app p.tree).top) (objects_app p.objects).top)
     (why_app p.why_process p.why).top) (tight_app p.tight).top)
     (how_app p.how_process p.how p.how_kind).top) (audit_app p.audit_process p.audit_base p.audit).top
 

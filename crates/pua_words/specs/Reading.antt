@@ -8,7 +8,7 @@ use Rattle.clap.specs.declared.parser.matches.Found.{Found}
 use Rattle.pua_audit.specs.declared.Base.TheVariants.{Cwd}
 use Rattle.pua_calls.specs.Calls.{rules_named}
 use Rattle.pua_objects.specs.Lines.{kind_word}
-use Rattle.pua_words.specs.Commands.{AreFieldsOf, IsLimitText, IsNumberText, IsTextOf, columns_meant, run_asked, span_meant}
+use Rattle.pua_words.specs.Commands.{AreFieldsOf, IsLimitText, IsNumberText, IsTextOf, at_read, columns_meant, run_asked, span_meant}
 use Rattle.pua_words.specs.Commands.{tight_asked, values_found}
 use Rattle.pua_words.specs.declared.command.AuditWords.{AuditWords}
 use Rattle.pua_words.specs.declared.command.Command.{Command}
@@ -16,7 +16,7 @@ use Rattle.pua_words.specs.declared.command.HowWords.{HowWords}
 use Rattle.pua_words.specs.declared.command.Processes.{Processes}
 use Rattle.pua_words.specs.declared.command.Processes.TheVariants.{One, Named, All}
 use Rattle.pua_words.specs.declared.command.Text.{Text}
-use Rattle.pua_words.specs.declared.command.Text.TheVariants.{Audit, How, Why}
+use Rattle.pua_words.specs.declared.command.Text.TheVariants.{Audit, How, Tree, Why}
 use Rattle.pua_words.specs.declared.command.Text.TheVariants as text
 use Rattle.pua_words.specs.declared.command.WhyWords.{WhyWords}
 
@@ -68,6 +68,7 @@ IsAuditOf found words =
 -- the text is that of the command of this name, as its options and operands were found
 pub record IsReadAs (name : List ℕ) (found : Found) (text : Text) : Type 0 where
   pub run : name ≡ codes "run" → (why : Bool) → IsFlag found (codes "why") why → text ≡ run_asked why
+  pub tree : name ≡ codes "tree" → text ≡ Tree
   pub tight : name ≡ codes "tight" → (why : Bool) → IsFlag found (codes "why") why → text ≡ tight_asked why
   pub objects : name ≡ codes "objects" → (ever how why : Bool) → IsFlag found (codes "ever") ever → IsFlag found (codes "how") how
       → IsFlag found (codes "why") why → IsListRead ever how why (first_value found (codes "process")) text
@@ -79,6 +80,7 @@ pub record IsReadAs (name : List ℕ) (found : Found) (text : Text) : Type 0 whe
 pub record HasInputsOf (found : Found) (command : Command) : Type 0 where
   pub tree : Some command.tree.now ≡ first_value found (codes "tree")
   pub script : Some command.script.now ≡ first_value found (codes "script")
+  pub at : at_read (first_value found (codes "at")) ≡ Some command.at
   pub rules : command.rules ≡ rules_named (first_value found (codes "rules"))
   pub table : option_map (λ name. name.now) command.table ≡ first_value found (codes "table")
 

@@ -11,6 +11,9 @@ pub struct Command<'a> {
     pub tree: &'a str,
     /// The name of the input with the script.
     pub script: &'a str,
+    /// The line after which the script is looked at: its first lines up to this one are taken for
+    /// the whole script; 0 for none of them. None for all lines.
+    pub at: Option<u32>,
     /// Whose rules are gone by.
     pub rules: Rules,
     /// The name of the input with rows in the place of those of the rules; None for the rules
@@ -34,6 +37,8 @@ pub enum Text<'a> {
     /// The same as a run's, or with reasons, and then what processes may still do, object by
     /// object, now or for ever.
     List(ListWords),
+    /// The listing of the tree that the script leaves.
+    Tree,
     /// The script, without the promises and letters that none of its answers needs.
     Tight,
     /// What each promise and letter of the script is needed by.

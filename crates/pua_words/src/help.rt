@@ -6,11 +6,15 @@ pub(crate) const PROGRAM_USAGE: &str =
 
 /// How a list of objects is asked for, of now or for ever, in one line.
 pub(crate) const OBJECTS_USAGE: &str =
-    "pua: usage: pua objects [--ever [--how]|--why] [--process P,...|all] [--rules profile|openbsd] [--table FILE] TREE SCRIPT";
+    "pua: usage: pua objects [--ever [--how]|--why] [--process P,...|all] [--at N] [--rules profile|openbsd] [--table FILE] TREE SCRIPT";
 
 /// How it is asked why a request is answered as it is, in one line.
 pub(crate) const WHY_USAGE: &str =
-    "pua: usage: pua why [--process P] [--rules profile|openbsd] [--table FILE] TREE SCRIPT CALL [ARG...]";
+    "pua: usage: pua why [--process P] [--at N] [--rules profile|openbsd] [--table FILE] TREE SCRIPT CALL [ARG...]";
+
+/// How the listing of the tree behind a script is asked for, in one line.
+pub(crate) const TREE_USAGE: &str =
+    "pua: usage: pua tree [--at N] [--rules profile|openbsd] [--table FILE] TREE SCRIPT";
 
 /// How a script is asked for without what none of its answers needs, in one line.
 pub(crate) const TIGHT_USAGE: &str =
@@ -18,12 +22,14 @@ pub(crate) const TIGHT_USAGE: &str =
 
 /// How a way is asked for to what can ever be touched, in one line.
 pub(crate) const HOW_USAGE: &str =
-    "pua: usage: pua how [--process P] [--rules profile|openbsd] [--table FILE] TREE SCRIPT CALL PATH [KIND]";
+    "pua: usage: pua how [--process P] [--at N] [--rules profile|openbsd] [--table FILE] TREE SCRIPT CALL PATH [KIND]";
 
 pub(crate) const PUA: &str =
     "Lists what a pledged and unveiled process may still do to a file tree";
 
 pub(crate) const RUN: &str = "Serves the calls of a script over a tree, and prints each answer";
+
+pub(crate) const TREE_AFTER: &str = "Serves a script, then lists the tree that it leaves";
 
 pub(crate) const OBJECTS: &str =
     "Serves a script, then lists each object and the calls still allowed";
@@ -69,6 +75,8 @@ pub(crate) const HOW_CALL: &str = "The call, one with one path";
 pub(crate) const HOW_PATH: &str = "What it is about, as a list for ever prints it, or `new`";
 
 pub(crate) const HOW_KIND: &str = "Which line of PATH: dir, file, prog, link, missing, other";
+
+pub(crate) const AT: &str = "Serve no line of SCRIPT behind line N";
 
 pub(crate) const PROCESSES: &str = "Process number, 1 to 999999, or `all`";
 
@@ -134,7 +142,7 @@ A line of SCRIPT is a process P, a call and its arguments, one blank between:
   P fork Q                        (Q is the number of the new process)
   P exit
 
-A fault is one line on standard error. It says, or most often comes from:
+A fault is a line on standard error. It says, or most often comes from:
   table: bad toml      FILE is no TOML document
   table: bad key       a key is not the name of a call from stat to exec, nor of
                        connect to fchown with `--rules openbsd`
@@ -175,7 +183,22 @@ the same call would have had another reason.
   EACCES no w in veil r on /d      the veil that does lacks a letter
   ENOENT old: /d is missing        of two paths it says which one it is about
 pua(1) lists all reasons.",
-    ""
+    "
+  no such line         SCRIPT ends before the line that `--at` names"
+);
+
+pub(crate) const TREE_OUTPUT: &str = with_calls_and_faults!(
+    "\
+Serves SCRIPT, and prints the listing of the tree that it leaves: a TREE, which
+is read as this tree under new numbers. Its lines count from 1, a name comes in
+front of what is beneath it, and the names of a directory by their bytes. It
+begins with `tree 1`; with `tree 2` where something has two names; and with
+`tree 3` where there are over 4096 lines or TREE began so.
+
+Example: pua tree TREE SCRIPT > LATER",
+    "
+  no such line         SCRIPT ends before the line that `--at` names
+  tree: too many names the tree behind SCRIPT has more than 1000000"
 );
 
 pub(crate) const WHY_OUTPUT: &str = with_calls_and_faults!(
@@ -194,6 +217,7 @@ stand behind `--`.
 
 Example: pua why --process 2 TREE SCRIPT rename /tmp/new /etc/passwd",
     "
+  no such line         SCRIPT ends before the line that `--at` names
   request: line 1: ..  CALL and what is behind it are no line of SCRIPT: one of
                        the faults above"
 );
@@ -241,6 +265,7 @@ on, and a new link leads to `target`.
 
 Example: pua how TREE SCRIPT open-r /in/secret",
     "
+  no such line         SCRIPT ends before the line that `--at` names
   no such process      no fork of SCRIPT made it: its answer says why
   process P can still unveil
                        it has to be locked, or without the promise `unveil`
@@ -305,6 +330,7 @@ veil was put, these are three times -. There are no such columns with `--ever`.
 
 Example: pua objects --process all TREE SCRIPT",
     "
+  no such line         SCRIPT ends before the line that `--at` names
   no such process      no fork of SCRIPT made it: its answer says why
   process P can still unveil
                        `--ever` is for a process that is locked, or without the
@@ -324,6 +350,7 @@ Prints what `pua run` prints, then `reach P`, then `PATH CALL` for each pair.
 
 Example: pua audit --limit 3 --base cwd --after stat:etc TREE SCRIPT core",
     "
+  no such line         SCRIPT ends before the line that `--at` names
   no such process      no fork of SCRIPT made it: its answer says why
   limit too large      `--limit` is above 16
   paths too long       the limit times one more than the longest name is above

@@ -14,6 +14,8 @@ pub enum UsageLine {
     Objects,
     /// How it is asked why a request is answered as it is.
     Why,
+    /// How the listing of the tree behind a script is asked for.
+    Tree,
     /// How a script is asked for without what none of its answers needs.
     Tight,
     /// How a way is asked for to what can ever be touched.
@@ -29,6 +31,7 @@ impl UsageLine {
         match words.first() {
             Some(first) if *first == "objects" => UsageLine::Objects,
             Some(first) if *first == "why" => UsageLine::Why,
+            Some(first) if *first == "tree" => UsageLine::Tree,
             Some(first) if *first == "tight" => UsageLine::Tight,
             Some(first) if *first == "how" => UsageLine::How,
             _ => UsageLine::Program,
@@ -43,6 +46,7 @@ impl UsageLine {
             UsageLine::Program => help::PROGRAM_USAGE,
             UsageLine::Objects => help::OBJECTS_USAGE,
             UsageLine::Why => help::WHY_USAGE,
+            UsageLine::Tree => help::TREE_USAGE,
             UsageLine::Tight => help::TIGHT_USAGE,
             UsageLine::How => help::HOW_USAGE,
         }

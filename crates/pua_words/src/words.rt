@@ -9,16 +9,16 @@ ghost use Rattle.pua_objects.specs.Lines.{kind_word};
 ghost use Rattle.pua_words.specs.Commands.{AreFieldsOf, AreIn, AsksSoundly, HasNoNumbers};
 ghost use Rattle.pua_words.specs.Commands.{IsLimitText, IsNumberText, IsProcessNumber, IsTextOf};
 ghost use Rattle.pua_words.specs.Commands.{MayBeAsked, columns_meant, run_asked, span_meant};
-ghost use Rattle.pua_words.specs.Commands.{tight_asked, values_found};
+ghost use Rattle.pua_words.specs.Commands.{at_read, tight_asked, values_found};
 ghost use Rattle.clap.specs.Walk.{Rule};
 ghost use Rattle.clap.specs.Simple.{App, new_app, with_rule, with_subcommand};
 ghost use Rattle.clap.specs.declared.builder.value_parser.ValueParser.{ValueParser};
-ghost use Rattle.pua_words.specs.Grammar.{IsArg, IsBuilt, Parsers, audit_app, by_default};
+ghost use Rattle.pua_words.specs.Grammar.{IsArg, IsBuilt, Parsers, at_rule, audit_app, by_default};
 ghost use Rattle.pua_words.specs.Grammar.{flag_rule, how_app, input_rules};
 ghost use Rattle.pua_words.specs.Grammar.{judged, objects_app, operand_rule};
 ghost use Rattle.pua_words.specs.Grammar.{operands_rule, option_rule, process_rule, program_app};
-ghost use Rattle.pua_words.specs.Grammar.{pua_app, required, run_app, tight_app, walk_rules};
-ghost use Rattle.pua_words.specs.Grammar.{limit_rule, why_app, with_rules};
+ghost use Rattle.pua_words.specs.Grammar.{pua_app, required, run_app, tight_app, tree_app};
+ghost use Rattle.pua_words.specs.Grammar.{limit_rule, walk_rules, why_app, with_rules};
 ghost use Rattle.pua_words.specs.Reading.{IsAuditOf, IsCommandOf, IsFlag, IsListOf, IsListText};
 ghost use Rattle.pua_words.specs.Reading.{HasInputsOf, IsReadAs, IsWhyOf, list_meant};
 ghost use Rattle.pua_words.specs.declared.command.AuditWords.{AuditWords};
@@ -70,11 +70,12 @@ impl From<AllocError> for Stop {
 /// lines of [`UsageLine`], as `clap` reads them: which words those are is in no contract.
 ///
 /// Where words in a plain form are a command, it is the one that they name, of the inputs that they
-/// name, by the standard rules: `run` and `tight`, with `--why` or without; `objects`, with
+/// name, by the standard rules: `run` and `tight`, with `--why` or without; `tree`; `objects`, with
 /// its other options or without, of process 1, or behind these `--process` with a number, several,
 /// or `all`; `why` and `how`, of process 1, with the call and what stands behind it; and `audit
-/// --limit N`, of process 1, from the root, with the names behind it. There each word beside the
-/// options begins with no hyphen.
+/// --limit N`, of process 1, from the root, with the names behind it. In each but `tight` the
+/// last option may be `--at` with a line's number, 0 to 999,999 in decimal. There each word beside
+/// the options begins with no hyphen.
 pub fn read_words<'a>(alloc: Global, words: &'a [&'a str]) -> Result<Command<'a>, Stop>
     ensures process { IfOk result (λ command. AsksSoundly command.text) }
     ensures stop { IfErr result (IsStop (map (λ word. word.now) words.now)) }
@@ -117,6 +118,7 @@ fn read_text<'a>(
 {
     match name {
         "run" => Ok(Some(run_of(flag_of(found, "why")))),
+        "tree" => Ok(Some(Text::Tree)),
         "objects" => read_objects(alloc, found),
         "why" => why_of(alloc, found),
         "tight" => Ok(Some(tight_of(flag_of(found, "why")))),
@@ -156,6 +158,7 @@ fn pua_command<'a>(alloc: Global) -> Built<'a>
     ensures { (parsers : Parsers) × IsBuilt (pua_app parsers) result }
 {
     let pua = with_command(program(alloc), run_command(alloc));
+    let pua = with_command(pua, tree_command(alloc));
     let pua = with_command(pua, objects_command(alloc));
     let pua = with_command(pua, why_command(alloc));
     let pua = with_command(pua, tight_command(alloc));
@@ -181,7 +184,14 @@ fn run_command<'a>(alloc: Global) -> Built<'a>
 {
     let run = command(alloc, "run", help::RUN, help::RUN_OUTPUT);
     let run = with(run, flag(alloc, "why", help::RUN_WHY));
-    with_inputs(alloc, run)
+    with_inputs(alloc, with(run, at(alloc)))
+}
+
+fn tree_command<'a>(alloc: Global) -> Built<'a>
+    ensures { (rules : Option ValueParser) × IsBuilt (tree_app rules) result }
+{
+    let tree = command(alloc, "tree", help::TREE_AFTER, help::TREE_OUTPUT);
+    with_inputs(alloc, with(tree, at(alloc)))
 }
 
 fn objects_command<'a>(alloc: Global) -> Built<'a>
@@ -192,14 +202,15 @@ fn objects_command<'a>(alloc: Global) -> Built<'a>
     let objects = with(objects, flag(alloc, "how", help::EVER_HOW));
     let objects = with(objects, flag(alloc, "why", help::OBJECTS_WHY));
     let objects = with(objects, processes(alloc));
-    with_inputs(alloc, objects)
+    with_inputs(alloc, with(objects, at(alloc)))
 }
 
 fn why_command<'a>(alloc: Global) -> Built<'a>
     ensures { (process rules : Option ValueParser) × IsBuilt (why_app process rules) result }
 {
     let why = command(alloc, "why", help::WHY, help::WHY_OUTPUT);
-    let why = with_inputs(alloc, with(why, process(alloc)));
+    let why = with(why, process(alloc));
+    let why = with_inputs(alloc, with(why, at(alloc)));
     let why = with(
         why,
         operand(alloc, "call", "CALL", help::CALL).required(true),
@@ -220,7 +231,8 @@ fn how_command<'a>(alloc: Global) -> Built<'a>
         × IsBuilt (how_app process rules kind) result }
 {
     let how = command(alloc, "how", help::HOW, help::HOW_OUTPUT);
-    let how = with_inputs(alloc, with(how, process(alloc)));
+    let how = with(how, process(alloc));
+    let how = with_inputs(alloc, with(how, at(alloc)));
     let how = with(
         how,
         operand(alloc, "call", "CALL", help::HOW_CALL).required(true),
@@ -237,7 +249,8 @@ fn audit_command<'a>(alloc: Global) -> Built<'a>
         × IsBuilt (audit_app process base rules) result }
 {
     let audit = command(alloc, "audit", help::AUDIT, help::AUDIT_OUTPUT);
-    let audit = with_inputs(alloc, with_walk(alloc, audit));
+    let audit = with_walk(alloc, audit);
+    let audit = with_inputs(alloc, with(audit, at(alloc)));
     with(audit, operands(alloc, "names", "NAME", help::NAMES))
 }
 
@@ -354,6 +367,12 @@ fn processes<'a>(alloc: Global) -> Arg<'a>
     option(alloc, "process", "P,...|all", help::PROCESSES).default_value("1")
 }
 
+fn at<'a>(alloc: Global) -> Arg<'a>
+    ensures { IsArg at_rule result }
+{
+    option(alloc, "at", "N", help::AT)
+}
+
 fn base<'a>(alloc: Global) -> Arg<'a>
     ensures { IsArg (judged result.value_parser
         (by_default (codes "root") (option_rule (codes "base")))) result }
@@ -433,7 +452,8 @@ fn flag_of(found: &ArgMatches<'_>, id: &str) -> bool
     found.get_flag(id)
 }
 
-/// The inputs that all commands have, and the text that is asked for.
+/// The inputs that all commands have, and the text that is asked for. None where one is missing,
+/// and where the text of `--at` is no line's number.
 fn read_inputs<'a>(found: &ArgMatches<'a>, text: Text<'a>) -> Option<Command<'a>>
     ensures text { IfSome result (λ command. command.text ≡ text.entry) }
     ensures tree { IfSome result (λ command.
@@ -444,6 +464,8 @@ fn read_inputs<'a>(found: &ArgMatches<'a>, text: Text<'a>) -> Option<Command<'a>
         ≡ rules_named (first_value (found_of found.now) (codes "rules"))) }
     ensures table { IfSome result (λ command. option_map (λ name. name.now) command.table
         ≡ first_value (found_of found.now) (codes "table")) }
+    ensures at { IfSome result (λ command.
+        at_read (first_value (found_of found.now) (codes "at")) ≡ Some command.at) }
     ensures inputs { IfSome result (HasInputsOf (found_of found.now)) }
 {
     let (Some(tree), Some(script)) = (found.get_str("tree"), found.get_str("script")) else {
@@ -452,10 +474,22 @@ fn read_inputs<'a>(found: &ArgMatches<'a>, text: Text<'a>) -> Option<Command<'a>
     Some(Command {
         tree,
         script,
+        at: read_at(found.get_str("at"))?,
         rules: Rules::named(found.get_str("rules")),
         table: found.get_str("table"),
         text,
     })
+}
+
+/// The line after which a script is looked at, where a text names one: a decimal as in a script, or
+/// 0, for the moment before the first line. None for any other text.
+fn read_at(text: Option<&str>) -> Option<Option<u32>>
+    ensures { result ≡ at_read (option_map (λ s. s.now) text.entry) }
+{
+    match text {
+        Some(text) => number_within(0, MOST_NUMBER, text.as_bytes()).map(Some),
+        None => Some(None),
+    }
 }
 
 /// The text of a run, with reasons or without.

@@ -11,8 +11,8 @@ our @EXPORT_OK = qw(chain_fault);
 # A letter for the first word of each line behind its side.
 my %LETTER = (needs => 'n', link => 'l', names => 'm', veil => 'v', no => 'v');
 
-# The lines of a call with one path, and with two, that passes all checks.
-my ($ONE, $TWO) = ('nl*mv', 'nl*ml*mvv');
+# The lines of a call with one path, with two, and without, that passes all checks.
+my ($ONE, $TWO, $NONE) = ('nl*mv', 'nl*ml*mvv', 'n');
 
 # How far a call comes that is refused for a reason of a kind, by the side that it is about. By any other kind it
 # comes to its end; what is missing or no directory may be what a path names, or stand on its way; and where the new
@@ -35,7 +35,7 @@ sub chain_fault {
     my $letters = join '', map { $LETTER{ (split / /, s/\A(?:old|new): //r)[0] } // '?' } @lines;
     my $told    = $case->{told};
     my ($kind, $side) = ($told->{kind} // 'none', $told->{side} // '');
-    my $whole   = @paths == 2 ? $TWO : $ONE;
+    my $whole   = $call eq 'uses' ? $NONE : @paths == 2 ? $TWO : $ONE;
     my $pattern = $COMES_TO{$kind} ? $COMES_TO{$kind}{$side} : $whole;
     $pattern .= "|$BY_PATH{$side}" if $IS_EITHER{$kind};
     $pattern .= '|n' if $kind eq 'promises' && @paths == 2;

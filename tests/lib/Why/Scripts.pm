@@ -25,6 +25,9 @@ my @SELDOM = (
 );
 my $SELDOM_IN = 8;
 
+# What a line may ask beside these, in a call without a path.
+my @WITHOUT_PATH = ('uses USED') x 5;
+
 my @CALLS = (
     qw(stat lstat readlink open-r open-w open-rw open-rw create create),
     qw(mkdir mkdir rmdir rmdir unlink chmod chdir exec exec),
@@ -89,12 +92,14 @@ sub _high {
 sub _drawn {
     my ($worlds) = @_;
     my $asker   = $worlds->pick(1, 1, 2, 2, 3, 3);
-    my $request = 'ASKER ' . $worlds->pick($worlds->number($SELDOM_IN) ? @REQUESTS : @SELDOM);
+    my @requests = (@REQUESTS, $worlds->uses ? @WITHOUT_PATH : ());
+    my $request = 'ASKER ' . $worlds->pick($worlds->number($SELDOM_IN) ? @requests : @SELDOM);
     my %drawn   = (
         ASKER    => sub { $asker },
         PATH     => sub { $worlds->path },
         HIGH     => sub { _high($worlds) },
         NAME     => sub { $worlds->name },
+        USED     => sub { $worlds->used },
         CALL     => sub { $worlds->pick(@CALLS, $worlds->{further} ? qw(connect bind bind mknod mknod chown create-rw fchmod fchown) : ()) },
         LETTERS  => sub { $worlds->pick(@LETTERS) },
         PROMISES => sub { $worlds->promises(@PROMISES) },

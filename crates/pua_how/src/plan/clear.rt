@@ -1,147 +1,105 @@
 //! Taking away what stands in the way: at a name, and in a directory.
 
 use crate::plan::Search;
-use crate::plan::draft::{Draft, Stop};
-use crate::plan::forms::Source;
-use crate::plan::planner::{Row, Slot};
-use crate::plan::rights::By;
-use crate::step::{At, Dir};
-use pua_calls::Call;
+use crate::plan::draft::{Draft, Stop, is_open};
+use crate::plan::planner::{By, Row};
 use pua_policy::Object;
-use pua_tree::{Kind, NodeId};
-
-/// The call that removes what stands at a name.
-fn remover(row: &Row) -> Call {
-    if row.is_dir {
-        Call::Rmdir
-    } else {
-        Call::Unlink
-    }
-}
+use pua_tree::Kind;
 
 impl Search<'_, '_> {
     /// Whether what stands there is needed later: it is followed, or something waits in it.
     fn is_kept(&self, draft: &Draft, row: &Row) -> bool {
-        match (row.node, draft.kept) {
-            (Some(node), Some(kept)) if self.planner.is_within(kept, node) => true,
-            (Some(_), _) => self.followed == row.node,
-            (None, _) => false,
-        }
+        let places = self.planner.extent(row);
+        let is_within = draft.kept.is_some_and(|kept| places.contains(&kept));
+        row.node.is_some() && (is_within || row.node == self.followed)
     }
 
     /// Whether what stands there can be removed, once it is empty.
     pub(crate) fn is_removable(&self, draft: &Draft, row: &Row) -> bool {
-        let need = self.planner.rights.call(remover(row));
+        let need = self.planner.call(row.remover());
         need.is_met(&row.cover) && !self.is_kept(draft, row)
     }
 
     /// Whether what stands there can be moved.
     pub(crate) fn is_movable(&self, row: &Row) -> bool {
-        self.planner
-            .rights
-            .gives(By::Rename, false)
-            .is_met(&row.cover)
+        let gives = self.planner.gives(By::Rename, false);
+        gives.is_met(&row.cover)
     }
 
-    /// Whether what stands there gives way to what is moved onto it, once it is empty.
-    fn gives_way(&self, draft: &Draft, row: &Row, mover: &Source) -> bool {
-        let takes = self.planner.rights.takes(By::Rename);
-        mover.by == By::Rename
-            && mover.is_dir == row.is_dir
-            && (!row.is_dir || takes.is_met(&row.cover))
-            && !self.is_kept(draft, row)
-    }
-
-    /// Frees a name with a veil of its own for what comes there.
-    pub(crate) fn free(&self, draft: &mut Draft, slot: &Slot, mover: &Source) -> Result<(), Stop> {
-        let row = self.planner.row(slot)?;
-        if !draft.is_open(slot.place) {
+    /// Frees a name with a veil of its own for what comes there: a directory or not, and how. What
+    /// is moved onto its like replaces that, once it is empty.
+    pub(crate) fn free(&self, draft: &mut Draft, row: &Row, mover: (bool, By)) -> Result<(), Stop> {
+        if !is_open(draft.closed.as_slice(), row.place) {
             return Ok(());
         }
-        draft.close(slot.place..slot.place.saturating_add(1))?;
-        let Some(node) = row.node else {
-            return Ok(());
-        };
-        if !row.is_dir && self.followed == Some(node) {
+        let places = self.planner.extent(row);
+        draft.close(self.planner.extent(row))?;
+        if !row.is_dir() && row.node.is_some() && row.node == self.followed {
             return Err(Stop::NoWay);
         }
-        draft.close(self.planner.extent(node))?;
-        let gives_way = self.gives_way(draft, row, mover);
-        if self.take_away(draft, row, gives_way)? {
+        let takes = !row.is_dir() || self.planner.takes(By::Rename).is_met(&row.cover);
+        if mover != (row.is_dir(), By::Rename) || !takes || self.is_kept(draft, row) {
+            return self.take_away(draft, self.planner.rows_at(places));
+        }
+        if row.object != Object::Node(Kind::Dir) || self.move_away(draft, row)? {
             return Ok(());
         }
-        self.empty(draft, node)?;
-        self.remove(draft, row, gives_way)
+        self.empty(draft, row)
     }
 
-    /// The name of a row in a step.
-    fn at(&self, row: &Row) -> Result<At, Stop> {
-        self.planner.at(&row.slot.ok_or(Stop::NoWay)?)
+    /// Empties a directory. Nothing is put into it any more.
+    pub(crate) fn empty(&self, draft: &mut Draft, dir: &Row) -> Result<(), Stop> {
+        let places = self.planner.extent(dir);
+        let below = places.start.saturating_add(1)..places.end;
+        draft.close(places)?;
+        self.take_away(draft, self.planner.rows_at(below))
     }
 
-    /// Removes what stands at a name, where it doesn't give way.
-    fn remove(&self, draft: &mut Draft, row: &Row, gives_way: bool) -> Result<(), Stop> {
-        if gives_way {
-            return Ok(());
+    /// Takes away what stands at rows: it is removed, or moved away with all that is below it. A
+    /// directory for which neither is possible is removed once the others are taken out.
+    fn take_away(&self, draft: &mut Draft, rows: &[Row]) -> Result<(), Stop> {
+        let mut emptied = Vec::new(self.planner.alloc);
+        let mut next = 0;
+        for row in rows {
+            if row.node.is_none() || row.place < next {
+                continue;
+            }
+            let is_removable = self.is_removable(draft, row);
+            if is_removable && row.object != Object::Node(Kind::Dir) {
+                draft.call(row.remover(), &row.at())?;
+            } else if self.move_away(draft, row)? {
+                next = self.planner.extent(row).end;
+            } else if !is_removable {
+                return Err(Stop::NoWay);
+            } else if emptied.push(*row).is_err() {
+                return Err(Stop::OutOfMemory);
+            }
         }
-        let slot = row.slot.ok_or(Stop::NoWay)?;
-        let name = self.planner.name(slot.place).ok_or(Stop::NoWay)?;
-        let at = At::Name(Dir::Standing(slot.dir), *name);
-        Ok(draft.call(remover(row), &at)?)
+        self.remove(draft, emptied.as_slice())
     }
 
-    /// Takes away what stands at a name: it is removed, or moved. False where it is a directory
-    /// that is to be removed once it is emptied.
-    fn take_away(&self, draft: &mut Draft, row: &Row, gives_way: bool) -> Result<bool, Stop> {
-        let is_removed = gives_way || self.is_removable(draft, row);
-        if is_removed && row.object != Object::Node(Kind::Dir) {
-            self.remove(draft, row, gives_way)?;
-            return Ok(true);
+    /// Removes directories, the last one first.
+    fn remove(&self, draft: &mut Draft, rows: &[Row]) -> Result<(), Stop> {
+        for row in rows.iter().rev() {
+            draft.call(row.remover(), &row.at())?;
         }
-        match self.move_away(draft, row) {
-            Ok(()) => Ok(true),
-            Err(Stop::NoWay) if is_removed => Ok(false),
-            Err(stop) => Err(stop),
-        }
+        Ok(())
     }
 
-    /// Moves what stands at a name to where there is room for it.
-    pub(crate) fn move_away(&self, draft: &mut Draft, row: &Row) -> Result<(), Stop> {
+    /// Moves what stands at a name to where there is room for it. False where there is none, or
+    /// it can't be moved.
+    pub(crate) fn move_away(&self, draft: &mut Draft, row: &Row) -> Result<bool, Stop> {
         if !self.is_movable(row) {
-            return Err(Stop::NoWay);
+            return Ok(false);
         }
-        let room = self.room(draft)?;
-        draft.bring(By::Rename, &self.at(row)?, &room)?;
+        let room = match self.room(draft) {
+            Err(Stop::NoWay) => return Ok(false),
+            room => room?,
+        };
+        draft.bring(By::Rename, &row.at(), &room)?;
         if row.node == self.followed {
             draft.from = Some(room);
         }
-        Ok(())
-    }
-
-    /// Empties a directory: what stands in it is removed, or moved away, or removed with all that
-    /// is below it. Nothing is put into it any more.
-    pub(crate) fn empty(&self, draft: &mut Draft, dir: NodeId) -> Result<(), Stop> {
-        draft.close(self.planner.extent(dir))?;
-        for row in self.planner.below(dir) {
-            match (row.slot, row.node) {
-                (Some(slot), Some(node)) if slot.dir == dir => self.take_out(draft, row, node)?,
-                _ => {}
-            }
-        }
-        Ok(())
-    }
-
-    /// Takes what stands at a name out of its directory.
-    fn take_out(&self, draft: &mut Draft, row: &Row, node: NodeId) -> Result<(), Stop> {
-        if self.take_away(draft, row, false)? {
-            return Ok(());
-        }
-        for inner in self.planner.below(node).iter().rev() {
-            if inner.node.is_some() && !self.is_removable(draft, inner) {
-                return Err(Stop::NoWay);
-            }
-            self.remove(draft, inner, inner.node.is_none())?;
-        }
-        self.remove(draft, row, false)
+        Ok(true)
     }
 }

@@ -1,9 +1,11 @@
-//! Drafts of plans: the steps so far, and what they leave for further ones.
+//! Drafts of plans: the steps so far, and where further things are put: at a new name in the
+//! nearest directory for them, or at a name with a veil of its own.
 
-use crate::plan::rights::By;
-use crate::step::{At, Step};
+use crate::plan::Search;
+use crate::plan::planner::{By, Need, Veil};
+use crate::step::{At, Dir, Step};
 use pua_calls::Call;
-use pua_tree::NodeId;
+use pua_tree::Name;
 use std::alloc::{AllocError, Global};
 use std::ops::Range;
 
@@ -30,13 +32,14 @@ impl From<AllocError> for Stop {
 pub(crate) struct Draft {
     pub(crate) steps: Vec<Step>,
     /// The number of the last new name.
-    pub(crate) number: usize,
-    /// The places of names to which something comes, and of directories that are emptied or moved.
-    closed: Vec<Range<usize>>,
+    number: usize,
+    /// The places to which nothing more is put: of names to which something comes, and of
+    /// directories that are emptied or moved.
+    pub(crate) closed: Vec<Range<usize>>,
+    /// The place of the directory to which something was put first.
+    pub(crate) kept: Option<usize>,
     /// From where the thing comes on, once it was made there, or was moved there out of the way.
     pub(crate) from: Option<At>,
-    /// The directory in which it was made.
-    pub(crate) kept: Option<NodeId>,
 }
 
 impl Draft {
@@ -46,8 +49,8 @@ impl Draft {
             steps: Vec::new(alloc),
             number: 0,
             closed: Vec::new(alloc),
-            from: None,
             kept: None,
+            from: None,
         }
     }
 
@@ -71,9 +74,77 @@ impl Draft {
     pub(crate) fn close(&mut self, places: Range<usize>) -> Result<(), AllocError> {
         Ok(self.closed.push(places)?)
     }
+}
 
-    /// Whether something can be put to a name, or into a directory, at this place.
-    pub(crate) fn is_open(&self, place: usize) -> bool {
-        !self.closed.iter().any(|places| places.contains(&place))
+/// Whether a place is none of the closed ones.
+pub(crate) fn is_open(closed: &[Range<usize>], place: usize) -> bool {
+    !closed.iter().any(|places| places.contains(&place))
+}
+
+/// The new name of a number: `new`, `new2`, `new3`, ..
+fn new_name(alloc: Global, number: usize) -> Result<Name, Stop> {
+    let mut text = String::new(alloc);
+    text.push_str("new")?;
+    if number > 1 {
+        write!(text, "{number}")?;
+    }
+    Name::from_bytes(text.as_bytes()).ok_or(Stop::NoWay)
+}
+
+impl Search<'_, '_> {
+    /// The next new name in a directory, but for those that something or a veil has.
+    pub(crate) fn new_in(&self, draft: &mut Draft, dir: Dir) -> Result<At, Stop> {
+        let taken = &self.planner.taken;
+        for _ in 0..=taken.len() {
+            draft.number = draft.number.saturating_add(1);
+            let name = new_name(self.planner.alloc, draft.number)?;
+            if !taken.contains(&name) {
+                return Ok(At::Name(dir, name));
+            }
+        }
+        Err(Stop::NoWay)
+    }
+
+    /// To where what stands in the way can be moved: a directory from where it could be moved on,
+    /// or any, or else a name with a veil of its own.
+    pub(crate) fn room(&self, draft: &mut Draft) -> Result<At, Stop> {
+        let takes = self.planner.takes(By::Rename);
+        let gives = self.planner.gives(By::Rename, false);
+        self.put(draft, &gives.and(takes), &takes, true)
+    }
+
+    /// Makes something that meets a need: in the nearest directory, or else, if it is none itself,
+    /// at a name with a veil of its own, which a directory doesn't take over.
+    pub(crate) fn make(&self, draft: &mut Draft, call: Call, need: &Need) -> Result<At, Stop> {
+        let at = self.put(draft, need, need, call != Call::Mkdir)?;
+        draft.call(call, &at)?;
+        Ok(at)
+    }
+
+    /// A new name in the nearest directory that meets both needs, or else the second one; or, if
+    /// names are allowed, one with a veil of its own that meets that, to which nothing else comes
+    /// then: where nothing stands, or where something is unlinked.
+    fn put(&self, draft: &mut Draft, both: &Need, need: &Need, names: bool) -> Result<At, Stop> {
+        let closed = draft.closed.as_slice();
+        let dir = self.planner.nearest(closed, both);
+        if let Some(dir) = dir.or(self.planner.nearest(closed, need)) {
+            draft.kept = draft.kept.or(Some(dir.place));
+            return self.new_in(draft, dir.inside());
+        }
+        let fits = |veil: &&Veil| {
+            let row = &veil.row;
+            let is_unlinked = !row.is_dir() && self.is_removable(draft, row);
+            (names && (row.node.is_none() || is_unlinked))
+                && need.is_met(&veil.cover)
+                && is_open(draft.closed.as_slice(), row.place)
+        };
+        let veils = self.planner.veils.iter().filter(fits);
+        let first = veils.min_by_key(|veil| veil.row.node.is_some());
+        let row = &first.ok_or(Stop::NoWay)?.row;
+        draft.close(self.planner.extent(row))?;
+        if row.node.is_some() {
+            draft.call(Call::Unlink, &row.at())?;
+        }
+        Ok(row.at())
     }
 }

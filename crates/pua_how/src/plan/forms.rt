@@ -2,241 +2,195 @@
 
 use crate::plan::Search;
 use crate::plan::draft::{Draft, Stop};
-use crate::plan::planner::{Slot, Veil};
-use crate::plan::rights::{By, Need};
+use crate::plan::planner::{By, Need, Row, Veil};
 use crate::step::{At, Dir};
+use crate::target::Target;
 use pua_calls::Call;
 use pua_tree::NodeId;
 
-/// Where something is before.
+/// What comes: something that stands, or what a call makes.
 #[derive(Clone, Copy)]
-pub(crate) enum Origin {
-    /// It has this name.
-    Name(Slot),
-    /// It is a directory.
-    Dir(NodeId),
-    /// A call makes it.
+pub(crate) enum Origin<'p> {
+    Standing(&'p Row),
     Made(Call),
 }
 
-/// From where something comes, and how: by a rename or a link, or by the call that makes it.
-#[derive(Clone, Copy)]
-pub(crate) struct Source {
-    pub(crate) origin: Origin,
-    pub(crate) by: By,
-    pub(crate) is_dir: bool,
-}
-
-/// In what it comes.
-#[derive(Clone, Copy)]
+/// In what it comes: by itself, in the directory in which its name is, or in one that is made.
+#[derive(Clone, Copy, PartialEq, Eq)]
 pub(crate) enum Carrier {
-    /// By itself.
     Nothing,
-    /// In the directory in which its name is.
     Parent,
-    /// In a directory that is made for it.
     Made,
 }
 
 /// Where it, or its carrier, comes to.
 #[derive(Clone, Copy)]
-pub(crate) enum Destination {
+pub(crate) enum Destination<'p> {
     /// It stays.
     Here,
     /// To a new name in a directory.
-    Inside(Dir),
+    Inside(&'p Row),
     /// To the name of a veil: where that is kept at a directory, this gives way.
-    Name(Veil),
+    Name(&'p Veil),
 }
 
 /// A form of plans.
 #[derive(Clone, Copy)]
-pub(crate) struct Form {
-    pub(crate) source: Source,
+pub(crate) struct Form<'p> {
+    pub(crate) from: Origin<'p>,
+    /// How it comes, by itself or into its carrier.
+    pub(crate) by: By,
     pub(crate) carrier: Carrier,
-    pub(crate) to: Destination,
+    pub(crate) to: Destination<'p>,
 }
 
-/// As which a carrier comes: a directory that is made elsewhere.
-const CARRIED: Source = Source {
-    origin: Origin::Made(Call::Mkdir),
-    by: By::Rename,
-    is_dir: true,
-};
+impl<'p> Form<'p> {
+    /// That in which something comes by itself.
+    pub(crate) fn plain(from: Origin<'p>, by: By, to: Destination<'p>) -> Form<'p> {
+        let carrier = Carrier::Nothing;
+        Form {
+            from,
+            by,
+            carrier,
+            to,
+        }
+    }
+
+    /// Whether what comes is a directory.
+    pub(crate) fn is_dir(&self) -> bool {
+        match self.from {
+            Origin::Standing(row) => row.is_dir(),
+            Origin::Made(call) => call == Call::Mkdir,
+        }
+    }
+
+    /// Whether what comes to the destination is a directory, and how it comes there.
+    pub(crate) fn mover(&self) -> (bool, By) {
+        match self.carrier {
+            Carrier::Nothing => (self.is_dir(), self.by),
+            _ => (true, By::Rename),
+        }
+    }
+}
 
 impl Search<'_, '_> {
-    /// Whether something can come to the name of a veil, and the call is granted there on it, or on
-    /// what it carries: a directory doesn't take over the veil of its name.
-    fn is_granted(&self, source: &Source, veil: &Veil) -> bool {
-        let fits = veil.dir.is_none() || (source.is_dir && source.by == By::Rename);
-        let suffices = match self.planner.dir_row(veil.slot.dir) {
-            Some(row) if source.is_dir => self.suffices(&row.cover),
-            _ => self.suffices(&veil.cover),
-        };
-        fits && suffices && self.planner.rights.takes(source.by).is_met(&veil.cover)
-    }
-
-    /// What is needed where a call makes something that comes on from there.
-    fn sends(&self, call: Call, by: By) -> Need {
-        let gives = self.planner.rights.gives(by, call == Call::Symlink);
-        self.planner.rights.call(call).and(gives)
-    }
-
-    /// Whether the call is granted by a form to the name of a veil. Above the directory of a name
-    /// the veils are the same, up to the next one that has a veil of its own, so none of those is a
-    /// carrier.
-    pub(crate) fn is_form(&self, source: &Source, carrier: Carrier, veil: &Veil) -> bool {
-        match (carrier, source.origin) {
-            (Carrier::Nothing, _) => self.is_granted(source, veil),
-            (Carrier::Parent, Origin::Name(slot)) if source.by == By::Rename => {
-                self.goes_along(&slot)
-                    && self.inner(&Destination::Name(*veil), slot.dir).is_none()
-                    && self.is_granted(&CARRIED, veil)
-            }
-            (Carrier::Parent, _) => false,
-            (Carrier::Made, _) => !source.is_dir && self.is_granted(&CARRIED, veil),
+    /// The draft of a form: what is made elsewhere is made before all else, where there is none
+    /// otherwise.
+    pub(crate) fn draft_of(&self, form: &Form<'_>) -> Result<Draft, Stop> {
+        match self.draft(form, false) {
+            Err(Stop::NoWay) => self.draft(form, true),
+            draft => draft,
         }
     }
 
-    /// The directory of a destination, if it is this one or in it, or the one that gives way is
-    /// this one.
-    fn inner(&self, to: &Destination, outer: NodeId) -> Option<NodeId> {
-        let dir = match to {
-            Destination::Inside(Dir::Standing(dir)) => *dir,
-            Destination::Name(veil) if veil.dir == Some(outer) => outer,
-            Destination::Name(veil) => veil.slot.dir,
-            _ => return None,
-        };
-        Some(dir).filter(|dir| self.planner.is_within(*dir, outer))
-    }
-
-    /// Whether what has a name comes under other veils with the directory in which the name is.
-    pub(crate) fn goes_along(&self, slot: &Slot) -> bool {
-        slot.dir != NodeId::ROOT
-            && !self.planner.is_veiled_at(slot)
-            && !self.planner.is_veiled(slot.dir)
-    }
-
-    /// The draft of a form. What is made elsewhere may be made before all else.
-    pub(crate) fn draft(&self, form: &Form, is_early: bool) -> Result<Draft, Stop> {
+    /// The same, where it is or is not made before all else.
+    fn draft(&self, form: &Form<'_>, is_early: bool) -> Result<Draft, Stop> {
         let mut draft = Draft::new(self.planner.alloc);
-        if let Origin::Dir(dir) = form.source.origin {
-            self.leave(&mut draft, dir, &form.to)?;
-        }
+        self.leave(&mut draft, form)?;
         if is_early {
-            draft.from = Some(self.origin(&mut draft, &form.source)?);
+            draft.from = Some(self.origin(&mut draft, form)?);
         }
         self.clear(&mut draft, form)?;
-        let thing = match (form.carrier, form.source.origin, &form.to) {
-            (_, _, Destination::Here) => self.origin(&mut draft, &form.source)?,
-            (Carrier::Nothing, _, to) => self.bring(&mut draft, &form.source, to)?,
-            (Carrier::Parent, Origin::Name(slot), to) => {
-                let at = self.destination(&mut draft, to)?;
-                draft.bring(By::Rename, &At::Directory(slot.dir), &at)?;
-                self.planner.at(&slot)?
-            }
-            _ => self.bring_inside(&mut draft, form)?,
-        };
+        let thing = self.bring(&mut draft, form)?;
         self.end(draft, thing)
     }
 
     /// A directory is to leave for a destination: it is emptied, if it is to be removed, and
     /// nothing is put into it; a destination in it is pulled out.
-    fn leave(&self, draft: &mut Draft, dir: NodeId, to: &Destination) -> Result<(), Stop> {
-        draft.close(self.planner.extent(dir))?;
-        match self.inner(to, dir) {
-            Some(_) if self.removes() => Err(Stop::NoWay),
-            Some(inner) => self.pull(draft, dir, inner),
-            None if self.removes() => self.empty(draft, dir),
-            None => Ok(()),
+    fn leave(&self, draft: &mut Draft, form: &Form<'_>) -> Result<(), Stop> {
+        let dir = match (form.from, form.carrier) {
+            (Origin::Standing(row), Carrier::Parent) => self.planner.parent(row),
+            (Origin::Standing(row), _) if row.is_dir() => Some(row),
+            _ => return Ok(()),
+        };
+        let dir = dir.ok_or(Stop::NoWay)?;
+        let (place, depth) = match form.to {
+            Destination::Here => (0, 0),
+            Destination::Inside(room) => (room.place, room.depth.saturating_add(1)),
+            Destination::Name(veil) => (veil.row.place, veil.row.depth),
+        };
+        let places = self.planner.extent(dir);
+        let is_in = places.contains(&place) && dir.depth < depth;
+        draft.close(places)?;
+        let removes = self.call == Call::Rmdir && matches!(self.target, Target::Directory(_));
+        match (is_in, removes) {
+            (true, true) => Err(Stop::NoWay),
+            (true, false) => self.pull(draft, dir, place, depth),
+            (false, true) => self.empty(draft, dir),
+            (false, false) => Ok(()),
         }
     }
 
-    /// Pulls a directory out of another one above it: from the nearest one with a veil of its own
-    /// upwards, the first that can be moved is moved away.
-    fn pull(&self, draft: &mut Draft, outer: NodeId, inner: NodeId) -> Result<(), Stop> {
-        let (mut dir, mut is_veiled) = (inner, false);
-        for _ in &self.planner.dirs {
-            if dir == outer {
-                break;
+    /// Pulls a place out of a directory above it: of the directories between, from the nearest one
+    /// with a veil of its own upwards, the first that can be moved is moved away.
+    fn pull(&self, draft: &mut Draft, dir: &Row, place: usize, depth: usize) -> Result<(), Stop> {
+        let (mut depth, mut is_veiled) = (depth, false);
+        let places = dir.place.saturating_add(1)..place.saturating_add(1);
+        for row in self.planner.rows_at(places).iter().rev() {
+            if row.depth >= depth {
+                continue;
             }
-            let row = self.planner.dir_row(dir).ok_or(Stop::NoWay)?;
-            is_veiled = is_veiled || self.planner.is_veiled(dir);
-            if is_veiled && self.is_movable(row) {
-                return self.move_away(draft, row);
+            depth = row.depth;
+            is_veiled = is_veiled || self.planner.is_veiled(row);
+            if is_veiled && self.move_away(draft, row)? {
+                return Ok(());
             }
-            dir = row.slot.ok_or(Stop::NoWay)?.dir;
         }
         Err(Stop::NoWay)
     }
 
     /// Clears the destination, but of what leaves it by itself.
-    fn clear(&self, draft: &mut Draft, form: &Form) -> Result<(), Stop> {
-        let Destination::Name(veil) = &form.to else {
+    fn clear(&self, draft: &mut Draft, form: &Form<'_>) -> Result<(), Stop> {
+        let Destination::Name(veil) = form.to else {
             return Ok(());
         };
-        let mover = match (form.carrier, form.source.origin) {
-            (Carrier::Nothing, _) => &form.source,
-            (Carrier::Made, Origin::Name(slot)) if slot == veil.slot => return Ok(()),
-            _ => &CARRIED,
-        };
-        match veil.dir {
-            Some(dir) => self.empty(draft, dir),
-            None => self.free(draft, &veil.slot, mover),
+        match (form.from, form.carrier) {
+            (Origin::Standing(row), Carrier::Made) if row.place == veil.row.place => Ok(()),
+            _ if veil.is_at_dir => self.empty(draft, &veil.row),
+            _ => self.free(draft, &veil.row, form.mover()),
         }
     }
 
-    /// What a destination is in steps.
-    fn destination(&self, draft: &mut Draft, to: &Destination) -> Result<At, Stop> {
-        match to {
-            Destination::Here => Err(Stop::NoWay),
-            Destination::Inside(dir) => self.new_in(draft, *dir),
-            Destination::Name(veil) => self.planner.at(&veil.slot),
+    /// What is needed where a call makes something that comes on from there.
+    fn sends(&self, call: Call, by: By) -> Need {
+        let gives = self.planner.gives(by, call == Call::Symlink);
+        self.planner.call(call).and(gives)
+    }
+
+    /// From where something comes on. What a call makes right where it is to be comes from nowhere.
+    fn origin(&self, draft: &mut Draft, form: &Form<'_>) -> Result<At, Stop> {
+        match (draft.from, form.from, form.by) {
+            (Some(from), _, _) => Ok(from),
+            (None, Origin::Standing(row), _) => Ok(row.at()),
+            (None, Origin::Made(_), By::Call(_)) => Ok(At::Directory(NodeId::ROOT)),
+            (None, Origin::Made(call), by) => self.make(draft, call, &self.sends(call, by)),
         }
     }
 
-    /// From where something comes on. It is made in a directory, or else at a name with a veil of
-    /// its own, which a directory does not take over.
-    fn origin(&self, draft: &mut Draft, source: &Source) -> Result<At, Stop> {
-        let call = match (draft.from, source.origin) {
-            (Some(from), _) => return Ok(from),
-            (None, Origin::Dir(dir)) => return Ok(At::Directory(dir)),
-            (None, Origin::Name(slot)) => return self.planner.at(&slot),
-            (None, Origin::Made(call)) => call,
+    /// Brings what comes to the destination. Answers where the thing is then.
+    fn bring(&self, draft: &mut Draft, form: &Form<'_>) -> Result<At, Stop> {
+        let (from, thing) = match (form.carrier, form.from) {
+            (Carrier::Nothing, _) => (self.origin(draft, form)?, None),
+            (Carrier::Parent, Origin::Standing(row)) => (At::Directory(row.dir), Some(row.at())),
+            _ => self.load(draft, form)?,
         };
-        let need = self.sends(call, source.by);
-        draft.kept = self.nearest(draft, &need);
-        let at = match draft.kept {
-            Some(dir) => self.new_in(draft, Dir::Standing(dir))?,
-            None if source.is_dir => return Err(Stop::NoWay),
-            None => self.name_for(draft, &need)?,
+        let at = match form.to {
+            Destination::Here => return Ok(from),
+            Destination::Inside(room) => self.new_in(draft, room.inside())?,
+            Destination::Name(veil) => veil.row.at(),
         };
-        draft.call(call, &at)?;
-        Ok(at)
+        draft.bring(form.mover().1, &from, &at)?;
+        Ok(thing.unwrap_or(at))
     }
 
-    /// Brings something to a destination by itself. Answers where it is then.
-    fn bring(&self, draft: &mut Draft, source: &Source, to: &Destination) -> Result<At, Stop> {
-        let from = match source.by {
-            By::Call(_) => At::Directory(NodeId::ROOT),
-            _ => self.origin(draft, source)?,
-        };
-        let at = self.destination(draft, to)?;
-        draft.bring(source.by, &from, &at)?;
-        Ok(at)
-    }
-
-    /// Brings something inside a directory that is made. Answers where it is then.
-    fn bring_inside(&self, draft: &mut Draft, form: &Form) -> Result<At, Stop> {
-        let need = self.sends(Call::Mkdir, By::Rename);
-        let need = need.and(self.planner.rights.takes(form.source.by));
-        let dir = self.nearest(draft, &need).ok_or(Stop::NoWay)?;
-        let outer = self.new_in(draft, Dir::Standing(dir))?;
-        draft.call(Call::Mkdir, &outer)?;
-        let inside = Destination::Inside(Dir::Made);
-        let inner = self.bring(draft, &form.source, &inside)?;
-        let at = self.destination(draft, &form.to)?;
-        draft.bring(By::Rename, &outer, &at)?;
-        Ok(inner)
+    /// Brings it inside a directory that is made. Answers where both are then.
+    fn load(&self, draft: &mut Draft, form: &Form<'_>) -> Result<(At, Option<At>), Stop> {
+        let takes = self.planner.takes(form.by);
+        let need = self.sends(Call::Mkdir, By::Rename).and(takes);
+        let carrier = self.make(draft, Call::Mkdir, &need)?;
+        let from = self.origin(draft, form)?;
+        let thing = self.new_in(draft, Dir::Made)?;
+        draft.bring(form.by, &from, &thing)?;
+        Ok((carrier, Some(thing)))
     }
 }

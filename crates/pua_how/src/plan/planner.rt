@@ -1,134 +1,172 @@
-//! What plans start from: all that stands or could stand, with what the veils leave of it.
+//! The state from which plans start: all that stands or could stand, what the veils leave of it,
+//! and what the process needs for what it may do there.
 
-use crate::plan::draft::Stop;
-use crate::plan::rights::Rights;
+use crate::plan::draft::is_open;
 use crate::step::{At, Dir};
-use pua_calls::CallTable;
+use pua_calls::{Call, CallTable, PairNeed, Perms, Promises};
 use pua_objects::{ListItem, Subject, list_items};
-use pua_policy::{Cover, Object, Place, Process};
-use pua_tree::{FileTree, Name, NodeId, OutOfMemory};
+use pua_path::Last;
+use pua_policy::judge::cover_fault;
+use pua_policy::{Cover, May, Object, Place, Process};
+use pua_tree::{FileTree, Kind, Name, NodeId, OutOfMemory};
 use std::alloc::{AllocError, Global};
 use std::ops::Range;
-
-/// A name in a directory, with the place of its row.
-#[derive(Clone, Copy, PartialEq, Eq)]
-pub(crate) struct Slot {
-    pub(crate) dir: NodeId,
-    pub(crate) place: usize,
-}
 
 /// Something that stands or could stand.
 #[derive(Clone, Copy)]
 pub(crate) struct Row {
-    /// How many names lead to that above it.
-    depth: usize,
+    /// Its place among all rows.
+    pub(crate) place: usize,
+    /// How many names lead to it.
+    pub(crate) depth: usize,
+    /// The directory in which it is, and its name there; of the root, itself and None.
+    pub(crate) dir: NodeId,
+    pub(crate) name: Option<Name>,
+    /// What stands there.
+    pub(crate) node: Option<NodeId>,
     pub(crate) object: Object,
     /// What the veils leave of it.
     pub(crate) cover: Cover,
-    pub(crate) slot: Option<Slot>,
-    /// What stands there.
-    pub(crate) node: Option<NodeId>,
-    pub(crate) is_dir: bool,
 }
 
-/// A veil at a name, or at the directory that stands there, and what it leaves.
+/// A veil at a name, or at the directory that stands there.
 #[derive(Clone, Copy)]
 pub(crate) struct Veil {
-    pub(crate) slot: Slot,
-    pub(crate) dir: Option<NodeId>,
+    pub(crate) row: Row,
+    pub(crate) is_at_dir: bool,
+    /// What it leaves.
     pub(crate) cover: Cover,
+    /// What the veils leave of the directory in which the name is.
+    pub(crate) outer: Cover,
 }
+
+/// How something gets a name: by a rename, by a link, or by the call that makes it.
+#[derive(Clone, Copy, PartialEq, Eq)]
+pub(crate) enum By {
+    Rename,
+    Link,
+    Call(Call),
+}
+
+/// The permissions that something takes; None where the process lacks the promises for it.
+#[derive(Clone, Copy)]
+pub(crate) struct Need(Option<Perms>);
 
 /// What the plans of a process are laid by: made once, and then asked for each call on each thing.
 #[derive(Drop)]
 pub struct Planner<'t> {
     pub(crate) alloc: Global,
-    items: Vec<ListItem<'t>>,
-    /// One for each item.
+    process: &'t Process,
+    table: CallTable,
+    /// Each directory is followed by what is below it.
     pub(crate) rows: Vec<Row>,
-    /// The nodes that have names, with the places of their rows, by number.
-    nodes: Vec<(NodeId, usize)>,
-    /// How many names lead to each directory, its number, and its place, the nearest first.
-    pub(crate) dirs: Vec<(usize, NodeId, usize)>,
     /// But for that of the root.
     pub(crate) veils: Vec<Veil>,
     /// The names that begin as new ones do.
     pub(crate) taken: Vec<Name>,
-    pub(crate) rights: Rights<'t>,
 }
 
 impl Row {
-    /// That of an item, at this place.
-    fn new<T: FileTree>(tree: &T, item: &ListItem<'_>, place: usize) -> Row {
-        let (node, is_dir, dir) = match item.item.subject {
-            Subject::Root => (Some(NodeId::ROOT), true, None),
-            Subject::Others(_) => (None, false, None),
-            Subject::Dir(node, dir, _) => (Some(node), true, Some(dir)),
-            Subject::Name(dir, name) => (tree.look(dir, name), false, Some(dir)),
-        };
-        Row {
-            depth: item.depth,
-            object: item.item.object,
-            cover: item.item.cover,
-            slot: dir.map(|dir| Slot { dir, place }),
-            node,
-            is_dir,
+    pub(crate) fn is_dir(&self) -> bool {
+        self.remover() == Call::Rmdir
+    }
+
+    /// The call that removes what stands there.
+    pub(crate) fn remover(&self) -> Call {
+        match self.object {
+            Object::Node(Kind::Dir) | Object::Removable => Call::Rmdir,
+            _ => Call::Unlink,
+        }
+    }
+
+    /// What is in it, in a step.
+    pub(crate) fn inside(&self) -> Dir {
+        Dir::Standing(self.node.unwrap_or(NodeId::ROOT))
+    }
+
+    /// Its name in a step.
+    pub(crate) fn at(&self) -> At {
+        match self.name {
+            Some(name) => At::Name(Dir::Standing(self.dir), name),
+            None => At::Directory(self.dir),
         }
     }
 }
 
-/// The rows of items.
+impl Need {
+    /// Both.
+    pub(crate) fn and(self, other: Need) -> Need {
+        let both = self.0.zip(other.0);
+        Need(both.map(|(perms, more)| perms.union(more)))
+    }
+
+    /// Whether it is met where something is covered so.
+    pub(crate) fn is_met(&self, cover: &Cover) -> bool {
+        self.0
+            .is_some_and(|perms| cover_fault(*cover, perms).is_none())
+    }
+}
+
+/// The rows of items, without those of further names.
 fn rows_of<T: FileTree>(
     alloc: Global,
     tree: &T,
     items: &[ListItem<'_>],
 ) -> Result<Vec<Row>, AllocError> {
     let mut rows = Vec::with_capacity(alloc, items.len())?;
-    for (place, item) in items.iter().enumerate() {
-        rows.push(Row::new(tree, item, place))?;
+    for item in items {
+        let (node, dir) = match item.item.subject {
+            Subject::Root => (Some(NodeId::ROOT), NodeId::ROOT),
+            Subject::Others(_) => continue,
+            Subject::Dir(node, dir, _) => (Some(node), dir),
+            Subject::Name(dir, name) => (tree.look(dir, name), dir),
+        };
+        let name = item.name().copied();
+        rows.push(Row {
+            place: rows.len(),
+            depth: item.depth.saturating_add(usize::from(name.is_some())),
+            dir,
+            name,
+            node,
+            object: item.item.object,
+            cover: item.item.cover,
+        })?;
     }
     Ok(rows)
 }
 
-/// The nodes that have names, with the places of their rows, by number.
-fn nodes_of(alloc: Global, rows: &[Row]) -> Result<Vec<(NodeId, usize)>, AllocError> {
-    let mut nodes = Vec::with_capacity(alloc, rows.len())?;
-    for (place, row) in rows.iter().enumerate() {
-        if let Some(node) = row.node {
-            nodes.push((node, place))?;
+/// The veils of a process, but for that of the root and those at what neither stands nor could.
+fn veils_of(alloc: Global, rows: &[Row], process: &Process) -> Result<Vec<Veil>, OutOfMemory> {
+    let kept = process.veils(alloc)?;
+    let mut veils = Vec::new(alloc);
+    for (place, perms) in kept.as_slice() {
+        let is_at = |row: &&Row| match place {
+            Place::Dir(dir) => row.node == Some(*dir) && row.name.is_some(),
+            Place::Slot(dir, name) => row.dir == *dir && row.name.as_ref() == Some(name),
+        };
+        if let Some(row) = rows.iter().find(is_at) {
+            veils.push(Veil {
+                row: *row,
+                is_at_dir: matches!(place, Place::Dir(_)),
+                cover: Cover::Only(**perms),
+                outer: find_dir(rows, row.dir).unwrap_or(row).cover,
+            })?;
         }
     }
-    nodes.sort()?;
-    Ok(nodes)
+    Ok(veils)
 }
 
-/// How many names lead to each directory, its number, and its place, the nearest first.
-fn dirs_of(alloc: Global, rows: &[Row]) -> Result<Vec<(usize, NodeId, usize)>, AllocError> {
-    let mut dirs = Vec::new(alloc);
-    for (place, row) in rows.iter().enumerate() {
-        match (row.node, row.slot) {
-            (Some(dir), None) => dirs.push((0, dir, place))?,
-            (Some(dir), Some(_)) if row.is_dir => {
-                dirs.push((row.depth.saturating_add(1), dir, place))?;
-            }
-            _ => {}
-        }
-    }
-    dirs.sort()?;
-    Ok(dirs)
+/// The row of a directory.
+fn find_dir(rows: &[Row], dir: NodeId) -> Option<&Row> {
+    rows.iter().find(|row| row.node == Some(dir))
 }
 
 /// The names that begin as new ones do.
-fn taken_in(alloc: Global, items: &[ListItem<'_>]) -> Result<Vec<Name>, AllocError> {
-    let mut taken = Vec::new(alloc);
-    for item in items {
-        if let Some(name) = item.name() {
-            if name.bytes().starts_with(b"new") {
-                taken.push(*name)?;
-            }
-        }
-    }
-    Ok(taken)
+fn taken_in(alloc: Global, rows: &[Row]) -> Result<Vec<Name>, AllocError> {
+    let names = rows.iter().filter_map(|row| row.name);
+    names
+        .filter(|name| name.bytes().starts_with(b"new"))
+        .collect(alloc)
 }
 
 impl<'t> Planner<'t> {
@@ -142,130 +180,89 @@ impl<'t> Planner<'t> {
     ) -> Result<Planner<'t>, OutOfMemory> {
         let items = list_items(alloc, tree, process)?;
         let rows = rows_of(alloc, tree, items.as_slice())?;
-        let mut planner = Planner {
+        Ok(Planner {
             alloc,
-            nodes: nodes_of(alloc, rows.as_slice())?,
-            dirs: dirs_of(alloc, rows.as_slice())?,
-            veils: Vec::new(alloc),
-            taken: taken_in(alloc, items.as_slice())?,
-            rights: Rights::new(process, table),
+            process,
+            table: *table,
+            veils: veils_of(alloc, rows.as_slice(), process)?,
+            taken: taken_in(alloc, rows.as_slice())?,
             rows,
-            items,
-        };
-        let veils = planner.veils_of(process)?;
-        planner.veils = veils;
-        Ok(planner)
+        })
     }
 
-    /// The veils of a process, but for those at what neither stands nor could.
-    fn veils_of(&self, process: &Process) -> Result<Vec<Veil>, OutOfMemory> {
-        let kept = process.veils(self.alloc)?;
-        let mut veils = Vec::new(self.alloc);
-        for (place, perms) in kept.as_slice() {
-            let cover = Cover::Only(**perms);
-            if let Some(veil) = self.veil(place, cover) {
-                veils.push(veil)?;
-            }
-        }
-        Ok(veils)
+    /// The nearest directory that meets a need and is at none of the closed places: of equally near
+    /// ones that of the lowest number.
+    pub(crate) fn nearest(&self, closed: &[Range<usize>], need: &Need) -> Option<&Row> {
+        let dirs = self.rows.iter().filter(|row| row.is_dir());
+        let fitting = dirs.filter(|row| need.is_met(&row.cover) && is_open(closed, row.place));
+        fitting.min_by_key(|row| (row.depth, row.node))
     }
 
-    /// A veil, if what it is kept at stands or could stand.
-    fn veil(&self, place: &Place, cover: Cover) -> Option<Veil> {
-        let (slot, dir) = match place {
-            Place::Dir(dir) => (self.dir_row(*dir)?.slot?, Some(*dir)),
-            Place::Slot(dir, name) => {
-                let is_there = |row: &&Row| match row.slot {
-                    Some(slot) => slot.dir == *dir && self.name(slot.place) == Some(name),
-                    None => false,
-                };
-                (self.rows.iter().find(is_there)?.slot?, None)
-            }
-        };
-        Some(Veil { slot, dir, cover })
+    /// The directory in which something is.
+    pub(crate) fn parent(&self, row: &Row) -> Option<&Row> {
+        find_dir(self.rows.as_slice(), row.dir)
     }
 
-    /// The name of the row at a place.
-    pub(crate) fn name(&self, place: usize) -> Option<&Name> {
-        self.items.get(place)?.name()
-    }
-
-    /// A name in a step.
-    pub(crate) fn at(&self, slot: &Slot) -> Result<At, Stop> {
-        let name = self.name(slot.place).ok_or(Stop::NoWay)?;
-        Ok(At::Name(Dir::Standing(slot.dir), *name))
-    }
-
-    /// The row of a name.
-    pub(crate) fn row(&self, slot: &Slot) -> Result<&Row, Stop> {
-        self.rows.get(slot.place).ok_or(Stop::NoWay)
-    }
-
-    /// Whether a veil is kept at a directory.
-    pub(crate) fn is_veiled(&self, dir: NodeId) -> bool {
-        self.veils.iter().any(|veil| veil.dir == Some(dir))
-    }
-
-    /// Whether a veil is kept at a name.
-    pub(crate) fn is_veiled_at(&self, slot: &Slot) -> bool {
+    /// Whether a directory, or the name of something else, has a veil.
+    pub(crate) fn is_veiled(&self, row: &Row) -> bool {
         let mut veils = self.veils.iter();
-        veils.any(|veil| veil.slot == *slot && veil.dir.is_none())
+        veils.any(|veil| veil.row.place == row.place && veil.is_at_dir == row.is_dir())
     }
 
-    /// The nodes with the places of their rows, from this node on.
-    pub(crate) fn nodes_from(&self, node: NodeId) -> &[(NodeId, usize)] {
-        let first = self.nodes.partition_point(|other| other.0 < node);
-        self.nodes.get(first..).unwrap_or(&[])
+    /// Whether what has a name comes under other veils with the directory in which the name is.
+    pub(crate) fn goes_along(&self, row: &Row) -> bool {
+        let kept = self.process.kept(&Place::Dir(row.dir));
+        row.dir != NodeId::ROOT && kept.is_none() && !self.is_veiled(row)
     }
 
-    /// The place of a directory's row.
-    fn place_of(&self, dir: NodeId) -> Option<usize> {
-        let (node, place) = *self.nodes_from(dir).first()?;
-        if node == dir && self.rows.get(place)?.is_dir {
-            Some(place)
-        } else {
-            None
+    /// The places of something and of all that is below it.
+    pub(crate) fn extent(&self, row: &Row) -> Range<usize> {
+        let first = row.place.saturating_add(1);
+        let behind = self.rows_at(first..self.rows.len()).iter();
+        let below = behind.take_while(|other| other.depth > row.depth);
+        row.place..first.saturating_add(below.count())
+    }
+
+    /// The rows at these places.
+    pub(crate) fn rows_at(&self, places: Range<usize>) -> &[Row] {
+        self.rows.get(places).unwrap_or(&[])
+    }
+
+    /// These permissions, with one of these sets of promises.
+    fn need(&self, alternatives: &[Promises], perms: Perms) -> Need {
+        let may = self.process.may_any(alternatives);
+        Need((may == May::Yes).then_some(perms))
+    }
+
+    /// What a call needs on what it is on.
+    pub(crate) fn call(&self, call: Call) -> Need {
+        self.need(self.table.alternatives(call), self.table.perms(call))
+    }
+
+    /// What is needed of the old name of two, with what is promised for both.
+    fn old_name(&self, pair: &PairNeed) -> Need {
+        let (old, new) = (pair.old_name(), pair.new_name());
+        let need = self.need(old.alternatives(), old.perms());
+        need.and(self.need(new.alternatives(), Perms::NONE))
+    }
+
+    /// What is needed of something that gets a further name: not of a link, where that is followed.
+    pub(crate) fn gives(&self, by: By, is_link: bool) -> Need {
+        let link = self.table.link();
+        match by {
+            By::Rename => self.old_name(self.table.rename()),
+            By::Link if is_link && link.old_name().last() == Last::Followed => Need(None),
+            By::Link => self.old_name(link),
+            By::Call(_) => Need(None),
         }
     }
 
-    /// The row of a directory.
-    pub(crate) fn dir_row(&self, dir: NodeId) -> Option<&Row> {
-        self.rows.get(self.place_of(dir)?)
-    }
-
-    /// What is below a directory.
-    pub(crate) fn below(&self, dir: NodeId) -> &[Row] {
-        let first = self.place_of(dir).unwrap_or(self.rows.len());
-        let behind = self.rows.get(first.saturating_add(1)..).unwrap_or(&[]);
-        let depth = match self.rows.get(first) {
-            Some(row) if dir != NodeId::ROOT => Some(row.depth),
-            _ => None,
-        };
-        let is_outside = |other: &Row| match depth {
-            Some(depth) => other.depth <= depth,
-            None => false,
-        };
-        let count = behind.iter().position(is_outside).unwrap_or(behind.len());
-        behind.get(..count).unwrap_or(&[])
-    }
-
-    /// The places of a directory and of all that is below it; none for what is no directory.
-    pub(crate) fn extent(&self, dir: NodeId) -> Range<usize> {
-        match self.place_of(dir) {
-            Some(place) => {
-                place..place
-                    .saturating_add(self.below(dir).len())
-                    .saturating_add(1)
-            }
-            None => 0..0,
-        }
-    }
-
-    /// Whether a directory is another one, or below it.
-    pub(crate) fn is_within(&self, dir: NodeId, outer: NodeId) -> bool {
-        match self.place_of(dir) {
-            Some(place) => self.extent(outer).contains(&place),
-            None => false,
+    /// What is needed where something gets a name.
+    pub(crate) fn takes(&self, by: By) -> Need {
+        match by {
+            By::Rename => Need(Some(self.table.rename().new_name().perms())),
+            By::Link => Need(Some(self.table.link().new_name().perms())),
+            By::Call(call) => self.call(call),
         }
     }
 }

@@ -34,6 +34,7 @@ fn inputs_taken_in_other_order(alloc: Global) {
     let run = Command {
         tree: "T",
         script: "S",
+        at: None,
         rules: Rules::Standard,
         table: None,
         text: Text::Run,

@@ -1,6 +1,6 @@
 use Rattle.pua_texts.proofs.Common.{List, ℕ, ◌∷◌, ◌++◌, [], Ok, Err, ap, subst, ◌∙◌, map, err_from_is_err_and, call_name, calls_in, kind_word}
 use Rattle.pua_texts.proofs.Common.{with_commas, Passes}
-use Rattle.pua_texts.specs.ColumnsState.{columns_of}
+use Rattle.pua_texts.specs.EndingsState.{columns_of}
 use Rattle.pua_texts.specs.EverLines.{kind_of, path_or_new}
 use Rattle.pua_texts.proofs.Passing.{passes_then, passes_front}
 use Rattle.pua_texts.proofs.list_line.add_line.Goals as goal

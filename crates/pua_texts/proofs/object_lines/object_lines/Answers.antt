@@ -1,5 +1,5 @@
 use Rattle.pua_texts.proofs.Common.{◌≡◌, ◌∷◌, ◌++◌, ◌+◌, [], sym, subst, refl, drop, arith, None, List}
-use Rattle.pua_texts.specs.ColumnsState.{plain}
+use Rattle.pua_texts.specs.EndingsState.{plain}
 use Rattle.pua_objects.specs.ListItems.{items_told}
 use Rattle.pua_texts.specs.ListLines.{last_word, lines_text}
 use Rattle.pua_texts.specs.declared.list_line.ListLine.{ListLine}

@@ -1,6 +1,6 @@
 use Rattle.pua_texts.proofs.Common.{◌≡◌, ◌∷◌, ◌++◌, [], drop, Tree}
 use Rattle.std.specs.List.{AllByRecursion}
-use Rattle.pua_texts.specs.ColumnsState.{plain}
+use Rattle.pua_texts.specs.EndingsState.{plain}
 use Rattle.pua_objects.specs.ListItems.{IsToldIn, items_told}
 use Rattle.pua_texts.specs.ListLines.{last_word, lines_text}
 use Rattle.pua_texts.proofs.ItemLines.{told}

@@ -16,8 +16,8 @@ returns c =
     let old = string_bytes c.args.text.now in
     let execs = string_bytes c.push_execs.new.text in
     let opened = string_bytes c.push_opened.new.text in
-    let told = execs_told c.args.span in
-    let opening = openings_told c.args.rules c.args.span h in
+    let told = execs_told c.args.time in
+    let opening = openings_told c.args.rules c.args.time h in
     ok_text c.push_unveiled.result (string_bytes c.push_unveiled.new.text)
     (text_more old (told ++ opening) (unveiled_line h) opened _
     (text_more old told opening execs opened c.in_ok-push_execs.ensures c.in_ok-push_opened.ensures) refl) c.push_unveiled.ensures

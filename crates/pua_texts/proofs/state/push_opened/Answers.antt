@@ -9,7 +9,7 @@ use Rattle.pua_texts.proofs.state.push_opened.Goals as goal
 pub returns-then-has_openings : goal.returns-then-has_openings
 returns-then-has_openings c =
     let old = string_bytes c.args.text.now in
-    let told = opening_lines (keywords_of (opening_set c.args.span c.args.process.now)) in
+    let told = opening_lines (keywords_of (opening_set c.args.time c.args.process.now)) in
     ok_text c.push_openings.result (string_bytes c.push_openings.new.text)
     (ap (λ (set : ℕ). old ++ opening_lines (keywords_of set)) c.opening_promises.ensures
     ∙ ap (λ (b : Bool). old ++ (if b then told else [])) (sym c.if-has_openings.true ∙ c.has_openings.ensures))
@@ -18,5 +18,5 @@ returns-then-has_openings c =
 pub returns-else-has_openings : goal.returns-else-has_openings
 returns-else-has_openings c =
     let old = string_bytes c.args.text.now in
-    let told = opening_lines (keywords_of (opening_set c.args.span c.args.process.now)) in
+    let told = opening_lines (keywords_of (opening_set c.args.time c.args.process.now)) in
     sym (append-nil old) ∙ ap (λ (b : Bool). old ++ (if b then told else [])) (sym c.if-has_openings.false ∙ c.has_openings.ensures)

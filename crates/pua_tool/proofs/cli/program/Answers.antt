@@ -1,8 +1,10 @@
 use Rattle.pua_tool.proofs.Common.{◌∙◌, map, subst, sym, with_end}
 use Rattle.pua_words.specs.Usages.{line_for, usage_line_text}
-use Rattle.pua_tool.specs.Told.{IsLineTold, TellsStatus}
+use Rattle.pua_tool.specs.Told.{IsLineTold}
+use Rattle.pua_tool.specs.Advised.{HasTold}
 use Rattle.pua_tool.proofs.Ends.{answered_by_status, ended_by_status, told_by_status}
 use Rattle.pua_tool.proofs.Stops.{not_done}
+use Rattle.pua_tool.proofs.Telling.{plainly_told}
 use Rattle.pua_tool.proofs.cli.program.Goals as goal
 
 pub returns-clause-done : goal.returns-clause-done
@@ -28,7 +30,10 @@ returns-clause-device g c same =
 
 pub returns-clause-told : goal.returns-clause-told
 returns-clause-told g c other =
-    told_by_status (λ status a b. TellsStatus status (g.E.Sink.written a) (g.E.Sink.written b) (g.E.Sink.failed a) (g.E.Sink.failed b))
+    let words = map (λ word. word.now) c.args.words.now in
+    let held = g.I.Inputs.holds c.args.inputs.now in
+    told_by_status (λ status a b. HasTold words held status (g.E.Sink.written a) (g.E.Sink.written b) (g.E.Sink.failed a) (g.E.Sink.failed b))
     c.command-status.result c.at_end.result _ _ _
     c.at_end.ensures.stopped c.at_end.ensures.untold c.command-status.ensures.quiet
-    c.command-status.ensures.told c.at_end.ensures.reported other
+    c.command-status.ensures.told
+    (λ changed. plainly_told words held c.at_end.result _ _ _ _ (c.at_end.ensures.reported changed)) other

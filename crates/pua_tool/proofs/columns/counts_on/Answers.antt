@@ -1,16 +1,11 @@
-use Rattle.pua_tool.proofs.Common.{◌≡◌, ℕ, ◌∙◌, ◌∷◌, ◌++◌, [], List, ap, map, arith, sym, subst, Some, Result, Tree}
+use Rattle.pua_tool.proofs.Common.{◌≡◌, ℕ, ◌∙◌, ◌∷◌, ◌++◌, [], List, ap, arith, sym, subst, Result}
 use Rattle.std.proofs.Common.{◌≤◌, get_or}
 use Rattle.std.specs.List.{AllByRecursion}
 use Rattle.pua_calls.specs.Calls.{call_count, calls}
 use Rattle.pua_calls.specs.declared.call.Call.{Call}
 use Rattle.pua_calls.specs.declared.call.Call.TheVariants.{Stat}
-use Rattle.pua_audit.specs.Reach.{Word}
-use Rattle.pua_how.specs.Asked.{IsAskedBy}
 use Rattle.pua_how.specs.declared.way.NoWay.{NoWay}
-use Rattle.pua_ever.specs.EverLines.{IsThing}
-use Rattle.pua_texts.specs.EverLines.{kind_of}
-use Rattle.pua_tool.specs.EverHowTexts.{IsCount, asking_by}
-use Rattle.pua_tool.specs.RowColumns.{done_behind}
+use Rattle.pua_tool.specs.RowColumns.{IsCountTo, done_behind}
 use Rattle.pua_tool.proofs.Counts.{Count, all_counted, call_counted, call_passed, calls_of, steps_counted}
 use Rattle.pua_tool.proofs.columns.counts_on.Goals.{then-contains+in_ok-steps+in_ok-push, else-contains}
 use Rattle.pua_tool.proofs.columns.counts_on.Goals as goal
@@ -20,12 +15,10 @@ loop-call-preserved c =
     let set : ℕ = c.args.calls in
     let i : ℕ = c.loop-call.call-index in
     let call : Call = get_or calls i Stat in
-    let word : Word = map (λ name. name.now) c.args.names.now in
-    let behind = c.args.behind.now in
-    let n : ℕ = behind.number in
-    let done = done_behind behind in
-    let h = c.args.process.now in
-    let of = c.args.thing in
+    let n : ℕ = c.args.behind.now.number in
+    let rules = c.args.behind.now.rules in
+    let done = done_behind c.args.behind.now in
+    let target = c.args.target.now in
     let counts : List Count = c.loop-call.counts.items in
     let things = c.in_ok-meant.meant.targets.items in
     elim c.if-contains.branch [
@@ -35,13 +28,10 @@ loop-call-preserved c =
           rw w.counts-is (record {
             calls = ap calls_of all ∙ call_counted set i c.loop-call-test.true counts found (sym c.contains.ensures ∙ w.if-contains.true)
                 c.loop-call.invariant.calls;
-            counted = λ about thing.
-                let at = c.tree.ensures in
-                let asked = subst (λ (t : Tree). IsAskedBy t h (asking_by word about) (Some (kind_of of)) things) at
-                (c.in_ok-meant.ensures.meant about (subst (λ (t : Tree). IsThing t about of) (sym at) thing)) in
-                subst (AllByRecursion (IsCount behind.rules done n h (asking_by word about) (kind_of of))) (sym all)
-                (steps_counted behind.rules done n h (asking_by word about) (kind_of of) things asked counts call found
-                (c.loop-call.invariant.counted about thing) w.in_ok-steps.ensures.steps w.in_ok-steps.ensures.none);
+            counted =
+                subst (AllByRecursion (IsCountTo rules done n target)) (sym all)
+                (steps_counted rules done n target counts call found things c.in_ok-meant.ensures c.loop-call.invariant.counted
+                w.in_ok-steps.ensures.steps w.in_ok-steps.ensures.none);
           })
       | else-contains w ↦ rw w.counts-is (record {
         calls = call_passed set i c.loop-call-test.true counts (sym c.contains.ensures ∙ w.if-contains.false) c.loop-call.invariant.calls;

@@ -1,6 +1,9 @@
 use Rattle.pua_tool.proofs.Common.{◌≡◌, ◌≢◌, ℕ, List, [], ◌++◌, ◌∙◌, map, ap, sym, subst, refl, None, Ok, ProcessState, Tree, CallTable}
-use Rattle.pua_tool.proofs.Common.{answer_lines, err_from_is_err_and, OutOfMemory, Tells, Write, unless_reason}
+use Rattle.pua_tool.proofs.Common.{answer_lines, err_from_is_err_and, OutOfMemory, Write, unless_reason, AnswersTo}
+use Rattle.std.specs.List.{AllByRecursion}
 use Rattle.std.specs.Prelude.{string_bytes}
+use Rattle.pua_tree.specs.Tree.{WellFormed}
+use Rattle.pua_ever.specs.EverList.{IsRowOn}
 use Rattle.pua_ever.specs.LastingList.{IsBothOf, IsLasting}
 use Rattle.pua_ever.specs.Refusals.{refusal}
 use Rattle.pua_ever.specs.Through.{ever_lasting}
@@ -9,8 +12,7 @@ use Rattle.pua_texts.specs.EverHowLines.{AreToldWith, ever_list_with}
 use Rattle.pua_tool.specs.RowColumns.{AreColumns, done_behind}
 use Rattle.pua_tool.specs.declared.fault.ToolFault.TheVariants.{NoProcess}
 use Rattle.pua_tool.proofs.EverHowTexts.{fault_after, list_after, no_process, refused_after}
-use Rattle.pua_tool.proofs.RowColumns.{lines_told}
-use Rattle.pua_tool.proofs.TextAnswers.{answers_told}
+use Rattle.pua_tool.proofs.RowColumns.{columns_told, lines_told}
 use Rattle.pua_tool.proofs.ever_how.list_to.Goals as goal
 
 pub returns-in_default : goal.returns-in_default
@@ -20,12 +22,15 @@ returns-in_default g c =
     fault_after behind.rules done behind.number g.S.Sink.written g.S.Sink.failed NoProcess c.args.sink.now (λ same. cc)
     (λ other. no_process behind.rules done behind.number (sym c.in_default.ensures))
 
-pub returns-in_default-both_of : goal.returns-in_default-both_of
-returns-in_default-both_of g c =
+pub returns-in_err-both : goal.returns-in_err-both
+returns-in_err-both g c =
+    let p = err_from_is_err_and c.from_residual.result c.from_residual.ensures.1 in
     let behind = c.args.behind.now in
-    let done = done_behind behind in
-    fault_after behind.rules done behind.number g.S.Sink.written g.S.Sink.failed OutOfMemory c.args.sink.now (λ same. cc)
-    (λ other. absurd (other refl))
+    let memory : p.0 ≡ OutOfMemory = p.2 in
+    let unwritten : p.0 ≢ Write = λ same. cc in
+    rw p.1 (
+    fault_after behind.rules (done_behind behind) behind.number g.S.Sink.written g.S.Sink.failed p.0 c.args.sink.now unwritten
+    (λ other. absurd (other memory)))
 
 pub returns-in-Err : goal.returns-in-Err
 returns-in-Err g c =
@@ -34,7 +39,7 @@ returns-in-Err g c =
     let n : ℕ = behind.number in
     let fault = c.fault_of.result in
     let h = c.in-Some.process.now in
-    let whose = subst (IsBothOf c.table-table.result.now h) (sym c.as_ref.ensures.value) c.in-Ok.ensures in
+    let whose = subst (IsBothOf c.table-table.result.now h) (sym c.as_ref.ensures.value) c.in_ok-both.ensures in
     let reason = (λ i. refusal (sym c.table-table.ensures i) h) ∙ c.in-Err.ensures.refused whose in
     fault_after behind.rules done n g.S.Sink.written g.S.Sink.failed fault c.args.sink.now c.fault_of.ensures.unwritten
     (λ other. refused_after behind.rules done n h fault (sym c.in-Some.ensures)
@@ -42,7 +47,7 @@ returns-in-Err g c =
 
 pub returns-in_err-columns : goal.returns-in_err-columns
 returns-in_err-columns g c =
-    let p = err_from_is_err_and c.from_residual.result c.from_residual.ensures.1 in
+    let p = err_from_is_err_and c.from_residual-in_err-columns.result c.from_residual-in_err-columns.ensures.1 in
     let behind = c.args.behind.now in
     let fault = c.in_err-columns.field-0.0 in
     let memory : fault ≡ OutOfMemory = c.in_err-columns.ensures.memory in
@@ -51,12 +56,25 @@ returns-in_err-columns g c =
     (fault_after behind.rules (done_behind behind) behind.number g.S.Sink.written g.S.Sink.failed fault c.args.sink.now unwritten
     (λ other. absurd (other memory)))
 
-pub returns-in_default-answer_text : goal.returns-in_default-answer_text
-returns-in_default-answer_text g c =
+pub returns-in_err-front : goal.returns-in_err-front
+returns-in_err-front g c =
+    let p = err_from_is_err_and c.from_residual-in_err-front.result c.from_residual-in_err-front.ensures.1 in
     let behind = c.args.behind.now in
-    let done = done_behind behind in
-    fault_after behind.rules done behind.number g.S.Sink.written g.S.Sink.failed OutOfMemory c.args.sink.now (λ same. cc)
-    (λ other. absurd (other refl))
+    let memory : p.0 ≡ OutOfMemory = p.2 in
+    let unwritten : p.0 ≢ Write = λ same. cc in
+    rw p.1 (
+    fault_after behind.rules (done_behind behind) behind.number g.S.Sink.written g.S.Sink.failed p.0 c.args.sink.now unwritten
+    (λ other. absurd (other memory)))
+
+pub returns-in_err-lists : goal.returns-in_err-lists
+returns-in_err-lists g c =
+    let p = err_from_is_err_and c.from_residual-in_err-lists.result c.from_residual-in_err-lists.ensures.1 in
+    let behind = c.args.behind.now in
+    let memory : p.0 ≡ OutOfMemory = p.2 in
+    let unwritten : p.0 ≢ Write = λ same. cc in
+    rw p.1 (
+    fault_after behind.rules (done_behind behind) behind.number g.S.Sink.written g.S.Sink.failed p.0 c.args.sink.now unwritten
+    (λ other. absurd (other memory)))
 
 pub returns : goal.returns
 returns g c =
@@ -68,32 +86,28 @@ returns g c =
     let t : Tree = c.tree-tree.result.now in
     let ruled : table ≡ done.table = c.table-table.ensures in
     let at : t ≡ done.world.tree = c.tree-tree.ensures in
-    let whose = subst (IsBothOf table h) (sym c.as_ref.ensures.value) c.in-Ok.ensures in
-    let list = c.in-Ok-list_lasting.list in
+    let whose = subst (IsBothOf table h) (sym c.as_ref.ensures.value) c.in_ok-both.ensures in
+    let list = c.in-Ok.list in
     let rows : List EverRow = list.rows.items in
     let texts : List (List ℕ) = map string_bytes c.in_ok-columns.columns.items in
-    let lasting = c.in-Ok-list_lasting.ensures.list whose in
+    let lasting = c.in-Ok.ensures.list whose in
     let there = subst (λ (table : CallTable). IsLasting done.world.tree table h list) ruled
     (subst (λ (t : Tree). IsLasting t table h list) at lasting) in
-    let columns = subst (λ (rows : List EverRow). AreColumns behind.rules done n h [] rows texts) c.as_slice.ensures.value
-    c.in_ok-columns.ensures.columns in
+    let on = subst (λ (rows : List EverRow). AllByRecursion (IsRowOn done.world.tree h) rows) (sym c.as_slice.ensures.value) there.items in
+    let columns = subst (λ (rows : List EverRow). AreColumns behind.rules done n h rows texts) c.as_slice.ensures.value
+    (c.in_ok-columns.ensures.columns on) in
     let lines = lines_told behind.rules done n h [] rows texts (ever_lasting done.world.tree done.table h) there.rows columns in
-    let none : refusal done.table h ≡ None = (λ i. refusal (sym ruled i) h) ∙ c.in-Ok-list_lasting.ensures.refused whose in
-    let front : c.as_str-front.result.now ≡ answer_lines 1 done.answers = c.as_str-front.ensures.value ∙ c.in-Ok-answer_text.ensures ∙
+    let own = columns_told behind.rules done n h (subst WellFormed at c.known.ensures) lines.told lines.lines_are lines.columns in
+    let none : refusal done.table h ≡ None = (λ i. refusal (sym ruled i) h) ∙ c.in-Ok.ensures.refused whose in
+    let front : c.as_str.result.now ≡ answer_lines 1 done.answers = c.as_str.ensures.value ∙ c.in_ok-front.ensures ∙
     ap (answer_lines 1) c.as_slice-2.ensures.value in
     let told : List ℕ = ever_list_with behind.rules done.table done.world.tree n h lines.told in
     let text : List ℕ = answer_lines 1 done.answers ++ told in
-    let written : Tells text c.write_ever_how.result (g.S.Sink.written c.args.sink.now) (g.S.Sink.written c.write_ever_how.new.sink)
-    (g.S.Sink.failed c.args.sink.now) (g.S.Sink.failed c.write_ever_how.new.sink) =
-    subst (λ (text : List ℕ). Tells text c.write_ever_how.result (g.S.Sink.written c.args.sink.now) (g.S.Sink.written c.write_ever_how.new.sink)
-    (g.S.Sink.failed c.args.sink.now) (g.S.Sink.failed c.write_ever_how.new.sink))
-    (λ i. front i ++ ever_list_with behind.rules (ruled i) (at i) n h lines.told)
-    (c.write_ever_how.ensures table lines.told lasting.execs
-    (subst (λ (t : Tree). AreToldWith t [] rows texts lines.told) (sym at) lines.are)) in (
+    let listed = c.in_ok-lists.ensures t table lines.told lasting.execs (subst (λ (t : Tree). AreToldWith t [] rows texts lines.told) (sym at) lines.are) in (
       Ok text,
       list_after behind.rules done n h told (Ok text) (sym c.in-Some.ensures) none
-          (record { lines = lines.told; are = lines.lines_are; columns = lines.columns; is = refl }) refl,
-      answers_told g.S.Sink.written g.S.Sink.failed (Ok text) text c.told.result c.args.sink.now c.write_ever_how.new.sink refl
-          (c.told.ensures text (g.S.Sink.written c.args.sink.now) (g.S.Sink.written c.write_ever_how.new.sink)
-          (g.S.Sink.failed c.args.sink.now) (g.S.Sink.failed c.write_ever_how.new.sink) written),
+          (record { lines = lines.told; are = lines.lines_are; columns = own; is = refl }) refl,
+      subst (λ (text : List ℕ). AnswersTo g.S.Sink.written g.S.Sink.failed (Ok text) c.put_lists.result c.args.sink.now c.put_lists.new.sink)
+          ((λ i. front i ++ listed i) ∙ (λ i. answer_lines 1 done.answers ++ ever_list_with behind.rules (ruled i) (at i) n h lines.told))
+          c.put_lists.ensures,
     )

@@ -1,4 +1,5 @@
-use Rattle.pua_tool.proofs.Common.{◌≡◌, ◌++◌, Ok, List, ℕ, ap, subst, ◌∙◌, err_from_is_err_and, answer_lines, Tells, as_replayed}
+use Rattle.pua_tool.proofs.Common.{◌≡◌, ◌++◌, ◌∙◌, Ok, List, ℕ, ap, subst, err_from_is_err_and, answer_lines, as_replayed, AnswersTo}
+use Rattle.pua_texts.specs.ListLines.{lists_text}
 use Rattle.pua_texts.specs.ObjectLines.{lists_of}
 use Rattle.pua_tool.specs.ObjectTexts.{numbers_asked, objects_after}
 use Rattle.pua_tool.proofs.TextAnswers.{first_refuses, next_answers}
@@ -16,16 +17,13 @@ pub returns : goal.returns
 returns g c =
     let done = as_replayed c.args.replay.now in
     let numbers : List ℕ = c.in_ok-numbers.numbers.items in
-    let a = g.S.Sink.written c.args.sink.now in
-    let b = g.S.Sink.written c.write_lists.new.sink in
-    let n = g.S.Sink.failed c.args.sink.now in
-    let m = g.S.Sink.failed c.write_lists.new.sink in
-    let front : c.as_str.result.now ≡ answer_lines 1 done.answers = c.as_str.ensures.value ∙ c.in-Ok.ensures ∙
+    let front : c.as_str.result.now ≡ answer_lines 1 done.answers = c.as_str.ensures.value ∙ c.in_ok-front.ensures ∙
     ap (answer_lines 1) c.as_slice.ensures.value in
-    let written : Tells (objects_after c.args.rules done.table done.answers done.world numbers) c.write_lists.result a b n m =
-    subst (λ (text : List ℕ). Tells text c.write_lists.result a b n m)
-    (λ i. front i ++ lists_of c.args.rules done.table done.world (c.as_slice-2.ensures.value i)) c.write_lists.ensures in
+    let listed : lists_text done.world.tree c.in_ok-lists.lists.items ≡ lists_of c.args.rules done.table done.world numbers =
+    c.in_ok-lists.ensures ∙ ap (lists_of c.args.rules done.table done.world) c.as_slice-2.ensures.value in
     next_answers g.S.Sink.written g.S.Sink.failed (numbers_asked done.world c.args.whose.now)
-    (λ numbers. Ok (objects_after c.args.rules done.table done.answers done.world numbers)) numbers c.told.result c.args.sink.now c.write_lists.new.sink
+    (λ numbers. Ok (objects_after c.args.rules done.table done.answers done.world numbers)) numbers c.put_lists.result c.args.sink.now c.put_lists.new.sink
     c.in_ok-numbers.ensures.asked
-    (c.told.ensures (objects_after c.args.rules done.table done.answers done.world numbers) a b n m written)
+    (subst (λ (text : List ℕ). AnswersTo g.S.Sink.written g.S.Sink.failed (Ok text) c.put_lists.result c.args.sink.now c.put_lists.new.sink)
+    ((λ i. front i ++ lists_text (c.tree.ensures i) c.in_ok-lists.lists.items) ∙ ap (λ text. answer_lines 1 done.answers ++ text) listed)
+    c.put_lists.ensures)

@@ -1,7 +1,6 @@
-use Rattle.pua_tool.proofs.Common.{◌≡◌, ◌++◌, ◌∙◌, List, ℕ, Ok, ap, sym, subst, map, answers_to, world_of}
+use Rattle.pua_tool.proofs.Common.{◌≡◌, ◌++◌, ◌∙◌, List, ℕ, Ok, ap, sym, subst, map, answers_to, world_of, AnswersTo}
 use Rattle.pua_since.specs.Dates.{veil_date, veil_seen}
-use Rattle.pua_texts.specs.Tells.{TellsTo}
-use Rattle.pua_texts.specs.WhyLines.{why_lists_of}
+use Rattle.pua_texts.specs.ListLines.{lists_text}
 use Rattle.pua_tool.specs.PosedScripts.{as_asking}
 use Rattle.pua_tool.specs.WhyTexts.{reason_lines}
 use Rattle.pua_tool.proofs.objects_why.write_all.Goals as goal
@@ -13,12 +12,14 @@ returns g c = λ read is.
     let dated = c.in_ok-front.ensures (read ∙ ap Ok (sym asks))
     (c.as_slice-answers.ensures.value ∙ is.answers ∙ ap (answers_to p.table p.world) (sym asks)) in
     let date = veil_date p.table p.world p.asks in
-    let lines = c.as_slice-lines.ensures.value ∙ dated.1
+    let lines = c.as_slice.ensures.value ∙ dated.1
     ∙ (λ i. map (veil_date p.table p.world (asks i)) (map veil_seen c.as_slice-veils.result.now))
     ∙ ap (λ veils. map date (map veil_seen veils)) c.as_slice-veils.ensures.value
     ∙ ap (map date) c.in_ok-veils.ensures in
-    let front : c.as_str-front.result.now ≡ reason_lines c.args.rules p = c.as_str-front.ensures.value ∙ dated.0
+    let front : c.as_str.result.now ≡ reason_lines c.args.rules p = c.as_str.ensures.value ∙ dated.0
     ∙ (λ i. reason_lines c.args.rules (record { table = p.table; world = p.world; asks = asks i })) in
-    subst (λ (text : List ℕ). TellsTo g.S.Sink.written g.S.Sink.failed text c.write_why_lists.result c.args.sink.now c.write_why_lists.new.sink)
-    (ap (λ front. front ++ why_lists_of c.args.rules p c.args.numbers.now) front)
-    (c.write_why_lists.ensures p (λ i. world_of (is.after i)) (λ i. (is.after i).table) lines)
+    subst (λ (text : List ℕ). AnswersTo g.S.Sink.written g.S.Sink.failed (Ok text) c.put_lists.result c.args.sink.now c.put_lists.new.sink)
+    ((λ i. front i ++ lists_text (c.tree.ensures i) c.in_ok-lists.lists.items)
+    ∙ (λ i. reason_lines c.args.rules p ++ lists_text (world_of (is.after i)).tree c.in_ok-lists.lists.items)
+    ∙ ap (λ text. reason_lines c.args.rules p ++ text) (c.in_ok-lists.ensures p (λ i. world_of (is.after i)) (λ i. (is.after i).table) lines))
+    c.put_lists.ensures

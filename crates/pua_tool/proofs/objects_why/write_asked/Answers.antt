@@ -1,4 +1,4 @@
-use Rattle.pua_tool.proofs.Common.{◌≡◌, ◌++◌, ◌∙◌, Ok, List, ℕ, World, ap, sym, subst, world_of, err_from_is_err_and, Tells}
+use Rattle.pua_tool.proofs.Common.{◌++◌, ◌∙◌, Ok, List, ℕ, sym, subst, world_of, err_from_is_err_and, AnswersTo}
 use Rattle.pua_texts.specs.WhyLines.{why_lists_of, world_left}
 use Rattle.pua_tool.specs.ObjectTexts.{numbers_asked}
 use Rattle.pua_tool.specs.PosedScripts.{as_asking}
@@ -19,13 +19,8 @@ pub returns : goal.returns
 returns g c = λ read is.
     let q = as_asking c.args.posed.now in
     let numbers : List ℕ = c.in_ok-numbers.numbers.items in
-    let a = g.S.Sink.written c.args.sink.now in
-    let b = g.S.Sink.written c.write_all.new.sink in
-    let n = g.S.Sink.failed c.args.sink.now in
-    let m = g.S.Sink.failed c.write_all.new.sink in
     next_answers g.S.Sink.written g.S.Sink.failed (numbers_asked (world_left q) c.args.whose.now)
-    (λ numbers. Ok (reason_lines c.args.rules q ++ why_lists_of c.args.rules q numbers)) numbers c.told.result c.args.sink.now c.write_all.new.sink
+    (λ numbers. Ok (reason_lines c.args.rules q ++ why_lists_of c.args.rules q numbers)) numbers c.write_all.result c.args.sink.now c.write_all.new.sink
     ((λ i. numbers_asked (world_of (sym is.after i)) c.args.whose.now) ∙ c.in_ok-numbers.ensures.asked)
-    (c.told.ensures (reason_lines c.args.rules q ++ why_lists_of c.args.rules q numbers) a b n m
-    (subst (λ (lent : List ℕ). Tells (reason_lines c.args.rules q ++ why_lists_of c.args.rules q lent) c.write_all.result a b n m) c.as_slice-numbers.ensures.value
-    (c.write_all.ensures read is)))
+    (subst (λ (lent : List ℕ). AnswersTo g.S.Sink.written g.S.Sink.failed (Ok (reason_lines c.args.rules q ++ why_lists_of c.args.rules q lent))
+    c.write_all.result c.args.sink.now c.write_all.new.sink) c.as_slice.ensures.value (c.write_all.ensures read is))

@@ -19,8 +19,8 @@ loop-member-preserved c =
     ∙ map-append (λ (m : Member). m.process) (take i more) (slice_index_or more i item ∷ [])
     ∙ ap (λ (m : Member). map (λ (m : Member). m.process) (take i more) ++ m.process ∷ []) (sym c.member-item.is))
 
-pub returns-in-Ok-join-clause-joined : goal.returns-in-Ok-join-clause-joined
-returns-in-Ok-join-clause-joined c =
+pub returns-clause-joined : goal.returns-clause-joined
+returns-clause-joined c =
     let more : List Member = c.args.more.now in
     let lent : c.as_slice.result.now ≡ map (λ (m : Member). m.process) more =
     c.as_slice.ensures.value ∙ c.loop-member.invariant
@@ -29,4 +29,4 @@ returns-in-Ok-join-clause-joined c =
     ap (map (λ (p : Bor ProcessState). p.now)) lent
     ∙ map-map (λ (p : Bor ProcessState). p.now) (λ (m : Member). m.process) more
     ∙ sym (map-map (λ (named : ℕ × ProcessState). named.1) (λ (m : Member). (m.number, m.process.now)) more) in
-    ap Some (sym (c.in-Ok-join.ensures ∙ ap (joined c.args.table.now c.args.first.now.process.now) states))
+    ap Some (sym (c.in_ok-join.ensures ∙ ap (joined c.args.table.now c.args.first.now.process.now) states))

@@ -1,5 +1,5 @@
-use Rattle.pua_tool.proofs.Common.{◌≡◌, ℕ, List, ◌++◌, ◌∷◌, Ok, ap, sym, subst, ◌∙◌, None, Some, CallTable, Tells, unless_reason}
-use Rattle.pua_tool.proofs.Common.{err_from_is_err_and}
+use Rattle.pua_tool.proofs.Common.{◌≡◌, ℕ, List, ◌++◌, ◌∷◌, Ok, ap, sym, subst, ◌∙◌, None, CallTable, unless_reason, AnswersTo}
+use Rattle.pua_tool.proofs.Common.{◌≢◌, err_from_is_err_and, OutOfMemory, Write}
 use Rattle.pua_ever.specs.LastingList.{IsBothOf}
 use Rattle.pua_texts.specs.Members.{named_by}
 use Rattle.pua_texts.specs.TogetherLines.{one_for, together_list}
@@ -17,6 +17,17 @@ returns-in_err-one g c =
     (Ok (c.args.front.now ++ together_list c.args.rules w.table w.tree (named_by c.args.members.now)))
     c.in_err-one.field-0.0 c.args.sink.now c.in_err-one.ensures.unwritten (λ other. absurd (other c.in_err-one.ensures.memory)))
 
+pub returns-in_err-lists : goal.returns-in_err-lists
+returns-in_err-lists g c =
+    let w = c.args.world.now in
+    let p = err_from_is_err_and c.from_residual-in_err-lists.result c.from_residual-in_err-lists.ensures.1 in
+    let memory : p.0 ≡ OutOfMemory = p.2 in
+    let unwritten : p.0 ≢ Write = λ same. cc in
+    rw p.1 (λ live none.
+    answers_refused g.S.Sink.written g.S.Sink.failed
+    (Ok (c.args.front.now ++ together_list c.args.rules w.table w.tree (named_by c.args.members.now))) p.0 c.args.sink.now unwritten
+    (λ other. absurd (other memory)))
+
 pub returns-in-Err : goal.returns-in-Err
 returns-in-Err g c = λ live none.
     let w = c.args.world.now in
@@ -25,7 +36,7 @@ returns-in-Err g c = λ live none.
     let named = named_by c.args.members.now in
     let listed = one_living of named (named_by (c.args.first.now ∷ c.args.more.now)) one
     (subst (λ (table : CallTable). first_refused table named ≡ None) (sym c.table-table.ensures) none) (sym live) c.in_ok-one.ensures.joined in
-    let whose = subst (IsBothOf of one) (sym c.as_ref.ensures.value) c.in-Ok.ensures in
+    let whose = subst (IsBothOf of one) (sym c.as_ref.ensures.value) c.in_ok-both.ensures in
     let text = c.args.front.now ++ together_list c.args.rules w.table w.tree named in
     answers_refused g.S.Sink.written g.S.Sink.failed (Ok text) c.fault_of.result c.args.sink.now c.fault_of.ensures.unwritten
     (λ other. ap (λ reason. unless_reason c.args.first.now.number reason text) (sym listed ∙ c.in-Err.ensures.refused whose)
@@ -37,12 +48,8 @@ returns g c = λ live none.
     let of = c.table-table.result.now in
     let one = c.in_ok-one.one in
     let named = named_by c.args.members.now in
-    let whose = subst (IsBothOf of one) (sym c.as_ref.ensures.value) c.in-Ok.ensures in
-    let text = c.args.front.now ++ together_list c.args.rules w.table w.tree named in
-    c.told.ensures text (g.S.Sink.written c.args.sink.now) (g.S.Sink.written c.write_together.new.sink) (g.S.Sink.failed c.args.sink.now)
-    (g.S.Sink.failed c.write_together.new.sink)
-    (subst (λ (text : List ℕ). Tells text c.write_together.result (g.S.Sink.written c.args.sink.now) (g.S.Sink.written c.write_together.new.sink)
-    (g.S.Sink.failed c.args.sink.now) (g.S.Sink.failed c.write_together.new.sink))
-    (λ i. c.args.front.now ++ together_list c.args.rules (c.table-table.ensures i) (c.tree-tree.ensures i) named)
-    (c.write_together.ensures of
-    (record { is = sym c.in_ok-one.ensures.joined ∙ ap (one_for of) live; lasting = c.in-Ok-list_lasting.ensures.list whose })))
+    let whose = subst (IsBothOf of one) (sym c.as_ref.ensures.value) c.in_ok-both.ensures in
+    subst (λ (text : List ℕ). AnswersTo g.S.Sink.written g.S.Sink.failed (Ok text) c.put_lists.result c.args.sink.now c.put_lists.new.sink)
+    (ap (λ text. c.args.front.now ++ text) (c.in_ok-lists.ensures c.tree-tree.result.now of
+    (record { is = sym c.in_ok-one.ensures.joined ∙ ap (one_for of) live; lasting = c.in-Ok.ensures.list whose }))
+    ∙ (λ i. c.args.front.now ++ together_list c.args.rules (c.table-table.ensures i) (c.tree-tree.ensures i) named)) c.put_lists.ensures

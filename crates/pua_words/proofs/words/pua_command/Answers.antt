@@ -3,6 +3,7 @@ use Rattle.pua_words.proofs.words.pua_command.Goals as goal
 pub returns : goal.returns
 returns c =
     let run = c.run_command.ensures in
+    let tree = c.tree_command.ensures in
     let objects = c.objects_command.ensures in
     let why = c.why_command.ensures in
     let tight = c.tight_command.ensures in
@@ -10,6 +11,7 @@ returns c =
     let audit = c.audit_command.ensures in (
       record {
         run = run.0;
+        tree = tree.0;
         objects = objects.0;
         why_process = why.0;
         why = why.1;
@@ -22,9 +24,10 @@ returns c =
         audit = audit.2;
       },
       c.with_command.ensures _ _
+          (c.with_command-pua-6.ensures _ _
           (c.with_command-pua-5.ensures _ _
           (c.with_command-pua-4.ensures _ _
           (c.with_command-pua-3.ensures _ _
-          (c.with_command-pua-2.ensures _ _ (c.with_command-pua.ensures _ _ c.program.ensures run.1) objects.1) why.2) tight.1)
+          (c.with_command-pua-2.ensures _ _ (c.with_command-pua.ensures _ _ c.program.ensures run.1) tree.1) objects.1) why.2) tight.1)
           how.3) audit.3,
     )

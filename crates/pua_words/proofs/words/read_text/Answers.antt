@@ -9,5 +9,5 @@ returns-in-why-clause-read c = why_read _ _ _ c.in-why.is c.why_of.ensures.read
 
 pub returns-in_default-clause-read : goal.returns-in_default-clause-read
 returns-in_default-clause-read c =
-    audit_read _ _ _ c.in_default.not-run c.in_default.not-objects c.in_default.not-why c.in_default.not-tight c.in_default.not-how
+    audit_read _ _ _ c.in_default.not-run c.in_default.not-tree c.in_default.not-objects c.in_default.not-why c.in_default.not-tight c.in_default.not-how
     c.audit_of.ensures.read

@@ -1,0 +1,14 @@
+pub mod Counting
+pub mod Common
+pub mod Walking
+pub mod FirstLines
+pub mod Spelled
+pub mod Placed
+pub mod Fitting
+pub mod Renumbering
+pub mod SecondLines
+pub mod ReadBack
+pub mod Under
+pub mod Numbered
+pub mod Ordering
+pub mod Written
