@@ -65,5 +65,5 @@ pub use Rattle.pua_ever.specs.Ever.{NewLink, NewOthers, own_spot, removable_dir,
 pub use Rattle.pua_ever.specs.Ever.{can_move, may_rename, open_covers}
 pub use Rattle.pua_ever.specs.EverLines.{both_of, ever_lines_of, made_left}
 pub use Rattle.pua_ever.specs.Laws.{EditsNeedC, VeilsStand}
-pub use Rattle.pua_ever.specs.Openings.{dir_opening, entrance_cover, HaveSame, held_dir, name_opening, opened_dir}
+pub use Rattle.pua_ever.specs.Destinations.{dir_destination, entrance_cover, HaveSame, held_dir, name_destination, opened_dir}
 pub use Rattle.pua_ever.specs.Prospects.{AreOnFreed}

@@ -31,7 +31,7 @@ pub mod Rules
 pub mod KeptVeils
 pub mod Origin
 pub mod Opened
-pub mod Opening
+pub mod DestinationCovers
 pub mod Picked
 pub mod Under
 pub mod Refused

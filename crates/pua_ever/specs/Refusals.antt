@@ -8,8 +8,8 @@ use Rattle.pua_calls.specs.declared.call.Call.{Call}
 use Rattle.pua_ever.specs.Ever.{is_yes}
 use Rattle.pua_ever.specs.declared.fault.EverFault.{EverFault}
 use Rattle.pua_ever.specs.declared.fault.EverFault.TheVariants.{Refused, OutOfMemory}
-use Rattle.pua_ever.specs.declared.refusal.Refusal.{Refusal}
-use Rattle.pua_ever.specs.declared.refusal.Refusal.TheVariants.{CanUnveil, LacksC, RenameLacksC, LinkLacksC}
+use Rattle.pua_ever.specs.declared.refusal.EverRefusal.{EverRefusal}
+use Rattle.pua_ever.specs.declared.refusal.EverRefusal.TheVariants.{CanUnveil, LacksC, RenameLacksC, LinkLacksC}
 
 -- the process isn't locked, and may put veils
 abbrev pub can_unveil : ProcessState → Bool
@@ -30,16 +30,16 @@ new_needs_c pair = holds pair.new.needs.perms creating
 abbrev pub both_need_c : PairRule → Bool
 both_need_c pair = holds pair.old.needs.perms creating && new_needs_c pair
 
-abbrev pub table_refusal : CallTable → Option Call → Option Refusal
+abbrev pub table_refusal : CallTable → Option Call → Option EverRefusal
 table_refusal table (Some call) = Some (LacksC call)
 table_refusal table None =
     if both_need_c table.rename then (if new_needs_c table.link then None else Some LinkLacksC) else Some RenameLacksC
 
 -- the process's reason comes first
-abbrev pub refusal : CallTable → ProcessState → Option Refusal
+abbrev pub refusal : CallTable → ProcessState → Option EverRefusal
 refusal table h = if can_unveil h then Some CanUnveil else table_refusal table (find (lacks_c table) changing_calls)
 
 -- what a fault of the list says of it
-abbrev pub refusal_in : EverFault → Option Refusal
+abbrev pub refusal_in : EverFault → Option EverRefusal
 refusal_in (Refused why) = Some why
 refusal_in OutOfMemory = None

@@ -5,7 +5,7 @@ ghost use Rattle.std.specs.List.{list_any};
 ghost use Rattle.pua_policy.specs.States.{may_any as may_any_of};
 ghost use Rattle.pua_ever.specs.Ever.{may_rename as renames, can_move as moves, is_yes as says_yes};
 
-use crate::openings::has_c;
+use crate::destinations::has_c;
 use pua_calls::{CallTable, Promises};
 use pua_policy::{Cover, May, Process, judge};
 

@@ -31,7 +31,7 @@ ghost use Rattle.pua_ever.specs.Prospects.{kind_allowed, kind_covers};
 use crate::made::Made;
 use crate::movable::{Movable, calls_by_object};
 use crate::moving::{can_move, may_any};
-use crate::openings::{find_openings, has_c};
+use crate::destinations::{find_destinations, has_c};
 use crate::programs::{on_file, on_new_file};
 use pua_calls::{Call, CallTable, Calls};
 use pua_objects::{Item, Subject};
@@ -66,7 +66,7 @@ pub fn find_prospects<T: FileTree>(
 ) -> Result<Prospects, OutOfMemory>
     ensures { IfOk result (λ found. IsProspects (T.content tree.now) table.now process.now found) }
 {
-    let found = find_openings(alloc, tree, process)?;
+    let found = find_destinations(alloc, tree, process)?;
     let movable = calls_by_object(process, table, &found);
     Ok(Prospects {
         may_edit: may_edit(process, table),

@@ -341,11 +341,11 @@ refusals = record {
   unknown_letter = EINVAL;
 }
 
-abbrev pub Asking : Type 0
-Asking = Asker Errno Refusal
+abbrev pub Requester : Type 0
+Requester = Asker Errno Refusal
 
 -- a process that asks, by what it keeps
-abbrev pub asker_of : ProcessState → Asking
+abbrev pub asker_of : ProcessState → Requester
 asker_of p = record {
   promises = λ sets. refusal_of (may_any p sets);
   path = λ side t ending text last. resolution_of_text t p.dir ending text last;
@@ -387,13 +387,13 @@ inside_fault t x spot = inside_by EINVAL t x spot
 abbrev pub named_by : NameRule → Tree → ProcessState → Ending → List ℕ → Result Found Errno
 named_by name t h ending path = resolution_of_text t (working_dir h) ending path name.last
 
-abbrev pub decide_object : CallTable → Tree → Asking → Call → List ℕ → (Found → Decision) → Decision
+abbrev pub decide_object : CallTable → Tree → Requester → Call → List ℕ → (Found → Decision) → Decision
 decide_object table t asker call path further = object_by refusals table t asker call path further
 
-abbrev pub decide_call : CallTable → Tree → Asking → Call → List ℕ → Decision
+abbrev pub decide_call : CallTable → Tree → Requester → Call → List ℕ → Decision
 decide_call table t asker call path = call_by refusals table t asker call path
 
-abbrev pub decide_symlink : CallTable → Tree → Asking → List ℕ → List ℕ → Decision
+abbrev pub decide_symlink : CallTable → Tree → Requester → List ℕ → List ℕ → Decision
 decide_symlink table t asker target path = symlink_by refusals table t asker target path
 
 abbrev pub decide_rename : Tree → Found → Found → Option ℕ → Decision
@@ -402,34 +402,34 @@ decide_rename t old new node = rename_by refusals t old new node
 abbrev pub decide_link : Found → Found → Option ℕ → Decision
 decide_link old new node = link_by refusals old new node
 
-abbrev pub decide_objects : PairRule → Tree → Asking → Ending → List ℕ → List ℕ → (Found → Found → Decision) → Decision
+abbrev pub decide_objects : PairRule → Tree → Requester → Ending → List ℕ → List ℕ → (Found → Found → Decision) → Decision
 decide_objects pair t asker ending old_path new_path further = objects_by refusals pair t asker ending old_path new_path further
 
-abbrev pub decide_pair : PairRule → Tree → Asking → Ending → List ℕ → List ℕ → (Found → Found → Decision) → Decision
+abbrev pub decide_pair : PairRule → Tree → Requester → Ending → List ℕ → List ℕ → (Found → Found → Decision) → Decision
 decide_pair pair t asker ending old_path new_path further = pair_by refusals pair t asker ending old_path new_path further
 
-abbrev pub veiling : Asking → Place → ℕ → Decision
+abbrev pub veiling : Requester → Place → ℕ → Decision
 veiling asker place perms = veiling_by refusals asker place perms
 
-abbrev pub decide_veil : Tree → Asking → List ℕ → Option ℕ → Decision
+abbrev pub decide_veil : Tree → Requester → List ℕ → Option ℕ → Decision
 decide_veil t asker path perms = veil_by refusals t asker path perms
 
-abbrev pub decide_unveil : Tree → Asking → List ℕ → Option ℕ → Decision
+abbrev pub decide_unveil : Tree → Requester → List ℕ → Option ℕ → Decision
 decide_unveil t asker path perms = unveil_by refusals t asker path perms
 
-abbrev pub decide_lock : Asking → Decision
+abbrev pub decide_lock : Requester → Decision
 decide_lock asker = lock_by asker
 
-abbrev pub decide_fork : Asking → ℕ → Decision
+abbrev pub decide_fork : Requester → ℕ → Decision
 decide_fork asker new = fork_by asker new
 
-abbrev pub decide_uses : Asking → List ℕ → Decision
+abbrev pub decide_uses : Requester → List ℕ → Decision
 decide_uses asker sets = uses_by asker sets
 
-abbrev pub pledging : Asking → Option ℕ → Option ℕ → Decision
+abbrev pub pledging : Requester → Option ℕ → Option ℕ → Decision
 pledging asker promises execpromises = pledging_by refusals asker promises execpromises
 
-abbrev pub decide_pledge : Asking → Given → Given → Decision
+abbrev pub decide_pledge : Requester → Given → Given → Decision
 decide_pledge asker promises execpromises = pledge_by refusals asker promises execpromises
 
 -- what a process's request changes, or why it is refused, by what the process keeps

@@ -14,7 +14,7 @@ use Rattle.pua_calls.specs.declared.call.Call.{Call}
 use Rattle.pua_policy.specs.States.{Locked, Moved, Ended, ProcessState}
 use Rattle.pua_policy.specs.Verdict.{place_of}
 use Rattle.pua_policy.specs.declared.answer.Refusal.{Refusal}
-use Rattle.pua_script.specs.Decide.{NoChange, AddNode, CutRow, ShiftRow, TieRow, BeginProgram, AddEvent, Asking, Change, Decision, pledging}
+use Rattle.pua_script.specs.Decide.{NoChange, AddNode, CutRow, ShiftRow, TieRow, BeginProgram, AddEvent, Requester, Change, Decision, pledging}
 use Rattle.pua_script.specs.Decide.{veiling}
 use Rattle.pua_script.specs.Decide.{plain_node, link_node, made_in, making, cutting, if_named, unless_fault, covers_by, asker_of}
 use Rattle.pua_script.specs.declared.granted.Granted.{Granted}
@@ -41,7 +41,7 @@ node_made new_nodes.Directory = plain_node kind.Dir
 node_made (new_nodes.Link target) = link_node target.now.bytes
 
 -- what was granted, as a decision: of a pledge and an unveil the process itself judges the last check
-abbrev pub decision_by : Asking → Granted → Decision
+abbrev pub decision_by : Requester → Granted → Decision
 decision_by asker granted.NoChange = Ok NoChange
 decision_by asker (granted.AddNode dir name node) = Ok (AddNode (dir, name.now) (node_made node))
 decision_by asker (granted.CutRow dir name) = Ok (CutRow (dir, name.now))
@@ -90,6 +90,6 @@ on_judged (Ok x) further = further x
 on_judged (Err refusal) further = Err refusal
 
 -- what was granted, or refused, as a decision
-abbrev pub decision_for : Asking → Result Granted Refusal → Decision
+abbrev pub decision_for : Requester → Result Granted Refusal → Decision
 decision_for asker (Ok granted) = decision_by asker granted
 decision_for asker (Err refusal) = Err refusal

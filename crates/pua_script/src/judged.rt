@@ -12,7 +12,7 @@ ghost use Rattle.pua_calls.specs.Calls.{CallTable as Rules, rule_of};
 ghost use Rattle.pua_calls.specs.declared.call.Call.TheVariants.{Symlink};
 ghost use Rattle.pua_policy.specs.States.{may_any};
 ghost use Rattle.pua_policy.specs.Verdict.{place_of};
-ghost use Rattle.pua_script.specs.Decide.{Asking, Decision, asker_of, change_by, cutting};
+ghost use Rattle.pua_script.specs.Decide.{Requester, Decision, asker_of, change_by, cutting};
 ghost use Rattle.pua_script.specs.Decide.{decide_object, decide_unveil, decide_veil, if_may};
 ghost use Rattle.pua_script.specs.Decide.{if_named, placing, unless_fault, veiling};
 ghost use Rattle.pua_script.specs.Judged.{NameFits, decision_for, decision_by, edit_by, is_edit};
@@ -68,7 +68,7 @@ pub(crate) fn named_lent<'a, 't: 'a, P: Probe<'t>>(
 /// What an allowed call changes that makes no name and takes none away. Of what was found it keeps
 /// no more than a directory's number, so no name is copied.
 pub(crate) fn looking<'g>(table: &CallTable, call: Call, found: &LentFound<'_>) -> Granted<'g>
-    ensures { is_edit call ≡ false → (asker : Asking) →
+    ensures { is_edit call ≡ false → (asker : Requester) →
         decision_by asker result ≡ Ok (change_by table.now call (found_seen found.now)) }
 {
     match call.effect() {
@@ -112,7 +112,7 @@ pub(crate) fn editing<'a>(
     name: &'a Name,
     there: Option<NodeId>,
 ) -> Granted<'a>
-    ensures { (asker : Asking) →
+    ensures { (asker : Requester) →
         decision_by asker result ≡ Ok (edit_by call (Some (dir, name.now)) there) }
 {
     match call.effect() {
@@ -131,7 +131,7 @@ pub(crate) fn adding<'a>(
     name: &'a Name,
     there: Option<NodeId>,
 ) -> Granted<'a>
-    ensures { (asker : Asking) → decision_by asker result
+    ensures { (asker : Requester) → decision_by asker result
         ≡ Ok (placing (node_made node.entry) (Some (dir, name.now)) there) }
 {
     match there {
@@ -142,7 +142,7 @@ pub(crate) fn adding<'a>(
 
 /// The row of what has a name.
 fn removing<'a>(dir: NodeId, name: &'a Name, there: Option<NodeId>) -> Granted<'a>
-    ensures { (asker : Asking) →
+    ensures { (asker : Requester) →
         decision_by asker result ≡ Ok (cutting (Some (dir, name.now)) there) }
 {
     match there {
@@ -205,7 +205,7 @@ pub(crate) fn grant_unveil(
     judged: &Result<Found, Errno>,
     perms: Perms,
 ) -> Result<Granted<'_>, Refusal>
-    ensures { (asker : Asking) →
+    ensures { (asker : Requester) →
         decision_for asker result
         ≡ if_named judged.now (λ object. veiling asker (place_of object) perms) }
 {

@@ -4,7 +4,7 @@ ghost use Rattle.std.specs.Prelude.{◌≡◌, Ok};
 ghost use Rattle.pua_path.specs.Fits.{node_named, spot_named};
 ghost use Rattle.pua_path.specs.Walks.{found_seen};
 ghost use Rattle.pua_path.specs.declared.text.Ending.TheVariants.{Dot};
-ghost use Rattle.pua_script.specs.Decide.{Asking, TieRow, decide_link, tying};
+ghost use Rattle.pua_script.specs.Decide.{Requester, TieRow, decide_link, tying};
 ghost use Rattle.pua_script.specs.Judged.{decision_by, if_covered, tied};
 
 use crate::granted::Granted;
@@ -75,7 +75,7 @@ fn tying<'a>(node: NodeId, to: &LentFound<'a>) -> Option<Tie<'a>>
 
 /// A node is to get a further name.
 pub(crate) fn naming<'a>(dir: NodeId, name: &'a Name, node: NodeId) -> Granted<'a>
-    ensures { (asker : Asking) → decision_by asker result ≡ Ok (TieRow (dir, name.now) node) }
+    ensures { (asker : Requester) → decision_by asker result ≡ Ok (TieRow (dir, name.now) node) }
 {
     Granted::TieRow(dir, name, node)
 }

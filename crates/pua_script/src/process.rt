@@ -4,7 +4,7 @@
 ghost use Rattle.std.specs.Prelude.{◌≡◌};
 ghost use Rattle.pua_tree.specs.Tree.{Tree};
 ghost use Rattle.pua_policy.specs.States.{ProcessState};
-ghost use Rattle.pua_script.specs.Decide.{Asking, asker_of, decide_lock, decide_pledge};
+ghost use Rattle.pua_script.specs.Decide.{Requester, asker_of, decide_lock, decide_pledge};
 ghost use Rattle.pua_script.specs.Decide.{decide_uses, given_set, is_unknown};
 ghost use Rattle.pua_script.specs.Judged.{decision_for};
 ghost use Rattle.pua_script.specs.Replay.{refusal_effect};
@@ -37,7 +37,7 @@ pub(crate) fn decide_pledge<'a>(
     promises: &Given,
     execpromises: &Given,
 ) -> Result<Granted<'a>, Refusal>
-    ensures { (asker : Asking) →
+    ensures { (asker : Requester) →
         decision_for asker result ≡ decide_pledge asker promises.now execpromises.now }
 {
     if is_unknown(promises) || is_unknown(execpromises) {

@@ -6,7 +6,7 @@ ghost use Rattle.pua_path.specs.Fits.{StandsAsNamed, spot_named, node_named};
 ghost use Rattle.pua_path.specs.Walks.{found_seen};
 ghost use Rattle.pua_path.specs.declared.text.Ending.TheVariants.{Dropped};
 ghost use Rattle.pua_policy.specs.Verdict.{or_fault};
-ghost use Rattle.pua_script.specs.Decide.{Asking, ShiftRow, decide_rename, dots_fault};
+ghost use Rattle.pua_script.specs.Decide.{Requester, ShiftRow, decide_rename, dots_fault};
 ghost use Rattle.pua_script.specs.Decide.{inside_fault, is_whole, kinds_fault, shifting};
 ghost use Rattle.pua_script.specs.Decide.{top_fault, ways_fault};
 ghost use Rattle.pua_script.specs.Judged.{decision_by, if_covered, shifted};
@@ -92,7 +92,7 @@ pub(crate) fn moving<'a>(
     to: NodeId,
     new_name: &'a Name,
 ) -> Granted<'a>
-    ensures { (asker : Asking) →
+    ensures { (asker : Requester) →
         decision_by asker result ≡ Ok (ShiftRow (from, name.now) (to, new_name.now)) }
 {
     Granted::ShiftRow(from, name, to, new_name)

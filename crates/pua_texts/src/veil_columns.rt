@@ -5,7 +5,7 @@ ghost use Rattle.std.specs.Prelude.{slice_index_or, string_bytes, unwrap_or};
 ghost use Rattle.pua_why.specs.Texts.{letters_text, place_text};
 ghost use Rattle.pua_texts.specs.VeilDates.{veil_dates};
 ghost use Rattle.pua_texts.specs.WhyLists.{AreColumnsOf, veil_behind, veils_behind};
-ghost use Rattle.pua_texts.specs.WhyLines.{Posed as Asking, world_left};
+ghost use Rattle.pua_texts.specs.WhyLines.{ServedScript, world_left};
 
 use crate::endings::Endings;
 use pua_calls::Perms;
@@ -23,7 +23,7 @@ pub(crate) fn veil_columns<T: FileTree>(
     process: &Process,
     lines: &[Option<usize>],
 ) -> Result<Endings, OutOfMemory>
-    ensures { IfOk result (λ columns. (p : Asking) (number : ℕ) →
+    ensures { IfOk result (λ columns. (p : ServedScript) (number : ℕ) →
         T.content tree.now ≡ (world_left p).tree →
         lines.now ≡ veil_dates p number process.now.veils →
         AreColumnsOf p number process.now.veils columns) }
@@ -41,7 +41,7 @@ fn veil_texts<T: FileTree>(
     veils: &[(&Place, &Perms)],
     lines: &[Option<usize>],
 ) -> Result<Vec<String>, OutOfMemory>
-    ensures { IfOk result (λ texts. (p : Asking) (number : ℕ) →
+    ensures { IfOk result (λ texts. (p : ServedScript) (number : ℕ) →
         paths.old.tree ≡ (world_left p).tree →
         lines.now ≡ veil_dates p number (map (λ veil. (veil.0.now, veil.1.now)) veils.now) →
         map string_bytes texts.items

@@ -25,7 +25,7 @@ use Rattle.pua_policy.specs.declared.answer.May.{May}
 use Rattle.pua_policy.specs.declared.answer.May.TheVariants as may
 use Rattle.pua_policy.specs.declared.answer.Refusal.{Refusal}
 use Rattle.pua_policy.specs.declared.answer.UnveilFault.TheVariants.{NotPermitted, TooManyPlaces}
-use Rattle.pua_script.specs.Decide.{Change, AddEvent, Decision, Asking, Side, Sole, Old, New, refusals, asker_of, decide, decide_by, call_by}
+use Rattle.pua_script.specs.Decide.{Change, AddEvent, Decision, Requester, Side, Sole, Old, New, refusals, asker_of, decide, decide_by, call_by}
 use Rattle.pua_script.specs.Decide.{object_by, symlink_by, pair_by, objects_by, covers_by, rename_by, link_by, veil_by, veiling_by}
 use Rattle.pua_script.specs.Decide.{pledge_by, pledging_by, unless_refused, unless_failed, on_named, change_by, adding, link_node, fault_if}
 use Rattle.pua_script.specs.Decide.{is_unknown, given_set, unveil_errno}
@@ -39,7 +39,7 @@ use Rattle.pua_tight.proofs.Sets.{or_more, and_more, two_bools, asked_within}
 use Rattle.pua_tight.proofs.Within.{held_within, kept_within, as_many, cover_within, fault_within, may_within}
 
 -- each check that the first passes the second passes, and paths name the same to both
-pub record Easier (a b : Asking) : Type 0 where
+pub record Easier (a b : Requester) : Type 0 where
   pub promises : (sets : List ℕ) → a.promises sets ≡ None → b.promises sets ≡ None
   pub path : (side : Side) (t : Tree) (end : Ending) (text : List ℕ) (last : Last) → a.path side t end text last ≡ b.path side t end text last
   pub cover : (side : Side) (t : Tree) (object : Found) (perms : ℕ) → a.cover side t object perms ≡ None → b.cover side t object perms ≡ None
@@ -71,8 +71,8 @@ module _ (c : Change) where
   past_named (Ok x) s f g same further e = ap (λ s. on_named refusals.failed s g) (sym same) ∙ further x e
   past_named (Err errno) s f g same further e = cc
 
-module _ (table : CallTable) (t : Tree) (a b : Asking) (easier : Easier a b) (c : Change) where
-  abbrev checked : Asking → Call → (Found → Decision) → Found → Decision
+module _ (table : CallTable) (t : Tree) (a b : Requester) (easier : Easier a b) (c : Change) where
+  abbrev checked : Requester → Call → (Found → Decision) → Found → Decision
   checked asker call f object = unless_failed refusals.failed (or_fault (asker.cover Sole t object (rule_of table call).perms)
       (option_map (refusals.misfit Sole object) (misfit t call (object_of t object)))) (f object)
 
@@ -123,10 +123,10 @@ module _ (table : CallTable) (t : Tree) (a b : Asking) (easier : Easier a b) (c 
       (a.cover New t y pair.new.needs.perms) (b.cover New t y pair.new.needs.perms)
       (easier.cover Old t x pair.old.needs.perms) (easier.cover New t y pair.new.needs.perms)) (λ e. e)))))
     where
-      third : Asking → Found → Found → Decision
+      third : Requester → Found → Found → Decision
       third asker x y = unless_failed refusals.failed (covers_by pair t asker x y) (f x y)
 
-      second : Asking → Found → Decision
+      second : Requester → Found → Decision
       second asker x = on_named refusals.failed (asker.path New t end new pair.new.last) (third asker x)
 
   veil_more : (path : List ℕ) (perms : Option ℕ) → veil_by refusals t a path perms ≡ Ok c → veil_by refusals t b path perms ≡ Ok c
@@ -158,7 +158,7 @@ module _ (table : CallTable) (t : Tree) (a b : Asking) (easier : Easier a b) (c 
   granted_more (Uses sets) = past_refused c (a.promises sets) (b.promises sets) _ _ (easier.promises sets) (λ e. e)
 
 -- one that passes every check, in a directory
-abbrev pub free : ℕ → Asking
+abbrev pub free : ℕ → Requester
 free dir = record {
   promises = λ sets. None;
   path = λ side t end text last. resolution_of_text t dir end text last;

@@ -20,7 +20,7 @@ use Rattle.pua_tight.specs.Left.{lines_by, put_back_at}
 use Rattle.pua_tight.specs.Trials.{Trial, trials_from, all_tried}
 use Rattle.pua_tight.specs.Several.{AreDone, AreUpTo, Descend, IsToTry, all_back, all_left}
 use Rattle.pua_tight.specs.declared.together.Kept.{Kept}
-use Rattle.pua_tight.proofs.Asking.{again, one_more}
+use Rattle.pua_tight.proofs.PromisesTogether.{again, one_more}
 use Rattle.pua_tight.proofs.Minimal.{middle_kept, same_self}
 use Rattle.pua_tight.proofs.OneByOne.{in_two}
 use Rattle.pua_tight.proofs.Pieces.{scripts_are_tightened}

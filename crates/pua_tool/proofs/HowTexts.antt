@@ -12,7 +12,7 @@ use Rattle.pua_calls.specs.Calls.{call_in}
 use Rattle.pua_calls.specs.declared.call.Call.{Call}
 use Rattle.pua_calls.specs.declared.rules.Rules.{Rules}
 use Rattle.pua_ever.specs.Refusals.{refusal}
-use Rattle.pua_ever.specs.declared.refusal.Refusal.{Refusal}
+use Rattle.pua_ever.specs.declared.refusal.EverRefusal.{EverRefusal}
 use Rattle.pua_script.specs.Scripts.{request_by}
 use Rattle.pua_how.specs.Asking.{Asking, asking_of, targets_of}
 use Rattle.pua_how.specs.Outlooks.{IsOutlook}
@@ -68,7 +68,7 @@ module _ (done : Replayed) (wanted : HowWanted) (last : ℕ) where
   pub no_process : kept_at done.world wanted.process ≡ None → question_of done wanted last ≡ Err NoProcess
   no_process here = rw here refl
 
-  pub no_list : (h : ProcessState) (reason : Refusal) → kept_at done.world wanted.process ≡ Some h → refusal done.table h ≡ Some reason →
+  pub no_list : (h : ProcessState) (reason : EverRefusal) → kept_at done.world wanted.process ≡ Some h → refusal done.table h ≡ Some reason →
       question_of done wanted last ≡ Err (ever_fault wanted.process reason)
   no_list h reason here some = rw here (rw some refl)
 

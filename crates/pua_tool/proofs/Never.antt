@@ -23,7 +23,7 @@ use Rattle.pua_ever.specs.Refusals.{refusal}
 use Rattle.pua_ever.specs.Through.{ever_lasting, execs_of}
 use Rattle.pua_ever.specs.declared.lasting_list.ExecBound.{ExecBound}
 use Rattle.pua_ever.specs.declared.lasting_list.ExecBound.TheVariants.{Never, Bounded, Open}
-use Rattle.pua_ever.specs.declared.refusal.Refusal.{Refusal}
+use Rattle.pua_ever.specs.declared.refusal.EverRefusal.{EverRefusal}
 use Rattle.pua_ever.proofs.ForCallers.{any_among, unrefused_process}
 use Rattle.pua_how.specs.Asking.{Asking, asking_of, targets_of}
 use Rattle.pua_how.specs.Targets.{IsGiven, IsLast, is_listed}
@@ -63,7 +63,7 @@ asked_in done wanted last q e =
       meant = things.1;
     })
   where
-    none : (o : Option Refusal) (u : Unit {0}) → unless_refused wanted.process o ≡ Ok u → o ≡ None
+    none : (o : Option EverRefusal) (u : Unit {0}) → unless_refused wanted.process o ≡ Ok u → o ≡ None
     none None u e = refl
     none (Some reason) u e = absurd (Err≢Ok (ever_fault wanted.process reason) u e)
 

@@ -12,7 +12,7 @@ use Rattle.pua_script.specs.Bytes.{are_in_bytes}
 use Rattle.pua_script.specs.Family.{family, is_member, is_exec, none_done, HasKept}
 use Rattle.pua_script.specs.Laws.{IsConfined}
 use Rattle.pua_ever.specs.Refusals.{refusal}
-use Rattle.pua_ever.specs.declared.refusal.Refusal.{Refusal}
+use Rattle.pua_ever.specs.declared.refusal.EverRefusal.{EverRefusal}
 use Rattle.pua_ever.proofs.ForCallers.{ever_after_read, ever_lasts_after_read, lasting_unbounded, unrefused_table, unrefused_process}
 use Rattle.pua_ever.proofs.ForCallers.{none_starts_after_read, starts_open}
 use Rattle.pua_ever.specs.Laws.{ForeseesIn, MembersEdit}
@@ -95,7 +95,7 @@ module _ (choice : Chosen) (tree_bytes script_bytes : List ℕ) (table : CallTab
     abbrev whole : ProcessState → List ℕ
     whole h = answer_lines 1 done.answers ++ ever_list choice.rules table w.tree process h
 
-    unless_told : (h : ProcessState) (o : Option Refusal) → unless_reason process o (whole h) ≡ Ok text → (o ≡ None) × (text ≡ whole h)
+    unless_told : (h : ProcessState) (o : Option EverRefusal) → unless_reason process o (whole h) ≡ Ok text → (o ≡ None) × (text ≡ whole h)
     unless_told h None e = (refl, sym (same_Ok (whole h) text e))
     unless_told h (Some reason) e = absurd (Err≢Ok (ever_fault process reason) text e)
 

@@ -18,7 +18,7 @@ use Rattle.pua_ever.specs.Refusals.{refusal}
 use Rattle.pua_ever.specs.Through.{ever_lasting, execs_of}
 use Rattle.pua_ever.specs.declared.lasting_list.ExecBound.{ExecBound}
 use Rattle.pua_ever.specs.declared.lasting_list.ExecBound.TheVariants.{Open}
-use Rattle.pua_ever.specs.declared.refusal.Refusal.{Refusal}
+use Rattle.pua_ever.specs.declared.refusal.EverRefusal.{EverRefusal}
 use Rattle.pua_how.specs.Asking.{asking_of, targets_of}
 use Rattle.pua_how.specs.Targets.{IsLast, is_listed}
 use Rattle.pua_how.specs.Steps.{NoneComes}
@@ -50,7 +50,7 @@ pub record Question : Type 0 where
   pub things : List Target
 
 -- that there is a list for ever, or the reason against it
-abbrev pub unless_refused : ℕ → Option Refusal → Result (Unit {0}) ToolFault
+abbrev pub unless_refused : ℕ → Option EverRefusal → Result (Unit {0}) ToolFault
 unless_refused process None = Ok tt
 unless_refused process (Some reason) = Err (ever_fault process reason)
 

@@ -36,6 +36,6 @@ pub mod TreeExamples
 pub mod Begun
 pub mod Ended
 pub mod Pieces
-pub mod PosedScripts
+pub mod TwoWorlds
 pub mod Questions
 pub mod RowColumns

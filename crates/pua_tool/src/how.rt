@@ -20,7 +20,7 @@ use crate::objects::put_text;
 use crate::script::{Replay, replay_script};
 use crate::table::TableChoice;
 use pua_calls::{Call, CallTable, Rules};
-use pua_ever::{ExecBound, both_of, list_lasting, why_refused};
+use pua_ever::{ExecBound, bounded_exec, list_lasting, why_refused};
 use pua_how::{Asking, Meant, NoWay, Outlook, Planner, Target, WayLine, find_meant, find_outlook};
 use pua_io::Sink;
 use pua_path::Last;
@@ -198,7 +198,7 @@ fn outlook_of<T: FileTree>(
     ensures memory { IfErr result (λ fault. fault ≡ ToolFault.OutOfMemory) }
     ensures unwritten { IfErr result (λ fault. fault ≢ ToolFault.Write) }
 {
-    let both = both_of(alloc, process, table)?;
+    let both = bounded_exec(alloc, process, table)?;
     let Ok(list) = list_lasting(alloc, tree, process, both.as_ref(), table) else {
         return Err(ToolFault::OutOfMemory);
     };

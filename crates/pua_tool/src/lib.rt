@@ -20,7 +20,7 @@ mod lists;
 mod objects;
 mod objects_why;
 mod outcome;
-mod posed;
+mod two_worlds;
 mod refused;
 mod row;
 mod run;

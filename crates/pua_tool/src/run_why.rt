@@ -4,12 +4,12 @@ ghost use Rattle.std.specs.Prelude.{◌≡◌, Ok, IfOk, string_bytes};
 ghost use Rattle.pua_script.specs.Scripts.{script_by};
 ghost use Rattle.pua_tool.specs.Answers.{AnswersTo};
 ghost use Rattle.pua_tool.specs.Texts.{choice_of};
-ghost use Rattle.pua_tool.specs.PosedScripts.{IsPosed, as_asking};
+ghost use Rattle.pua_tool.specs.TwoWorlds.{IsTwoWorlds, as_served};
 ghost use Rattle.pua_tool.specs.WhyTexts.{reason_lines, run_why_text};
 
 use crate::fault::ToolFault;
 use crate::objects::put_text;
-use crate::posed::{Posed, pose};
+use crate::two_worlds::{TwoWorlds, two_worlds};
 use crate::table::TableChoice;
 use pua_calls::Rules;
 use pua_io::Sink;
@@ -39,9 +39,9 @@ pub fn run_why_to<S: Sink>(
         (run_why_text (choice_of table.entry) tree_bytes.now script_bytes.now)
         result sink.old sink.new }
 {
-    let mut posed = pose(alloc, tree_bytes, script_bytes, table)?;
-    let text = text_of(alloc, table.rules, script_bytes, &mut posed);
-    posed.release();
+    let mut worlds = two_worlds(alloc, tree_bytes, script_bytes, table)?;
+    let text = text_of(alloc, table.rules, script_bytes, &mut worlds);
+    worlds.release();
     let Ok(text) = text else {
         return Err(ToolFault::OutOfMemory);
     };
@@ -53,16 +53,16 @@ fn text_of(
     alloc: Global,
     rules: Rules,
     script_bytes: &[u8],
-    posed: &mut Posed,
+    worlds: &mut TwoWorlds,
 ) -> Result<String, OutOfMemory>
-    ensures { IfOk result (λ text. script_by rules script_bytes.now ≡ Ok posed.old.script →
-        IsPosed posed.old → string_bytes text ≡ reason_lines rules (as_asking posed.old)) }
+    ensures { IfOk result (λ text. script_by rules script_bytes.now ≡ Ok worlds.old.script →
+        IsTwoWorlds worlds.old → string_bytes text ≡ reason_lines rules (as_served worlds.old)) }
 {
-    let (requests, answers) = (posed.script.requests(), posed.answers.as_slice());
+    let (requests, answers) = (worlds.script.requests(), worlds.answers.as_slice());
     reason_text(
         alloc,
         rules,
-        &mut posed.before,
+        &mut worlds.before,
         script_bytes,
         requests,
         answers,

@@ -4,7 +4,7 @@ ghost use Rattle.std.specs.Prelude.{◌≡◌, ◌≢◌, ◌++◌, ◌∷◌, O
 ghost use Rattle.std.specs.Prelude.{string_bytes};
 ghost use Rattle.pua_script.specs.Requests.{Asked};
 ghost use Rattle.pua_script.specs.Scripts.{request_by};
-ghost use Rattle.pua_tool.specs.PosedScripts.{IsPosed, as_asking};
+ghost use Rattle.pua_tool.specs.TwoWorlds.{IsTwoWorlds, as_served};
 ghost use Rattle.pua_tool.specs.Answers.{AnswersTo};
 ghost use Rattle.pua_tool.specs.Texts.{choice_of};
 ghost use Rattle.pua_tool.specs.WhyTexts.{as_request, chain_lines, request_line};
@@ -12,7 +12,7 @@ ghost use Rattle.pua_tool.specs.WhyTexts.{why_text};
 
 use crate::fault::ToolFault;
 use crate::objects::put_text;
-use crate::posed::{Posed, pose};
+use crate::two_worlds::{TwoWorlds, two_worlds};
 use crate::table::TableChoice;
 use pua_calls::Rules;
 use pua_io::Sink;
@@ -46,9 +46,9 @@ pub fn why_to<S: Sink>(
         (why_text (choice_of table.entry) tree_bytes.now script_bytes.now process
         (map (λ field. field.now) fields.now)) result sink.old sink.new }
 {
-    let mut posed = pose(alloc, tree_bytes, script_bytes, table)?;
-    let text = asked_text(alloc, &mut posed, table.rules, process, fields);
-    posed.release();
+    let mut worlds = two_worlds(alloc, tree_bytes, script_bytes, table)?;
+    let text = asked_text(alloc, &mut worlds, table.rules, process, fields);
+    worlds.release();
     put_text(text?.as_str(), sink)
 }
 
@@ -56,22 +56,22 @@ pub fn why_to<S: Sink>(
 /// where a growth was refused.
 fn asked_text(
     alloc: Global,
-    posed: &mut Posed,
+    worlds: &mut TwoWorlds,
     rules: Rules,
     process: u32,
     fields: &[&[u8]],
 ) -> Result<String, ToolFault>
-    ensures done { IfOk result (λ text. IsPosed posed.old → (ask : Asked)
+    ensures done { IfOk result (λ text. IsTwoWorlds worlds.old → (ask : Asked)
         × (as_request (request_by rules 1 (request_line process
         (map (λ field. field.now) fields.now))) ≡ Ok ask) × (string_bytes text
-        ≡ chain_lines rules (as_asking posed.old) ask)) }
+        ≡ chain_lines rules (as_served worlds.old) ask)) }
     ensures refused { IfErr result (λ fault. fault ≢ ToolFault.OutOfMemory →
         as_request (request_by rules 1 (request_line process
         (map (λ field. field.now) fields.now))) ≡ Err fault) }
     ensures unwritten { IfErr result (λ fault. fault ≢ ToolFault.Write) }
 {
     let request = read_asked(alloc, rules, process, fields)?;
-    match text_of(alloc, rules, posed, &request) {
+    match text_of(alloc, rules, worlds, &request) {
         Ok(text) => Ok(text),
         Err(OutOfMemory) => Err(ToolFault::OutOfMemory),
     }
@@ -129,13 +129,13 @@ fn push_field(line: &mut Vec<u8>, field: &[u8]) -> Result<(), AllocError>
 fn text_of(
     alloc: Global,
     rules: Rules,
-    posed: &mut Posed,
+    worlds: &mut TwoWorlds,
     request: &Request,
 ) -> Result<String, OutOfMemory>
-    ensures { IfOk result (λ text. IsPosed posed.old →
-        string_bytes text ≡ chain_lines rules (as_asking posed.old) request.now) }
+    ensures { IfOk result (λ text. IsTwoWorlds worlds.old →
+        string_bytes text ≡ chain_lines rules (as_served worlds.old) request.now) }
 {
-    let (requests, answers) = (posed.script.requests(), posed.answers.as_slice());
-    let (before, after) = (&mut posed.before, &mut posed.after);
+    let (requests, answers) = (worlds.script.requests(), worlds.answers.as_slice());
+    let (before, after) = (&mut worlds.before, &mut worlds.after);
     chain_text(alloc, rules, before, after, requests, answers, request)
 }
