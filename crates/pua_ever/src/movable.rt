@@ -15,8 +15,8 @@ ghost use Rattle.pua_ever.specs.Ever.{open_covers};
 ghost use Rattle.pua_ever.specs.Movable.{IsMovable};
 ghost use Rattle.pua_ever.specs.Destinations.{HaveSame};
 
-use crate::moving::moves_any;
 use crate::destinations::{Destinations, find_destinations};
+use crate::moving::moves_any;
 use pua_calls::{CallTable, Calls};
 use pua_policy::{Cover, Object, Process, judge};
 use pua_tree::{FileTree, Kind, OutOfMemory};

@@ -28,10 +28,10 @@ ghost use Rattle.pua_ever.specs.Laws.{EditsNeedC};
 ghost use Rattle.pua_ever.specs.Prospects.{IsProspects, AreOnFreed, own_given};
 ghost use Rattle.pua_ever.specs.Prospects.{kind_allowed, kind_covers};
 
+use crate::destinations::{find_destinations, has_c};
 use crate::made::Made;
 use crate::movable::{Movable, calls_by_object};
 use crate::moving::{can_move, may_any};
-use crate::destinations::{find_destinations, has_c};
 use crate::programs::{on_file, on_new_file};
 use pua_calls::{Call, CallTable, Calls};
 use pua_objects::{Item, Subject};

@@ -17,8 +17,8 @@ use Rattle.pua_objects.specs.Objects.{At, Others}
 use Rattle.pua_objects.specs.declared.kind.ObjectKind.{ObjectKind}
 use Rattle.pua_objects.specs.declared.kind.ObjectKind.TheVariants as kind
 use Rattle.pua_ever.specs.Ever.{Thing, Stands, Comes, New, NewDir, NewOthers, NewFile, NewLink, new_word}
-use Rattle.pua_how.specs.Asking.{asking_by, directory_at_name, is_of_kind, own_name, targets_at, targets_by, targets_in, targets_new}
-use Rattle.pua_how.specs.Asking.{targets_of, thing_word}
+use Rattle.pua_how.specs.PathQuestion.{asking_by, directory_at_name, is_of_kind, own_name, targets_at, targets_by, targets_in, targets_new}
+use Rattle.pua_how.specs.PathQuestion.{targets_of, thing_word}
 use Rattle.pua_how.specs.Laws.{LinesMeanTheirOwn}
 use Rattle.pua_how.specs.Targets.{target_about}
 use Rattle.pua_how.specs.declared.target.Target.{Target}

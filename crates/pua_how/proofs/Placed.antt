@@ -26,7 +26,7 @@ use Rattle.pua_ever.specs.Ever.{Thing, Stands, Comes, EverLine, all_new, ever, e
 use Rattle.pua_ever.specs.Ever.{is_free, may_edit, new_line, own_spot, subjects_of}
 use Rattle.pua_ever.specs.Through.{bound_of, ever_lasting, ever_through, has_exec, is_promised_by_one, let_through}
 use Rattle.pua_ever.proofs.ForCallers.{lasting_alone, lasting_through, lasting_unbounded}
-use Rattle.pua_how.specs.Asking.{directory_at_name}
+use Rattle.pua_how.specs.PathQuestion.{directory_at_name}
 
 -- ---- the end of names
 

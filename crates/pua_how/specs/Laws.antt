@@ -20,7 +20,7 @@ use Rattle.pua_objects.specs.declared.kind.ObjectKind.{ObjectKind}
 use Rattle.pua_ever.specs.Ever.{EverLine, ever}
 use Rattle.pua_ever.specs.Laws.{EditsNeedC, VeilsStand, MembersEdit}
 use Rattle.pua_ever.specs.Through.{bound_of, ever_lasting}
-use Rattle.pua_how.specs.Asking.{asking_by, targets_of, thing_word}
+use Rattle.pua_how.specs.PathQuestion.{asking_by, targets_of, thing_word}
 use Rattle.pua_how.specs.Targets.{IsGiven, is_listed, is_of, target_about}
 use Rattle.pua_how.specs.Ways.{IsWay}
 use Rattle.pua_how.specs.declared.target.Target.{Target}

@@ -7,8 +7,8 @@ ghost use Rattle.pua_how.specs.Served.{AreWay};
 ghost use Rattle.pua_how.specs.Steps.{NoneComes, plan_comes, some_plan_comes};
 ghost use Rattle.pua_how.specs.declared.target.Target.{Target as Thing};
 
-use crate::asking::Meant;
 use crate::line::WayLine;
+use crate::path_question::Meant;
 use crate::plan::Planner;
 use crate::serve::serve_way;
 use crate::step::Step;

@@ -11,8 +11,8 @@ use Rattle.std.specs.Prelude.{not, ◌&&◌}
 use Rattle.pua_path.specs.Paths.{text_fault}
 use Rattle.pua_path.specs.Resolution.{Resolved, Directory, Linked, Plain, Nothing, standing_at, is_followed, slot_or, walk, start_of}
 use Rattle.pua_path.specs.declared.errno.Errno.TheVariants.{EPERM, EACCES, ENOTEMPTY, ENOTDIR, ELOOP}
-use Rattle.pua_path.specs.declared.traced.TextFault.{TextFault}
-use Rattle.pua_path.specs.declared.traced.TextFault.TheVariants.{EmptyText}
+use Rattle.pua_path.specs.declared.traced.PathTextFault.{PathTextFault}
+use Rattle.pua_path.specs.declared.traced.PathTextFault.TheVariants.{EmptyText}
 use Rattle.pua_path.specs.declared.text.Ending.TheVariants as ending
 use Rattle.pua_path.specs.declared.found.Part.{Part}
 use Rattle.pua_path.specs.declared.found.Part.TheVariants as parts
@@ -83,7 +83,7 @@ pub none_or : (b : Bool) (errno : Errno) → errno ≢ ENOSPC → Apart (cond b 
 none_or true errno other e = cc
 none_or false errno other e = fault_or true errno None other (λ e. cc) e
 
-text_apart : (o : Option TextFault) → Apart (option_map text_errno o)
+text_apart : (o : Option PathTextFault) → Apart (option_map text_errno o)
 text_apart None = λ e. cc
 text_apart (Some EmptyText) = λ e. cc
 text_apart (Some LongText) = λ e. cc

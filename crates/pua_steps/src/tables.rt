@@ -8,7 +8,7 @@ ghost use Rattle.pua_steps.specs.Lists.{AreListsOf, span_of};
 ghost use Rattle.pua_steps.specs.Reached.{live_count};
 ghost use Rattle.pua_steps.specs.Table.{IsState, IsTable, graph_of, missing_at};
 
-use crate::counted::Counted;
+use crate::counted::CountedLists;
 use crate::frame::Frame;
 use crate::lists::{Lists, Span};
 use crate::live::Live;
@@ -23,7 +23,7 @@ use std::alloc::{AllocError, Global};
 pub struct Tables {
     steps: Steps,
     live: Live,
-    pub(crate) counted: Counted,
+    pub(crate) counted: CountedLists,
 }
 
 impl Tables {
@@ -44,7 +44,7 @@ impl Tables {
         Ok(Tables {
             steps,
             live,
-            counted: Counted::new(lists),
+            counted: CountedLists::new(lists),
         })
     }
 

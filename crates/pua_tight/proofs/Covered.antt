@@ -19,7 +19,7 @@ use Rattle.pua_policy.proofs.ForCallers.{holds_through}
 use Rattle.pua_script.specs.Decide.{Sole, Change, Decision, refusals, asker_of, object_by, objects_by, on_named}
 use Rattle.pua_tight.specs.Narrower.{StateWithin}
 use Rattle.pua_tight.proofs.Within.{CoverWithin, all, nothing, only, cover_within, fault_within}
-use Rattle.pua_tight.proofs.Agreeing.{Agree, Misses, some_is, none_some, back_by, check, misses_or, named_check, two_covers}
+use Rattle.pua_tight.proofs.MiddleDecision.{Agree, Misses, some_is, none_some, back_by, check, misses_or, named_check, two_covers}
 
 pub cover_back : {c d : Cover} → CoverWithin c d → (perms : ℕ) (s : Errno) → cover_fault d perms ≡ Some s → cover_fault c perms ≡ Some s
 cover_back all perms s e = e

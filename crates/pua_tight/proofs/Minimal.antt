@@ -35,14 +35,14 @@ use Rattle.pua_script.specs.declared.request.Action.TheVariants.{OnPath, Symlink
 use Rattle.pua_tight.specs.Narrower.{StateWithin, ProcessesWithin, WorldWithin, AskWithin, AsksWithin, no_asks, asks}
 use Rattle.pua_tight.proofs.Sets.{three_bools}
 use Rattle.pua_tight.proofs.Decided.{easier, granted_more}
-use Rattle.pua_tight.proofs.Rare.{is_rare, rare, checked_plain, path_plain, locked_plain, unknown_plain, object_plain, objects_plain}
-use Rattle.pua_tight.proofs.Rare.{rename_plain, link_plain, veiling_plain}
-use Rattle.pua_tight.proofs.Agreeing.{refused}
-use Rattle.pua_tight.proofs.Between.{between}
+use Rattle.pua_tight.proofs.RareRefusals.{is_rare, rare, checked_plain, path_plain, locked_plain, unknown_plain, object_plain, objects_plain}
+use Rattle.pua_tight.proofs.RareRefusals.{rename_plain, link_plain, veiling_plain}
+use Rattle.pua_tight.proofs.MiddleDecision.{refused}
+use Rattle.pua_tight.proofs.MiddleWorldDecides.{between}
 use Rattle.pua_tight.specs.Tight.{Piece, Line, asks_of, without, answer_number, same_answers, try_piece, thin_line, thin}
 use Rattle.pua_tight.specs.Laws.{IsPieceOf, MayLeaveOut, AreOkay, leave_out, TightIsMinimal}
 use Rattle.pua_tight.proofs.Tightened.{ask_less, ask_self, world_self, tried_same, line_within, thin_same}
-use Rattle.pua_tight.proofs.Less.{ask_mono, is_without, okay_less}
+use Rattle.pua_tight.proofs.WithoutPiece.{ask_mono, is_without, okay_less}
 use Rattle.pua_script.proofs.ForCallers.{one_request_more}
 use Rattle.std.specs.Prelude.{◌&&◌}
 use Rattle.pua_tight.proofs.Worlds.{heads, tails, answered_alike, FoundWithin, never, made, found_within, alike_within, request_keeps, not_okay, gone_or}

@@ -20,7 +20,7 @@ use Rattle.pua_script.specs.declared.request.Action.TheVariants.{Pledge, Unveil}
 use Rattle.pua_tight.specs.Tight.{Piece, InPromises, InExecpromises, InVeil, asks_of, all_asked, all_used, asked_in, bits_in, pieces_of}
 use Rattle.pua_tight.specs.Tight.{lines_asked}
 use Rattle.pua_tight.specs.Laws.{IsPieceOf, AreOkay, AreSpareable, bit_of, ScriptsAreTightened}
-use Rattle.pua_tight.proofs.Less.{lack_at}
+use Rattle.pua_tight.proofs.WithoutPiece.{lack_at}
 
 okay_is : (a : Answer) → is_okay a ≡ true → a ≡ answer.Okay
 okay_is answer.Okay e = refl

@@ -35,9 +35,9 @@ use Rattle.pua_tight.proofs.Sets.{three_bools}
 use Rattle.pua_tight.proofs.Decided.{free, freely}
 use Rattle.pua_tight.proofs.Worlds.{FoundWithin, never, made, found_within, answered_alike, alike_within, not_okay, request_keeps, gone_or}
 use Rattle.pua_tight.proofs.Minimal.{full, decide_full, change_full, same_refusal}
-use Rattle.pua_tight.proofs.Three.{SetThree, three_unset, three_some, StateThree, pledged_three, unveiled_three, after_three, exec_three}
-use Rattle.pua_tight.proofs.Agreeing.{refused}
-use Rattle.pua_tight.proofs.Agree.{agrees}
+use Rattle.pua_tight.proofs.ThreeProcesses.{SetThree, three_unset, three_some, StateThree, pledged_three, unveiled_three, after_three, exec_three}
+use Rattle.pua_tight.proofs.MiddleDecision.{refused}
+use Rattle.pua_tight.proofs.MiddleWorldAnswers.{agrees}
 
 pub data ProcessesThree : List (ℕ × ProcessState) → List (ℕ × ProcessState) → List (ℕ × ProcessState) → Type 0 where
   three_nobody : ProcessesThree [] [] []

@@ -23,7 +23,7 @@ use Rattle.pua_tight.specs.Texts.{line_text, ended_text, lines_text, thinned_tex
 use Rattle.pua_tight.specs.Tight.{tight, lines_of}
 use Rattle.pua_tight.specs.Narrower.{ActionWithin, AskWithin, AsksWithin, no_asks, asks}
 use Rattle.pua_tight.specs.Laws.{TextsAreRead, TightTextsAreRead}
-use Rattle.pua_tight.proofs.Kept.{cut, free, joined_pass, cut_joined, pieces_free}
+use Rattle.pua_tight.proofs.KeptWords.{cut, free, joined_pass, cut_joined, pieces_free}
 use Rattle.pua_tight.proofs.Thinned.{field_bytes, with_action, thin_line_read}
 use Rattle.pua_tight.proofs.Tightened.{tightens}
 use Rattle.pua_tight.proofs.Pieces.{scripts_are_tightened}

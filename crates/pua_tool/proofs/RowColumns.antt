@@ -36,7 +36,7 @@ use Rattle.pua_ever.specs.declared.line.EverThing.TheVariants as told
 use Rattle.pua_ever.specs.declared.list.EverAbout.TheVariants as ever_about
 use Rattle.pua_ever.specs.declared.list.EverRow.{EverRow}
 use Rattle.pua_ever.specs.declared.made.Made.{Made}
-use Rattle.pua_how.specs.Asking.{Asking, asking_by, targets_of, thing_word}
+use Rattle.pua_how.specs.PathQuestion.{PathQuestion, question_by, targets_of, thing_word}
 use Rattle.pua_how.specs.Served.{AreWay, asks_of}
 use Rattle.pua_how.specs.Steps.{NoneComes, nothing_laid}
 use Rattle.pua_how.specs.Targets.{IsLast, target_about}
@@ -229,7 +229,7 @@ module _ (rules : Rules) (done : Replayed) (process : ℕ) (h : ProcessState) wh
 
 module _ (rules : Rules) (done : Replayed) (process : ℕ) (h : ProcessState) where
   -- steps to a thing are steps to what a path and a kind mean, where that is the thing alone
-  module _ (asking : Asking) (kind : ObjectKind) (last : ℕ) (own : Target) (above : IsLast done.world.tree last)
+  module _ (asking : PathQuestion) (kind : ObjectKind) (last : ℕ) (own : Target) (above : IsLast done.world.tree last)
       (mean : targets_of done.world.tree h last asking (Some kind) ≡ own ∷ []) where
     count_of : (call : Call) (found : Result ℕ NoWay) → IsCountTo rules done process own (call, found) →
         IsCount rules done process h asking kind (call, found)
@@ -263,7 +263,7 @@ module _ (rules : Rules) (done : Replayed) (process : ℕ) (h : ProcessState) wh
         column.calls
         ∙ (λ i. filter (λ call. not (now_meant done.world.tree h done.table line.word line.thing placed column.kind column.told call i)) line.calls);
     counted =
-        counts_of (asking_by line.word line.thing) column.kind column.last (target_about column.last line.thing) column.above
+        counts_of (question_by line.word line.thing) column.kind column.last (target_about column.last line.thing) column.above
         (meant done.world.tree h line.word line.thing placed column.kind column.told column.last) column.counts column.counted;
     is = column.is;
   }
@@ -303,7 +303,7 @@ of_thing t (Comes NewFile) = (kind.Node node.File, refl)
 of_thing t (Comes NewLink) = (kind.Node node.Link, refl)
 
 module _ (rules : Rules) (done : Replayed) (process : ℕ) (h : ProcessState) where
-  uncounted : (about : Asking) (kind : ObjectKind) (cs : List Call) →
+  uncounted : (about : PathQuestion) (kind : ObjectKind) (cs : List Call) →
       AllByRecursion (IsCount rules done process h about kind) (map (λ call. (call, Err nothing_laid)) cs)
   uncounted about kind [] = tt
   uncounted about kind (c ∷ cs) =
@@ -325,7 +325,7 @@ module _ (rules : Rules) (done : Replayed) (process : ℕ) (h : ProcessState) wh
           told = kind.1;
           counts = counts;
           calls = same_calls cs;
-          counted = uncounted (asking_by line.word line.thing) kind.0 cs;
+          counted = uncounted (question_by line.word line.thing) kind.0 cs;
           is = refl;
         },
       )

@@ -16,7 +16,7 @@ use Rattle.pua_ever.specs.Ever.{EverLine, Thing, Stands, Comes}
 use Rattle.pua_ever.specs.EverLines.{IsThing, line_with}
 use Rattle.pua_ever.specs.EverList.{thing_of}
 use Rattle.pua_ever.specs.declared.list.EverRow.{EverRow}
-use Rattle.pua_how.specs.Asking.{thing_word}
+use Rattle.pua_how.specs.PathQuestion.{thing_word}
 use Rattle.pua_how.specs.Steps.{NoneComes}
 use Rattle.pua_how.specs.Targets.{IsLast, target_about}
 use Rattle.pua_how.specs.Ways.{IsWay}

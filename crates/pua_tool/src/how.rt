@@ -21,7 +21,9 @@ use crate::script::{Replay, replay_script};
 use crate::table::TableChoice;
 use pua_calls::{Call, CallTable, Rules};
 use pua_ever::{ExecBound, bounded_exec, list_lasting, why_refused};
-use pua_how::{Asking, Meant, NoWay, Outlook, Planner, Target, WayLine, find_meant, find_outlook};
+use pua_how::{
+    Meant, NoWay, Outlook, PathQuestion, Planner, Target, WayLine, find_meant, find_outlook,
+};
 use pua_io::Sink;
 use pua_path::Last;
 use pua_policy::Process;
@@ -104,14 +106,14 @@ fn text_behind(
 
 /// What is asked about behind a script, with what the list for ever says of it.
 #[derive(Drop)]
-pub(crate) struct Question {
+pub(crate) struct HowQuestion {
     pub(crate) call: Call,
     pub(crate) meant: Meant,
     pub(crate) outlook: Outlook,
 }
 
 /// What is asked about where a replay ends.
-fn asked_of(alloc: Global, replay: &Replay, words: &HowWords<'_>) -> Result<Question, ToolFault>
+fn asked_of(alloc: Global, replay: &Replay, words: &HowWords<'_>) -> Result<HowQuestion, ToolFault>
     ensures asked { IfOk result (λ question.
         IsQuestion (as_replayed replay.now) (way_wanted words.now) question) }
     ensures refused { IfErr result (λ fault. fault ≢ ToolFault.OutOfMemory → (last : ℕ)
@@ -135,7 +137,7 @@ fn asked_of(alloc: Global, replay: &Replay, words: &HowWords<'_>) -> Result<Ques
         return Err(ToolFault::HowLink(call));
     }
     let outlook = outlook_of(alloc, tree, process, table, things, call)?;
-    Ok(Question {
+    Ok(HowQuestion {
         call,
         meant,
         outlook,
@@ -156,7 +158,7 @@ fn meant_by<T: FileTree>(
         × (things_asked (T.content tree.now) process.now (way_wanted words.now) last ≡ Err fault)) }
     ensures unwritten { IfErr result (λ fault. fault ≢ ToolFault.Write) }
 {
-    let Ok(asking) = Asking::read(alloc, words.path) else {
+    let Ok(asking) = PathQuestion::read(alloc, words.path) else {
         return Err(ToolFault::OutOfMemory);
     };
     let Some(asking) = asking else {
@@ -213,7 +215,7 @@ pub(crate) fn find(
     replay: &Replay,
     rules: Rules,
     number: u32,
-    question: &Question,
+    question: &HowQuestion,
 ) -> Result<Result<Vec<WayLine>, NoWay>, ToolFault>
     ensures way { IfOk result (λ found. IfOk found (λ lines.
         AreWayTo rules (as_replayed replay.now) number question.now lines.items)) }

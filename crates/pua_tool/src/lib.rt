@@ -20,7 +20,6 @@ mod lists;
 mod objects;
 mod objects_why;
 mod outcome;
-mod two_worlds;
 mod refused;
 mod row;
 mod run;
@@ -33,6 +32,7 @@ mod tight;
 mod tight_why;
 mod together;
 mod tree;
+mod two_worlds;
 mod why;
 
 pub use audit::{audit_by, audit_to};

@@ -10,8 +10,8 @@ ghost use Rattle.pua_tool.specs.WhyTexts.{objects_why_text, reason_lines, why_li
 
 use crate::fault::ToolFault;
 use crate::objects::{numbers_of, put_lists};
-use crate::two_worlds::{TwoWorlds, two_worlds};
 use crate::table::TableChoice;
+use crate::two_worlds::{TwoWorlds, two_worlds};
 use pua_calls::Rules;
 use pua_io::Sink;
 use pua_since::{dated_text, veils_of};

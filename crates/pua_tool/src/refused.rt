@@ -2,7 +2,7 @@
 //! answer, and is proved never to, by the contracts of what it calls.
 
 use crate::columns::{Behind, steps_to};
-use crate::how::{Question, find};
+use crate::how::{HowQuestion, find};
 use crate::script::Replay;
 use pua_calls::{Call, Rules};
 use pua_how::{Meant, Planner};
@@ -15,7 +15,7 @@ fn no_way_found_for_want_of_memory(
     replay: &Replay,
     rules: Rules,
     number: u32,
-    question: &Question,
+    question: &HowQuestion,
 ) {
     let Ok(Err(none)) = find(alloc, replay, rules, number, question) else {
         return;

@@ -9,8 +9,8 @@ ghost use Rattle.pua_tool.specs.WhyTexts.{reason_lines, run_why_text};
 
 use crate::fault::ToolFault;
 use crate::objects::put_text;
-use crate::two_worlds::{TwoWorlds, two_worlds};
 use crate::table::TableChoice;
+use crate::two_worlds::{TwoWorlds, two_worlds};
 use pua_calls::Rules;
 use pua_io::Sink;
 use pua_since::reason_text;

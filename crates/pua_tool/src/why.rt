@@ -12,8 +12,8 @@ ghost use Rattle.pua_tool.specs.WhyTexts.{why_text};
 
 use crate::fault::ToolFault;
 use crate::objects::put_text;
-use crate::two_worlds::{TwoWorlds, two_worlds};
 use crate::table::TableChoice;
+use crate::two_worlds::{TwoWorlds, two_worlds};
 use pua_calls::Rules;
 use pua_io::Sink;
 use pua_script::{Request, ScriptFault, read_request_by};

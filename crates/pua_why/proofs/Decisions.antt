@@ -1,7 +1,7 @@
 -- A decision, a verdict and an answer are functions of what is reasoned.
 use Rattle.pua_why.proofs.Common.{◌≡◌, ℕ, Bool, true, false, List, [], ◌∷◌, length, Some, None, refl, ap, ◌∙◌, Result, Ok, Err, Option}
 use Rattle.pua_why.proofs.Common.{if◌then◌else◌, ◌||◌, not, is_some, nat_le, option_map, Tree, Spot, add, cut, tie, shift, TreeFault}
-use Rattle.pua_why.proofs.Common.{spot_named, node_named, Ending, Followed, Found, Whole, Slot, text_fault, trace_of_text, TextFault}
+use Rattle.pua_why.proofs.Common.{spot_named, node_named, Ending, Followed, Found, Whole, Slot, text_fault, trace_of_text, PathTextFault}
 use Rattle.pua_why.proofs.Common.{PathFault, holds, unveil, CallTable, PairRule, rule_of, ProcessState, is_ended, is_locked, perms_kept}
 use Rattle.pua_why.proofs.Common.{working_dir, object_of, or_fault, Place, Call, most_processes, Change, NoChange, AddNode, CutRow}
 use Rattle.pua_why.proofs.Common.{ShiftRow, TieRow, BeginProgram, AddEvent, CopyAs, Outcome, Side, Sole, Old, New, unless_refused}
@@ -130,7 +130,7 @@ promises_told h sets = unpromised_told (promising h sets) ∙ ap refusal_of (pro
 target_told : (target : List ℕ) → Told (option_map BadTarget (text_fault target)) ≡ Failing (path_fault target)
 target_told target = by (text_fault target)
   where
-    by : (fault : Option TextFault) → Told (option_map BadTarget fault) ≡ Failing (option_map text_errno fault)
+    by : (fault : Option PathTextFault) → Told (option_map BadTarget fault) ≡ Failing (option_map text_errno fault)
     by None = refl
     by (Some fault) = refl
 

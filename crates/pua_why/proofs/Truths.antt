@@ -2,7 +2,7 @@
 use Rattle.pua_why.proofs.Common.{◌≡◌, ℕ, Bool, true, false, List, [], ◌∷◌, length, Some, None, refl, sym, Result, Ok, Err, Option, subst}
 use Rattle.pua_why.proofs.Common.{ap, ◌∙◌, if◌then◌else◌, not, ◌||◌, is_some, nat_le, option_map, Tree, Spot, add, cut, tie, shift}
 use Rattle.pua_why.proofs.Common.{TreeFault, spot_named, node_named, Ending, Followed, Found, Whole, Slot, text_fault, trace_of_text}
-use Rattle.pua_why.proofs.Common.{TextFault, holds, unveil, CallTable, PairRule, rule_of, ProcessState, is_locked, perms_kept, working_dir}
+use Rattle.pua_why.proofs.Common.{PathTextFault, holds, unveil, CallTable, PairRule, rule_of, ProcessState, is_locked, perms_kept, working_dir}
 use Rattle.pua_why.proofs.Common.{or_fault, Place, most_processes, Change, NoChange, AddNode, CutRow, ShiftRow, TieRow, BeginProgram}
 use Rattle.pua_why.proofs.Common.{AddEvent, CopyAs, Outcome, Side, Sole, Old, New, unless_refused, unless_failed, adding, link_node}
 use Rattle.pua_why.proofs.Common.{shifting, pair_by, World, kept_at, change_effect, come_of, edit_effect, edited_tree, OnPath, Symlink}
@@ -64,7 +64,7 @@ target_true : (table : CallTable) (t : Tree) (h : ProcessState) (target path : L
     option_map BadTarget (text_fault target) ≡ Some bad → SymlinkFaultHolds table t h target path bad
 target_true table t h target path bad e = by (text_fault target) refl e
   where
-    by : (o : Option TextFault) → text_fault target ≡ o → option_map BadTarget o ≡ Some bad → SymlinkFaultHolds table t h target path bad
+    by : (o : Option PathTextFault) → text_fault target ≡ o → option_map BadTarget o ≡ Some bad → SymlinkFaultHolds table t h target path bad
     by None o e = cc
     by (Some fault) o e = let same : BadTarget fault ≡ bad = cc in subst (SymlinkFaultHolds table t h target path) same o
 

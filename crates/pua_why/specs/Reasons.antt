@@ -5,7 +5,7 @@ use Rattle.pua_tree.specs.Tree.{Tree}
 use Rattle.pua_path.specs.declared.errno.Errno.TheVariants.{EPERM, ENOENT, E2BIG, EACCES, EAGAIN, EINVAL, ENOSPC, ENOSYS}
 use Rattle.pua_path.specs.declared.found.Found.{Found}
 use Rattle.pua_path.specs.Traces.{text_errno, text_fault, path_errno, trace_of_text}
-use Rattle.pua_path.specs.declared.traced.TextFault.{TextFault}
+use Rattle.pua_path.specs.declared.traced.PathTextFault.{PathTextFault}
 use Rattle.pua_path.specs.declared.traced.PathFault.{PathFault}
 use Rattle.pua_calls.specs.Promises.{holds, error}
 use Rattle.pua_calls.specs.Calls.{CallTable}
@@ -32,7 +32,7 @@ use Rattle.pua_script.specs.declared.answer.Answer.TheVariants.{Okay, Failed, Ki
 pub data Fault : Type 0 where
   Ends : Fault
   LacksPromises : Bool → List ℕ → Fault
-  BadTarget : TextFault → Fault
+  BadTarget : PathTextFault → Fault
   BadPath : Side → PathFault → Fault
   Uncovered : Side → Found → Fault
   LacksLetters : Side → Place → ℕ → ℕ → Fault

@@ -17,7 +17,7 @@ ghost use Rattle.pua_why.specs.Texts.{text_fault_text, veil_text};
 use crate::told::{Fact, Fault, Reason, Side};
 use crate::tree_paths::{TreePaths, push_spelled};
 use pua_calls::{Perms, Promises};
-use pua_path::{Found, MOST_PATH, PathFault, Spot, Stop, TextFault};
+use pua_path::{Found, MOST_PATH, PathFault, PathTextFault, Spot, Stop};
 use pua_policy::{Covering, MOST_PLACES, Misfit, Place};
 use pua_script::MOST_PROCESSES;
 use pua_tree::{FileTree, Kind, Name, NodeId};
@@ -270,22 +270,22 @@ pub(crate) fn push_found<T: FileTree>(
 }
 
 /// Adds the words of a text that is no path.
-fn push_text_words(text: &mut String, fault: TextFault) -> Result<(), AllocError>
+fn push_text_words(text: &mut String, fault: PathTextFault) -> Result<(), AllocError>
     ensures { OnOk result (string_bytes text.new
         ≡ string_bytes text.old ++ text_fault_text fault) }
 {
     match fault {
-        TextFault::EmptyText => text.push_str("is empty"),
-        TextFault::LongText => write!(text, "has more than {MOST_PATH} bytes"),
-        TextFault::LongComponent => {
+        PathTextFault::EmptyText => text.push_str("is empty"),
+        PathTextFault::LongText => write!(text, "has more than {MOST_PATH} bytes"),
+        PathTextFault::LongComponent => {
             write!(text, "has a component of more than {} bytes", Name::MOST)
         }
-        TextFault::NulInText => text.push_str("has a NUL"),
+        PathTextFault::NulInText => text.push_str("has a NUL"),
     }
 }
 
 /// Adds what is wrong with a link's target.
-fn push_target(text: &mut String, fault: TextFault) -> Result<(), AllocError>
+fn push_target(text: &mut String, fault: PathTextFault) -> Result<(), AllocError>
     ensures { OnOk result (string_bytes text.new
         ≡ string_bytes text.old ++ (codes "target " ++ text_fault_text fault)) }
 {
@@ -313,7 +313,7 @@ fn push_bad_path<T: FileTree>(
 }
 
 /// Adds what is wrong with a path's text.
-fn push_text_fault(text: &mut String, fault: TextFault) -> Result<(), AllocError>
+fn push_text_fault(text: &mut String, fault: PathTextFault) -> Result<(), AllocError>
     ensures { OnOk result (string_bytes text.new
         ≡ string_bytes text.old ++ (codes "path " ++ text_fault_text fault)) }
 {

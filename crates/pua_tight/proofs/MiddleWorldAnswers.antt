@@ -33,19 +33,19 @@ use Rattle.pua_tight.specs.Narrower.{StateWithin}
 use Rattle.pua_policy.proofs.ForCallers.{holds_through}
 use Rattle.pua_tight.proofs.Within.{held_within, as_many}
 use Rattle.pua_tight.proofs.Decided.{easier}
-use Rattle.pua_tight.proofs.Rare.{rare, checked_plain, path_plain, locked_plain, object_plain, objects_plain}
-use Rattle.pua_tight.proofs.Rare.{rename_plain, link_plain, veiling_plain}
+use Rattle.pua_tight.proofs.RareRefusals.{rare, checked_plain, path_plain, locked_plain, object_plain, objects_plain}
+use Rattle.pua_tight.proofs.RareRefusals.{rename_plain, link_plain, veiling_plain}
 use Rattle.std.proofs.Common.{inl, inr, ◌⊎◌, arith}
 use Rattle.pua_tight.specs.Narrower.{GivenWithin, given_none, given_unknown, given_less, ActionWithin, as_given, less_pledged, less_unveiled}
 use Rattle.pua_tight.specs.Laws.{RestsOnOne}
 use Rattle.pua_tight.proofs.Sets.{three_bools, holds_self}
 use Rattle.pua_tight.proofs.Tightened.{given_self}
-use Rattle.pua_tight.proofs.Agreeing.{Agree, Misses, Refused, refused, refused_is, some_is, none_some, check, last_check, same_check}
-use Rattle.pua_tight.proofs.Agreeing.{misses_by}
-use Rattle.pua_tight.proofs.Between.{valued_by, value, value_is, value_rare}
+use Rattle.pua_tight.proofs.MiddleDecision.{Agree, Misses, Refused, refused, refused_is, some_is, none_some, check, last_check, same_check}
+use Rattle.pua_tight.proofs.MiddleDecision.{misses_by}
+use Rattle.pua_tight.proofs.MiddleWorldDecides.{valued_by, value, value_is, value_rare}
 use Rattle.pua_tight.proofs.Covered.{Covered, at_path, object_agrees, pair_agrees}
-use Rattle.pua_tight.proofs.Three.{SetThree, three_unset, three_some, StateThree, CoverThree, three_all, three_nothing, three_only}
-use Rattle.pua_tight.proofs.Three.{held_three, error_outer, kept_three, cover_three, has_both, same_truth}
+use Rattle.pua_tight.proofs.ThreeProcesses.{SetThree, three_unset, three_some, StateThree, CoverThree, three_all, three_nothing, three_only}
+use Rattle.pua_tight.proofs.ThreeProcesses.{held_three, error_outer, kept_three, cover_three, has_both, same_truth}
 
 cover_misses : {c d e : Cover} → CoverThree c d e → (perms : ℕ) → Misses (cover_fault c perms) (cover_fault d perms) (cover_fault e perms)
 cover_misses three_all perms v is = inl is

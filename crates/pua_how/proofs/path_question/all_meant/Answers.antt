@@ -1,9 +1,9 @@
 use Rattle.std.proofs.Common.{ap, sym, ◌∙◌}
 use Rattle.std.specs.Prelude.{[], unwrap_or}
-use Rattle.pua_how.specs.Asking.{targets_asked, targets_by}
+use Rattle.pua_how.specs.PathQuestion.{targets_asked, targets_by}
 use Rattle.pua_how.specs.Asked.{asking_given}
 use Rattle.pua_how.proofs.Meaning.{next_is_last}
-use Rattle.pua_how.proofs.asking.all_meant.Goals as goal
+use Rattle.pua_how.proofs.path_question.all_meant.Goals as goal
 
 pub returns-in_ok-standing-in-Standing : goal.returns-in_ok-standing-in-Standing
 returns-in_ok-standing-in-Standing g c =

@@ -3,7 +3,7 @@ use Rattle.std.specs.List.{AllByRecursion}
 use Rattle.pua_tree.specs.LentRows.{lent_entry}
 use Rattle.pua_tree.specs.Tree.{Spot}
 use Rattle.pua_how.proofs.Meaning.{last_is}
-use Rattle.pua_how.proofs.asking.last_number.Goals as goal
+use Rattle.pua_how.proofs.path_question.last_number.Goals as goal
 
 pub returns : goal.returns
 returns g c =

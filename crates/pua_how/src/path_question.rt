@@ -6,11 +6,12 @@ ghost use Rattle.std.specs.List.{AllByRecursion, slice_split};
 ghost use Rattle.pua_tree.specs.LentRows.{lent_entry};
 ghost use Rattle.pua_tree.specs.Tree.{is_dir};
 ghost use Rattle.pua_policy.specs.States.{ProcessState};
-ghost use Rattle.pua_how.specs.Asking.{asking_of, directory_at_name, is_of_kind as has_kind};
-ghost use Rattle.pua_how.specs.Asking.{is_same_kind};
-ghost use Rattle.pua_how.specs.Asking.{may_be_of, names_read, path_names, standing_at};
-ghost use Rattle.pua_how.specs.Asking.{targets_asked, targets_at, targets_by, targets_in};
-ghost use Rattle.pua_how.specs.Asking.{targets_new};
+ghost use Rattle.pua_how.specs.PathQuestion.{path_question, directory_at_name};
+ghost use Rattle.pua_how.specs.PathQuestion.{is_of_kind as has_kind};
+ghost use Rattle.pua_how.specs.PathQuestion.{is_same_kind};
+ghost use Rattle.pua_how.specs.PathQuestion.{may_be_of, names_read, path_names, standing_at};
+ghost use Rattle.pua_how.specs.PathQuestion.{targets_asked, targets_at, targets_by, targets_in};
+ghost use Rattle.pua_how.specs.PathQuestion.{targets_new};
 ghost use Rattle.pua_how.specs.Targets.{IsLast};
 ghost use Rattle.pua_how.specs.Asked.{IsAskedBy, asking_given};
 
@@ -22,25 +23,25 @@ use std::alloc::{AllocError, Global};
 
 /// What is asked about.
 #[derive(Drop)]
-pub enum Asking {
+pub enum PathQuestion {
     /// What stands or could stand at the end of these names, which lead there from the root.
     Standing(Vec<Name>),
     /// Whatever can be made.
     Making,
 }
 
-impl Asking {
+impl PathQuestion {
     /// What a path asks about, as a list for ever prints it: `/`, or names as they are spelled,
     /// each behind one slash; or `new`. None where it is neither. The only error is that a growth
     /// was refused.
-    pub fn read(alloc: Global, path: &[u8]) -> Result<Option<Asking>, OutOfMemory>
-        ensures { IfOk result (λ read. option_map asking_given read ≡ asking_of path.now) }
+    pub fn read(alloc: Global, path: &[u8]) -> Result<Option<PathQuestion>, OutOfMemory>
+        ensures { IfOk result (λ read. option_map asking_given read ≡ path_question path.now) }
     {
         if path == b"new".as_slice() {
-            return Ok(Some(Asking::Making));
+            return Ok(Some(PathQuestion::Making));
         }
         match read_path(alloc, path)? {
-            Some(names) => Ok(Some(Asking::Standing(names))),
+            Some(names) => Ok(Some(PathQuestion::Standing(names))),
             None => Ok(None),
         }
     }
@@ -101,7 +102,7 @@ pub fn find_meant<T: FileTree>(
     alloc: Global,
     tree: &T,
     process: &Process,
-    asking: &Asking,
+    asking: &PathQuestion,
     kind: Option<ObjectKind>,
 ) -> Result<Meant, OutOfMemory>
     ensures { IfOk result (λ found. IsAskedBy (T.content tree.now) process.now
@@ -119,7 +120,7 @@ fn all_meant<T: FileTree>(
     alloc: Global,
     tree: &T,
     process: &Process,
-    asking: &Asking,
+    asking: &PathQuestion,
 ) -> Result<Vec<Target>, OutOfMemory>
     ensures { IfOk result (λ targets. (last : ℕ) × IsLast (T.content tree.now) last
         × (targets.items ≡ targets_asked (T.content tree.now) process.now last
@@ -127,8 +128,8 @@ fn all_meant<T: FileTree>(
 {
     tree.known();
     match asking {
-        Asking::Standing(names) => Ok(standing(alloc, tree, process, names.as_slice())?),
-        Asking::Making => {
+        PathQuestion::Standing(names) => Ok(standing(alloc, tree, process, names.as_slice())?),
+        PathQuestion::Making => {
             let last = last_number(alloc, tree)?;
             Ok(making(alloc, last)?)
         }
@@ -331,8 +332,8 @@ fn is_same_kind(kind: Kind, found: Option<Kind>) -> bool
 }
 
 /// The name with which a way is to end, where nothing stands at the one that is asked about.
-fn wanted_name<T: FileTree>(tree: &T, asking: &Asking) -> Option<Name> {
-    let Asking::Standing(names) = asking else {
+fn wanted_name<T: FileTree>(tree: &T, asking: &PathQuestion) -> Option<Name> {
+    let PathQuestion::Standing(names) = asking else {
         return None;
     };
     let (first, more) = names.as_slice().split_first()?;

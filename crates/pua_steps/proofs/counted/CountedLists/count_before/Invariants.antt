@@ -1,6 +1,6 @@
 use Rattle.pua_steps.proofs.Common.{ℕ, ◌≡◌, ◌<◌, ◌≤◌, ◌+◌, ◌-◌, ◌^◌, length, get_or, min, within}
 use Rattle.pua_steps.proofs.Finding.{no_entry}
-use Rattle.pua_steps.proofs.counted.Counted.count_before.Given as goal
+use Rattle.pua_steps.proofs.counted.CountedLists.count_before.Given as goal
 
 abbrev pub invariant-loop-low : goal.invariant-loop-low
 invariant-loop-low l = let es = within l.fn.self.lists.entries.items l.span.place l.span.end in record {

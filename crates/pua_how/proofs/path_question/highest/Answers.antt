@@ -1,7 +1,7 @@
 use Rattle.std.proofs.Common.{arith}
 use Rattle.pua_how.proofs.Meaning.{higher_more}
-use Rattle.pua_how.proofs.asking.highest.Goals.{then-number, else-number}
-use Rattle.pua_how.proofs.asking.highest.Goals as goal
+use Rattle.pua_how.proofs.path_question.highest.Goals.{then-number, else-number}
+use Rattle.pua_how.proofs.path_question.highest.Goals as goal
 
 pub loop-row-preserved : goal.loop-row-preserved
 loop-row-preserved c =

@@ -2,7 +2,7 @@ use Rattle.std.proofs.Common.{◌≤◌, map, take}
 use Rattle.std.specs.List.{AllByRecursion}
 use Rattle.pua_tree.specs.LentRows.{lent_entry}
 use Rattle.pua_tree.specs.Tree.{Spot}
-use Rattle.pua_how.proofs.asking.highest.Given as goal
+use Rattle.pua_how.proofs.path_question.highest.Given as goal
 
 -- no number so far is above it
 abbrev pub invariant-loop-row : goal.invariant-loop-row

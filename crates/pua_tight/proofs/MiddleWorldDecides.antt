@@ -34,11 +34,11 @@ use Rattle.pua_tight.proofs.Sets.{two_bools}
 use Rattle.pua_tight.proofs.Within.{held_within, kept_within, as_many, CoverWithin}
 use Rattle.pua_tight.proofs.Within.{all, nothing, only, cover_within}
 use Rattle.pua_tight.proofs.Decided.{easier, gives_more}
-use Rattle.pua_tight.proofs.Agreeing.{Agree, Refused, refused, refused_is, some_is, none_some, last_check, same_check}
-use Rattle.pua_tight.proofs.Agreeing.{back_by}
+use Rattle.pua_tight.proofs.MiddleDecision.{Agree, Refused, refused, refused_is, some_is, none_some, last_check, same_check}
+use Rattle.pua_tight.proofs.MiddleDecision.{back_by}
 use Rattle.pua_tight.proofs.Covered.{Covered, at_path, object_agrees, pair_agrees, cover_back, cover_lack}
-use Rattle.pua_tight.proofs.Rare.{rare, checked_plain, path_plain, locked_plain, object_plain, objects_plain}
-use Rattle.pua_tight.proofs.Rare.{rename_plain, link_plain, veiling_plain}
+use Rattle.pua_tight.proofs.RareRefusals.{rare, checked_plain, path_plain, locked_plain, object_plain, objects_plain}
+use Rattle.pua_tight.proofs.RareRefusals.{rename_plain, link_plain, veiling_plain}
 
 -- the refusal of one that lacks a promise
 abbrev pub valued_by : Bool → Bool → Refusal

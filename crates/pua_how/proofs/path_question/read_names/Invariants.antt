@@ -1,7 +1,7 @@
 use Rattle.std.proofs.Common.{◌≡◌, ◌++◌, drop, map}
 use Rattle.std.specs.Prelude.{option_map}
-use Rattle.pua_how.specs.Asking.{names_read}
-use Rattle.pua_how.proofs.asking.read_names.Given as goal
+use Rattle.pua_how.specs.PathQuestion.{names_read}
+use Rattle.pua_how.proofs.path_question.read_names.Given as goal
 
 -- the names so far, and those of the pieces that are left
 abbrev pub invariant-loop-piece : goal.invariant-loop-piece

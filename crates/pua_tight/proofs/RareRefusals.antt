@@ -11,8 +11,8 @@ use Rattle.pua_path.specs.Fits.{node_named, spot_named}
 use Rattle.pua_path.specs.declared.errno.Errno.{Errno}
 use Rattle.pua_path.specs.declared.errno.Errno.TheVariants.{EPERM, ENOENT, EACCES, EINVAL, EEXIST, EISDIR, ENOTDIR, ENOTEMPTY, ELOOP}
 use Rattle.pua_path.specs.declared.errno.Errno.TheVariants.{ENOSPC, EAGAIN, ENOSYS}
-use Rattle.pua_path.specs.declared.traced.TextFault.{TextFault}
-use Rattle.pua_path.specs.declared.traced.TextFault.TheVariants.{EmptyText, LongText, LongComponent, NulInText}
+use Rattle.pua_path.specs.declared.traced.PathTextFault.{PathTextFault}
+use Rattle.pua_path.specs.declared.traced.PathTextFault.TheVariants.{EmptyText, LongText, LongComponent, NulInText}
 use Rattle.pua_path.specs.declared.text.Ending.{Ending}
 use Rattle.pua_path.specs.declared.text.Ending.TheVariants as ending
 use Rattle.pua_path.specs.declared.found.Part.{Part}
@@ -89,7 +89,7 @@ kinds_plain t x old (Whole y way) =
 kinds_plain t x old (Slot dir name None) = refl
 kinds_plain t x old (Slot dir name (Some y)) = if_plain (is_whole old) ENOTDIR refl
 
-text_plain : (o : Option TextFault) → rare_fault (option_map text_errno o) ≡ false
+text_plain : (o : Option PathTextFault) → rare_fault (option_map text_errno o) ≡ false
 text_plain None = refl
 text_plain (Some EmptyText) = refl
 text_plain (Some LongText) = refl

@@ -93,23 +93,23 @@ may_be_of t None asked = true
 may_be_of t (Some kind) asked = is_of_kind t kind asked
 
 -- what is asked about: names that lead there from the root, or whatever can be made
-pub data Asking : Type 0 where
-  Standing : List (List ℕ) → Asking
-  Making : Asking
+pub data PathQuestion : Type 0 where
+  Standing : List (List ℕ) → PathQuestion
+  Making : PathQuestion
 
-abbrev pub asking_of : List ℕ → Option Asking
-asking_of path = if same_bytes path (codes "new") then Some Making else option_map Standing (path_names path)
+abbrev pub path_question : List ℕ → Option PathQuestion
+path_question path = if same_bytes path (codes "new") then Some Making else option_map Standing (path_names path)
 
-abbrev pub targets_asked : Tree → ProcessState → ℕ → Asking → List Target
+abbrev pub targets_asked : Tree → ProcessState → ℕ → PathQuestion → List Target
 targets_asked t h last (Standing names) = unwrap_or (targets_by t h names) []
 targets_asked t h last Making = targets_new last
 
 -- all that may be meant, of a kind if one is asked for; none where what is to lead there is no directory
-abbrev pub targets_of : Tree → ProcessState → ℕ → Asking → Option ObjectKind → List Target
+abbrev pub targets_of : Tree → ProcessState → ℕ → PathQuestion → Option ObjectKind → List Target
 targets_of t h last asking kind = filter (may_be_of t kind) (targets_asked t h last asking)
 
 -- the path and the kind of a line of a list for ever, as a way is asked for by them
-abbrev pub asking_by : Word → Thing → Asking
+abbrev pub asking_by : Word → Thing → PathQuestion
 asking_by word (Stands subject) = Standing word
 asking_by word (Comes new) = Making
 

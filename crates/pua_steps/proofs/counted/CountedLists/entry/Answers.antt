@@ -1,6 +1,6 @@
 use Rattle.pua_steps.proofs.Common.{◌≡◌, ◌<◌, ◌∙◌, zero, suc, ℕ, List, [], ◌∷◌, refl, arith, first_of, within, Entry}
 use Rattle.std.specs.List.{slice_get}
-use Rattle.pua_steps.proofs.counted.Counted.entry.Goals as goal
+use Rattle.pua_steps.proofs.counted.CountedLists.entry.Goals as goal
 
 first_within : (es : List Entry) (place end : ℕ) → place < end → slice_get es place ≡ first_of (within es place end)
 first_within es place zero low = absurd (omega (arith, low))

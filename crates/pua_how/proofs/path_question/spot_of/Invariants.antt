@@ -1,7 +1,7 @@
 use Rattle.std.proofs.Common.{◌≡◌, drop}
 use Rattle.pua_policy.specs.States.{ProcessState}
-use Rattle.pua_how.specs.Asking.{targets_in}
-use Rattle.pua_how.proofs.asking.spot_of.Given as goal
+use Rattle.pua_how.specs.PathQuestion.{targets_in}
+use Rattle.pua_how.proofs.path_question.spot_of.Given as goal
 
 -- what is meant is what the names that are left mean from here on
 abbrev pub invariant-loop-next : goal.invariant-loop-next

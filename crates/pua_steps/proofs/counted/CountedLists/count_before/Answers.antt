@@ -8,7 +8,7 @@ use Rattle.std.specs.List.{slice_get}
 use Rattle.pua_steps.specs.Table.{is_before}
 use Rattle.std.proofs.lemmas.List.{length-take, length-drop, get_or-take, get_or-drop}
 use Rattle.pua_steps.proofs.Finding.{no_entry, upward, before_place, after_place}
-use Rattle.pua_steps.proofs.counted.Counted.count_before.Goals as goal
+use Rattle.pua_steps.proofs.counted.CountedLists.count_before.Goals as goal
 
 -- half of what is left needs one look fewer
 halved : (n w x : ℕ) → 0 < w → w < 2 ^ n → x ≤ w / 2 → (m : ℕ) × ((n ≡ suc m) × (x < 2 ^ m))

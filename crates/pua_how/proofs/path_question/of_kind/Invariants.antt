@@ -1,6 +1,6 @@
 use Rattle.std.proofs.Common.{◌≡◌, filter, take}
-use Rattle.pua_how.specs.Asking.{may_be_of}
-use Rattle.pua_how.proofs.asking.of_kind.Given as goal
+use Rattle.pua_how.specs.PathQuestion.{may_be_of}
+use Rattle.pua_how.proofs.path_question.of_kind.Given as goal
 
 -- those so far
 abbrev pub invariant-loop-target : goal.invariant-loop-target
