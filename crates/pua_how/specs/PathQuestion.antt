@@ -109,9 +109,9 @@ abbrev pub targets_of : Tree → ProcessState → ℕ → PathQuestion → Optio
 targets_of t h last asking kind = filter (may_be_of t kind) (targets_asked t h last asking)
 
 -- the path and the kind of a line of a list for ever, as a way is asked for by them
-abbrev pub asking_by : Word → Thing → PathQuestion
-asking_by word (Stands subject) = Standing word
-asking_by word (Comes new) = Making
+abbrev pub question_by : Word → Thing → PathQuestion
+question_by word (Stands subject) = Standing word
+question_by word (Comes new) = Making
 
 abbrev pub thing_word : Tree → Thing → List ℕ
 thing_word t (Stands subject) = subject_word t subject
