@@ -453,7 +453,7 @@ sub test_claim {
             $why += $count if $crate eq 'pua_why';
         }
     }
-    my @said = $page =~ /: (\d+) files, some ([\d,]+) lines.*\n.*?; (\d+) of them/;
+    my @said = (join ' ', split ' ', $page) =~ /: (\d+) files, some ([\d,]+) lines.*?The row of `pua_why`, (\d+) lines/;
     s/,// for @said;
     is($files, $said[0], 'ARCHITECTURE: the files of the claim');
     cmp_ok(abs($lines - $said[1]), '<=', 50, "ARCHITECTURE: the lines of the claim, $lines");
