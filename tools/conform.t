@@ -42,8 +42,8 @@ my @both = ($tree, $script);
 for my $words ([], [$tree], [@both, $tree], ['--what', @both], ['--trials'], ['--trials', 'a', 'b'], ['-?'],
     ['--helper', '', @both]) {
     my ($status, $out, $err) = conform(@$words);
-    is($status, 2, "no use of it: @$words");
-    like($err, qr/usage: conform\.pl .*--trials DIR\n\z/, "no use of it: @$words: the usage");
+    is($status, 2, "wrong words: @$words");
+    like($err, qr/usage: conform\.pl .*--trials DIR\n\z/, "wrong words: @$words: the usage");
 }
 {
     my ($status, $out, $err) = conform('--help');
