@@ -48,7 +48,7 @@ for my $words ([], [$tree], [@both, $tree], ['--what', @both], ['--trials'], ['-
 {
     my ($status, $out, $err) = conform('--help');
     is($status, 0, '--help');
-    like($out, qr/\APerforms a script of pua\(1\).*^Status 0: .*use of it\.\n\z/ms, '--help prints the head');
+    like($out, qr/\APerforms a script of pua\(1\).*^Status 0: .*do not fit\.\n\z/ms, '--help prints the head');
 }
 if ($> == 0) { $user = 65534 }
 {
