@@ -1,4 +1,4 @@
-//! Several processes as one, by which is told what they can ever touch together.
+//! Several processes as one: the list for ever of this one is theirs together.
 
 ghost use Rattle.std.specs.Prelude.{◌≡◌, map, IfOk};
 ghost use Rattle.pua_ever.specs.Joints.{joint_told};

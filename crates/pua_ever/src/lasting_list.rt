@@ -27,7 +27,7 @@ pub enum ExecBound {
     Never,
     /// All that is started is bounded: the list holds through every exec.
     Bounded,
-    /// What is started isn't bounded, or no line tells of it: the list holds until a program is
+    /// Started programs aren't bounded, or no line shows them: the list holds until a program is
     /// started.
     Open,
 }

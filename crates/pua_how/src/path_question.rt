@@ -47,7 +47,7 @@ impl PathQuestion {
     }
 }
 
-/// The names of a path. The only error is that a growth was refused, as that of all that read.
+/// The names of a path. The only error is that a growth was refused.
 fn read_path(alloc: Global, path: &[u8]) -> Result<Option<Vec<Name>>, AllocError>
     ensures { IfOk result (λ read. option_map (λ names. names.items) read ≡ path_names path.now) }
 {
@@ -96,8 +96,7 @@ pub struct Meant {
 /// process. A directory is itself, or its further names; a file, program or link its node; either
 /// may be the name too, where that has a veil of its own, and so is a name at which nothing stands;
 /// without a veil it is one of the further names. None is meant where what is to lead there is no
-/// directory, or nothing is of the kind. The only error is that a growth was refused, as that of
-/// all that look.
+/// directory, or nothing is of the kind. The only error is that a growth was refused.
 pub fn find_meant<T: FileTree>(
     alloc: Global,
     tree: &T,
@@ -115,7 +114,7 @@ pub fn find_meant<T: FileTree>(
     })
 }
 
-/// The same of any kind. Only what can be made is told by the nodes that live.
+/// The same of any kind. Only things that can be made are known by the nodes that live.
 fn all_meant<T: FileTree>(
     alloc: Global,
     tree: &T,

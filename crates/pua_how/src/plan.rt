@@ -64,8 +64,7 @@ impl Planner<'_> {
 }
 
 impl<'p> Search<'p, '_> {
-    /// Adds the forms for the target. The only error is that a growth was refused, as of all that
-    /// add.
+    /// Adds the forms for the target. The only error is that a growth was refused.
     fn add_forms(&mut self) -> Result<(), AllocError> {
         let target = self.target;
         match &target {

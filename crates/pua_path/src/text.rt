@@ -71,7 +71,7 @@ impl<'a> PathText<'a> {
 }
 
 /// What is wrong with a text that is no path: the first of the faults of `PathText::read` that it
-/// has, told apart. None where it is a path.
+/// has. None where it is a path.
 pub fn text_fault(bytes: &[u8]) -> Option<PathTextFault>
     ensures { result ≡ text_fault bytes.now }
 {

@@ -89,8 +89,8 @@ impl<'a> Watches<'a> {
         }
     }
 
-    /// Since which line the question at this place is told what it is told now; None where it was
-    /// from the start, or where there is no such question.
+    /// Since which line the question at this place has its answer of now; None where it had it from
+    /// the start, or where there is no such question.
     pub(crate) fn line(&self, place: usize) -> Option<usize>
         ensures { result ≡ line_at self.now.watches.items place }
     {
@@ -98,7 +98,7 @@ impl<'a> Watches<'a> {
     }
 
     /// Serves the next request of the replay, on this line, which was answered so, and asks each
-    /// question again that may be told something else behind it.
+    /// question again that may have another answer after it.
     pub(crate) fn serve<T: FileTree>(
         &mut self,
         alloc: Global,

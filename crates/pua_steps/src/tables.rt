@@ -17,7 +17,7 @@ use crate::steps::Steps;
 use std::alloc::{AllocError, Global};
 
 /// The tables that a walk reads, and how many of their letters were read. They are made of a table
-/// of steps, which they keep: nothing gives it back, and what it tells of a letter is read by
+/// of steps, which they keep: nothing gives it back, and what it has for a letter is read by
 /// `counted` alone.
 #[derive(Drop)]
 pub struct Tables {

@@ -22,8 +22,8 @@ use std::alloc::Global;
 use std::collections::VecDeque;
 
 /// The lists of these processes with reasons, one after another, of which those are left out that
-/// were never made, where their veils are so since these lines; their states say whose rules the
-/// table of calls is by. The only error is that a growth was refused.
+/// were never made; their veils have their letters since these lines; their states say whose rules
+/// the table of calls is by. The only error is that a growth was refused.
 pub fn begin_reasons<'t, T: FileTree>(
     alloc: Global,
     world: &'t World<T>,

@@ -173,8 +173,8 @@ fn meant_by<T: FileTree>(
     Ok(meant)
 }
 
-/// Whether a link is meant and the call is on what a link leads to. What stands at a name is the
-/// first that may be meant by it.
+/// Whether a link is meant and the call is on the link's target. Of what a name may mean, what
+/// stands there is the first.
 fn follows_link<T: FileTree>(tree: &T, call: Call, things: &[Target]) -> bool
     ensures { result ≡ is_link_followed (T.content tree.now) call things.now }
 {
@@ -186,7 +186,7 @@ fn follows_link<T: FileTree>(tree: &T, call: Call, things: &[Target]) -> bool
     is_link && matches!(call.last(), Last::Followed)
 }
 
-/// What the list for ever says of it. `OutOfMemory` where a growth was refused.
+/// What the list for ever says about the thing. `OutOfMemory` where a growth was refused.
 fn outlook_of<T: FileTree>(
     alloc: Global,
     tree: &T,

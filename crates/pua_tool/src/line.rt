@@ -25,7 +25,7 @@ pub(crate) enum Piece<'a> {
 /// A piece of no bytes.
 const NOTHING: Piece<'static> = Piece::Text("");
 
-/// The pieces of a line that a program tells of a fault; those that it doesn't need have no bytes.
+/// The pieces of the line of a fault; those that a line doesn't need have no bytes.
 pub(crate) type Pieces = [Piece<'static>; 5];
 
 /// A line of one text.

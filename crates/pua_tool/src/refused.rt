@@ -8,8 +8,8 @@ use pua_calls::{Call, Rules};
 use pua_how::{Meant, Planner};
 use std::alloc::Global;
 
-/// Where memory was refused, plans may come to a way: of those that were served before `no way
-/// found` is told, none does when it is served again.
+/// Where memory was refused, plans may come to a way: of those that were served before
+/// `no way found` is written, none does when it is served again.
 fn no_way_found_for_want_of_memory(
     alloc: Global,
     replay: &Replay,

@@ -43,15 +43,16 @@ use std::alloc::Global;
 /// [`REFUSED`] also where there is no such line.
 ///
 /// It answers the status. [`DONE`]: the text that is asked for, of the bytes that the inputs hold
-/// under the command's names, was written, and nothing to `err`; of a way it is one of several, as
-/// which one is found is in no contract. [`REFUSED`]: these bytes, or what the audit or the way is
-/// asked for, are refused. [`DEVICE`]: an input is missing, and nothing was written; or a put
-/// failed, and a front of the text was written. [`MEMORY`]: a growth of memory was refused. After
-/// [`REFUSED`] and [`MEMORY`] nothing was written. After each but [`DONE`] the line of what stopped
-/// it went to `err`: all of it, or a front of it before a put that failed. Of an input that is
-/// refused this is the line with what is wrong, and with which line, candidate or call, if with
-/// one. Behind that line of a script, or of a request that is asked about, a second one says by
-/// OpenBSD's rules what is wrong with it ([`advise`](pua_advice::advise)).
+/// under the command's names, was written, and nothing to `err`; for `how` the text is one of
+/// several allowed ones, since no contract says which way is found. [`REFUSED`]: these bytes, or
+/// what the audit or the way is asked for, are refused. [`DEVICE`]: an input is missing, and
+/// nothing was written; or a put failed, and a front of the text was written. [`MEMORY`]: a growth
+/// of memory was refused. After [`REFUSED`] and [`MEMORY`] nothing was written. After each but
+/// [`DONE`] the line of what stopped it went to `err`: all of it, or a front of it before a put
+/// that failed. Of an input that is refused this is the line with what is wrong, and with which
+/// line, candidate or call, if with one. Behind that line of a script, or of a request that is
+/// asked about, a second one says by OpenBSD's rules what is wrong with it
+/// ([`advise`](pua_advice::advise)).
 pub fn perform<I: Inputs, O: Sink, E: Sink>(
     alloc: Global,
     command: &Command<'_>,

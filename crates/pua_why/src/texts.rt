@@ -91,7 +91,7 @@ fn push_fault<T: FileTree>(
     }
 }
 
-/// The word before what is told of one path of two.
+/// The word before the reason of one path of two.
 fn side_word(side: Side) -> &'static str
     ensures { result.now ≡ side_text (side_seen side) }
 {
@@ -338,7 +338,7 @@ fn push_stop<T: FileTree>(
     }
 }
 
-/// Adds what is so of a name in a directory.
+/// Adds what a fact says of a name in a directory.
 fn push_at<T: FileTree>(
     text: &mut String,
     paths: &mut TreePaths<'_, T>,
@@ -406,7 +406,7 @@ fn push_misfit<T: FileTree>(
     }
 }
 
-/// What is told of a misfit, and whether what was found stands before it.
+/// The words of a misfit, and whether the thing that was found stands before them.
 fn misfit_words(misfit: Misfit) -> (bool, &'static str)
     ensures { (object : List ℕ) → misfit_text object misfit
         ≡ (if result.0 then object ++ result.1.now else result.1.now) }
@@ -428,7 +428,7 @@ fn misfit_words(misfit: Misfit) -> (bool, &'static str)
     }
 }
 
-/// Adds where something was found, and what is so of it.
+/// Adds where something was found, and what is wrong with it.
 fn push_so<T: FileTree>(
     text: &mut String,
     paths: &mut TreePaths<'_, T>,
@@ -461,7 +461,7 @@ fn push_inside<T: FileTree>(
     push_found(text, paths, old)
 }
 
-/// Whether something is told of execpromises.
+/// Whether a reason is about execpromises.
 fn of_exec_words(of_exec: bool) -> &'static str
     ensures { result.now ≡ of_exec_text of_exec }
 {
@@ -492,7 +492,7 @@ fn push_asks(
 }
 
 /// Adds a fact to a text, as the tree of the moment has it: of a veil since which line it is on its
-/// place, if that is told. The only error is that a growth was refused.
+/// place, if there is such a line. The only error is that a growth was refused.
 pub fn push_fact<T: FileTree>(
     alloc: Global,
     text: &mut String,
@@ -514,7 +514,7 @@ pub fn push_fact<T: FileTree>(
     }
 }
 
-/// Adds since which line something is so, if that is told.
+/// Adds since which line something holds, if there is such a line.
 pub fn push_since(text: &mut String, line: Option<usize>) -> Result<(), AllocError>
     ensures { OnOk result (string_bytes text.new ≡ string_bytes text.old ++ since_text line) }
 {

@@ -1,4 +1,4 @@
-//! What is told of a request: why it is answered as it is.
+//! Why a request has its answer.
 
 use pua_calls::{Perms, Promises};
 use pua_path::{Found, PathFault, PathTextFault, Spot};

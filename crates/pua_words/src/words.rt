@@ -47,7 +47,7 @@ pub(crate) const MOST_NUMBER: u32 = 999_999;
 /// Why there is nothing to do.
 #[derive(Drop)]
 pub enum Stop {
-    /// The words are not those of any command. This line tells how they could be.
+    /// The words are not those of any command. This line says how they could be.
     Usage(UsageLine),
     /// Help or the version was asked for, and is this text, which is never empty.
     Display(String),

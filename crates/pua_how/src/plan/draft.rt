@@ -54,7 +54,7 @@ impl Draft {
         }
     }
 
-    /// Adds a call. The only error is that a growth was refused, as of all that add or close.
+    /// Adds a call. The only error is that a growth was refused.
     pub(crate) fn call(&mut self, call: Call, at: &At) -> Result<(), AllocError> {
         Ok(self.steps.push(Step::On(call, *at))?)
     }
