@@ -8,7 +8,7 @@ use Rattle.pua_path.specs.Paths.{path_fault}
 use Rattle.pua_path.specs.Resolution.{resolution_of_text}
 use Rattle.pua_path.specs.Fits.{spot_named, node_named}
 use Rattle.pua_calls.specs.Promises.{proc, unveil}
-use Rattle.pua_calls.specs.Calls.{CallTable, NameRule, PairRule, rule_of, last_of, ending_of, effect_of}
+use Rattle.pua_calls.specs.Calls.{CallTable, NameRule, PairRule, rule_of, last_of, ending_of, effect_of, execpromises_by}
 use Rattle.pua_policy.specs.States.{ProcessState, Event, Pledged, Unveiled, Locked, Moved, Ended, working_dir, may_any, pledge_fault}
 use Rattle.pua_policy.specs.States.{unveil_fault}
 use Rattle.pua_policy.specs.Verdict.{place_of, cover, cover_fault, or_fault, object_of, refusal_of}
@@ -158,7 +158,7 @@ making None spot there = NoChange
 abbrev pub change_in : CallTable → Effect → Found → Change
 change_in table effect.Removes object = removing object
 change_in table effect.Enters object = going object
-change_in table effect.Starts object = BeginProgram table.execpromises
+change_in table effect.Starts object = BeginProgram (execpromises_by table.whose)
 change_in table does object = making (made_in does) (spot_named object) (node_named object)
 
 abbrev pub change_by : CallTable → Call → Found → Change
