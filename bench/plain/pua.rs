@@ -912,7 +912,8 @@ fn act(tree: &mut Tree, process: &mut Process, action: &Action) -> Result<(), Er
         }
         Action::Rename(old, new) => {
             let (from, to) = process.pair(tree, old, new, true, &rules().rename)?;
-            if let Some((from, to)) = move_of(tree, from, to)? {
+            let asks_directory = rules().is_openbsd && (old.ends_with(b"/") || new.ends_with(b"/"));
+            if let Some((from, to)) = move_of(tree, asks_directory, from, to)? {
                 tree.shift((from.0, &from.1), (to.0, &to.1));
             }
             Ok(())
@@ -1002,17 +1003,21 @@ fn change(
     Ok(())
 }
 
-/// The row that a rename moves, and its new place, if it has to move; or what is wrong with that.
-fn move_of(tree: &Tree, from: Found, to: Found) -> Result<Option<(Spot, Spot)>, Errno> {
+/// The row that a rename moves, and its new place, if it has to move; or what is wrong with that. A path with a slash at
+/// its end may ask for a directory.
+fn move_of(tree: &Tree, asks_directory: bool, from: Found, to: Found) -> Result<Option<(Spot, Spot)>, Errno> {
     let node = from.node().ok_or("ENOENT")?;
     let (Some(old), Some(new)) = (from.spot(), to.spot()) else {
         let is_dots = |found| matches!(found, Found::Whole(_, Way::Dots));
         return Err(if is_dots(from) || is_dots(to) { "EINVAL" } else { "EBUSY" });
     };
+    let is_dir = matches!(from, Found::Whole(..));
+    if asks_directory && !is_dir {
+        return Err("ENOTDIR");
+    }
     if to.node() == Some(node) {
         return Ok(None);
     }
-    let is_dir = matches!(from, Found::Whole(..));
     let mut above = new.0;
     while is_dir && above != ROOT && above != node {
         above = tree.node(above).parent;

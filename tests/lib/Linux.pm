@@ -24,7 +24,6 @@ our @RULES = (
     ['late-name',    'profile', 'a component that is too long is judged where it stands'],
     ['rename-early', 'profile', 'rename refuses `.`, `..` and `/` before it looks up the last names'],
     ['made-slash',   'profile', 'a slash behind a name that is made or unlinked: the link there is not followed'],
-    ['rename-slash', 'profile', 'rename of what is no directory, with a slash behind a name, is ENOTDIR'],
     ['rmdir-dotdot', 'profile', 'rmdir of `..` is ENOTEMPTY'],
     ['target',       'profile', 'of the target of a link that is made only the whole length is judged'],
     ['target-slash', 'profile', 'create through a link whose target ends in a slash is EISDIR'],
@@ -193,7 +192,7 @@ sub _rename {
     return $new->{fault} if $new->{fault};
     return $refused if $refused;
     my $is_dir = $linux->_kind($old) eq 'dir';
-    return 'ENOTDIR' if $by->{'rename-slash'} && !$is_dir && ($old->{slash} || $new->{slash});
+    return 'ENOTDIR' if !$is_dir && ($old->{slash} || $new->{slash});
     my ($from, $to) = map { $linux->_row($_) } $old, $new;
     my ($node, $replaced) = map { $linux->{rows}{ $_->[0] }{ $_->[1] } } $from, $to;
     return 'ok' if defined $replaced && $node == $replaced;

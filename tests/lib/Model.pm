@@ -312,6 +312,7 @@ sub _rename {
     my @ways = map { $_->{way} } grep { exists $_->{dir} } $old, $new;
     return 'EINVAL' if grep { $_ eq '.' || $_ eq '..' } @ways;
     return 'EBUSY' if grep { $_ eq '' } @ways;
+    return 'ENOTDIR' if $model->{openbsd} && $model->_kind($old) ne 'dir' && grep { unspelled($_) =~ m{/\z} } @paths;
     my ($from, $to) = map { $model->_row($_) } $old, $new;
     my ($node, $replaced) = map { $model->{rows}{ $_->[0] }{ $_->[1] } } $from, $to;
     return 'ok' if defined $replaced && $node == $replaced;

@@ -14,7 +14,7 @@ pub use Rattle.std.specs.Prelude.{◌&&◌, ◌==◌, ◌||◌, Err, filter, fil
 pub use Rattle.std.specs.Prelude.{None, not, Ok, Option, option_map, Result, Some}
 pub use Rattle.pua_audit.specs.Reach.{Word}
 pub use Rattle.pua_calls.specs.CallSets.{has, is_kept, keeps_link}
-pub use Rattle.pua_calls.specs.Calls.{calls, CallTable, rule_of}
+pub use Rattle.pua_calls.specs.Calls.{calls, CallTable, execpromises_by, rule_of}
 pub use Rattle.pua_calls.specs.declared.call.Call.{Call}
 pub use Rattle.pua_objects.proofs.ForCallers.{allowed_is, Among, among_contained, among_filter, among_filter_map, among_left, among_map}
 pub use Rattle.pua_objects.proofs.ForCallers.{among_right, contained, covers_descend, filter_among, map_among, named_within_text}

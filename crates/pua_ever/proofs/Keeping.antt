@@ -2,7 +2,7 @@
 use Rattle.pua_ever.proofs.Common.{◌≡◌, ℕ, List, [], ◌∷◌, Bool, true, false, cond, refl, sym, ap, subst, ◌∙◌}
 use Rattle.pua_ever.proofs.Common.{Some, ◌&&◌, ◌||◌, ◌==◌}
 use Rattle.pua_ever.proofs.Common.{false≢true, eqb-true, eq-eqb}
-use Rattle.pua_ever.proofs.Common.{CallTable, rule_of, ProcessState, may_any, state_after, found_here, found_put, Asked, World, apply}
+use Rattle.pua_ever.proofs.Common.{CallTable, execpromises_by, rule_of, ProcessState, may_any, state_after, found_here, found_put, Asked, World, apply}
 use Rattle.pua_ever.proofs.Common.{world_after, kept_at, Copies, Fails, Action}
 use Rattle.pua_ever.proofs.Common.{Fork, is_member, family_then}
 use Rattle.std.specs.Prelude.{nat_eq}
@@ -23,7 +23,7 @@ use Rattle.pua_ever.proofs.Leaving.{Keeping, decided_so}
 -- what is kept: by an event that leaves the veils, by a program that is started, and since nothing can put a veil
 pub record Keeps (table : CallTable) (Kind : ProcessState → Type 0) : Type 0 where
   pub more : (event : Event) (h : ProcessState) → (state_after event h).veils ≡ h.veils → Kind h → Kind (state_after event h)
-  pub program : (h : ProcessState) → Kind h → may_any h (rule_of table call.Exec).alternatives ≡ Yes → Kind (after_exec table.execpromises h)
+  pub program : (h : ProcessState) → Kind h → may_any h (rule_of table call.Exec).alternatives ≡ Yes → Kind (after_exec (execpromises_by table.whose) h)
   pub veils : (h : ProcessState) → Kind h → may_any h (unveil ∷ []) ≡ Yes → is_locked h ≡ false → ⊥
 
 -- each of the members is such a process

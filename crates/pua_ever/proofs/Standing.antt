@@ -2,7 +2,7 @@
 use Rattle.pua_ever.proofs.Common.{◌≡◌, ◌<◌, ◌≤◌, ℕ, [], ◌∷◌, ◌++◌, Bool, true, false, cond, refl, sym, ap, subst, ◌∙◌, arith}
 use Rattle.pua_ever.proofs.Common.{Option, Some, None}
 use Rattle.pua_ever.proofs.Common.{and_parts, Tree, WellFormed, is_dir, None≢Some, state_after, Followed}
-use Rattle.pua_ever.proofs.Common.{Found, Whole, Slot, resolutions_fit, CallTable, ProcessState, perms_kept, same_place, working_dir}
+use Rattle.pua_ever.proofs.Common.{Found, Whole, Slot, resolutions_fit, CallTable, execpromises_by, ProcessState, perms_kept, same_place, working_dir}
 use Rattle.pua_ever.proofs.Common.{same_place_is, Asked, World, kept_at}
 use Rattle.pua_ever.proofs.Common.{apply, world_after, named_within_text}
 use Rattle.pua_ever.proofs.Common.{EditsNeedC, VeilsStand}
@@ -57,7 +57,7 @@ module _ (table : CallTable) (needs : EditsNeedC table) where
       keeping h stand = record {
         now = stand;
         more = λ event same at perms is. stand at perms (ap (λ vs. veil_at vs at) (sym same) ∙ is);
-        program = λ may. after_program w.tree h well stand table.execpromises;
+        program = λ may. after_program w.tree h well stand (execpromises_by table.whose);
         veiled = λ path letters c is d. veiled w.tree h well stand d.object d.perms
             ((resolutions_fit w.tree well).whole (working_dir h) Dot path Followed d.object
             (named_within_text w.tree (working_dir h) Dot path Followed d.object d.found)).fits;

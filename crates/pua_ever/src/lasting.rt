@@ -1,6 +1,7 @@
 //! Execs: by what all that a process starts is bounded, and which calls it and they have.
 
 ghost use Rattle.std.specs.Prelude.{◌≡◌, ◌||◌, None, IfOk, MatchOption};
+ghost use Rattle.pua_calls.specs.Calls.{execpromises_by};
 ghost use Rattle.pua_calls.specs.CallSets.{has};
 ghost use Rattle.pua_calls.specs.declared.call.Call.{Call as AnyCall};
 ghost use Rattle.pua_ever.specs.BoundedExec.{IsBoundedExec};
@@ -85,7 +86,7 @@ pub(crate) fn starts_made(
 
 /// Whether execpromises stay after an exec.
 fn keeps_execpromises(table: &CallTable) -> bool
-    ensures { result ≡ stays table.now.execpromises }
+    ensures { result ≡ stays (execpromises_by table.now.whose) }
 {
     match table.execpromises() {
         ExecPromises::Stay => true,

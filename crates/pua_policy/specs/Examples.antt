@@ -4,7 +4,8 @@ use Rattle.pua_tree.specs.Tree.{empty_tree}
 use Rattle.pua_tree.specs.Examples.{example_tree}
 use Rattle.pua_tree.specs.declared.node.Kind.TheVariants as kind
 use Rattle.pua_calls.specs.Promises.{promises_of, perms_of, lacking, reading, writing, rpath, wpath, error, cpath, fattr}
-use Rattle.pua_calls.specs.Calls.{call_count, calls, standard_table, openbsd_table}
+use Rattle.pua_calls.specs.Calls.{call_count, calls, execpromises_by, standard_table, openbsd_table}
+use Rattle.pua_calls.specs.declared.rules.Rules.TheVariants.{Standard, Openbsd}
 use Rattle.pua_calls.specs.CallSets.{calls_in, keeps_link}
 use Rattle.pua_policy.specs.Objects.{object_seen}
 use Rattle.pua_policy.specs.States.{Pledged, Unveiled, Locked, Ended}
@@ -210,11 +211,11 @@ pub record RuleRows : Type 0 where
   pub chmod : verdict_on example_tree openbsd_table (state_of fattr_alone) Chmod (codes "/etc") ≡ Death
   pub standard_chmod : verdict_on example_tree standard_table (state_of fattr_alone) Chmod (codes "/etc") ≡ Allowed
   -- execpromises stay after an exec, for the next one
-  pub exec_promises : pledged_set (after_exec openbsd_table.execpromises both_for_exec) ≡ Some (rpath + cpath)
-  pub exec_stay : held_for_exec (after_exec openbsd_table.execpromises both_for_exec) ≡ Some (rpath + cpath)
-  pub standard_exec_promises : pledged_set (after_exec standard_table.execpromises both_for_exec) ≡ Some (rpath + cpath)
-  pub standard_exec_unset : held_for_exec (after_exec standard_table.execpromises both_for_exec) ≡ None
-  pub none_given : after_exec openbsd_table.execpromises new_history ≡ new_history
+  pub exec_promises : pledged_set (after_exec (execpromises_by Openbsd) both_for_exec) ≡ Some (rpath + cpath)
+  pub exec_stay : held_for_exec (after_exec (execpromises_by Openbsd) both_for_exec) ≡ Some (rpath + cpath)
+  pub standard_exec_promises : pledged_set (after_exec (execpromises_by Standard) both_for_exec) ≡ Some (rpath + cpath)
+  pub standard_exec_unset : held_for_exec (after_exec (execpromises_by Standard) both_for_exec) ≡ None
+  pub none_given : after_exec (execpromises_by Openbsd) new_history ≡ new_history
 
 pub rule_rows : RuleRows
 rule_rows = record {

@@ -229,11 +229,11 @@ pair_has_room pair t h end old_path new_path f has =
     checked_apart _ _ (or_apart _ _ (cover_apart (cover t h old) pair.old.needs.perms) (cover_apart (cover t h new) pair.new.needs.perms))
     (has old new)))
 
-pub rename_has_room : (t : Tree) (old new : Found) (x : Option ℕ) → HasRoom (decide_rename t old new x)
-rename_has_room t old new None = λ e. cc
-rename_has_room t old new (Some x) =
+pub rename_has_room : (t : Tree) (asks : Bool) (old new : Found) (x : Option ℕ) → HasRoom (decide_rename t asks old new x)
+rename_has_room t asks old new None = λ e. cc
+rename_has_room t asks old new (Some x) =
     checked_apart _ _ (or_apart _ _ (dots_apart old) (or_apart _ _ (dots_apart new) (or_apart _ _ (top_apart old) (top_apart new))))
-    (by (is_same_node x (node_named new)))
+    (checked_apart _ _ (if_apart (asks && not (is_whole old)) ENOTDIR (λ e. cc)) (by (is_same_node x (node_named new))))
   where
     by : (same : Bool) → HasRoom
         (cond {A = Decision} same (Ok NoChange) (unless_fault (or_fault (inside_fault t x (spot_named new)) (kinds_fault t x old new))

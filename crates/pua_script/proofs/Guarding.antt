@@ -6,15 +6,15 @@ use Rattle.pua_script.proofs.Common.{working_dir, place_of, cover, cover_fault, 
 use Rattle.pua_script.proofs.Common.{fault_if, is_whole, inside_fault, kinds_fault, Change, NoChange, Decision, if_may, decide_rename}
 use Rattle.pua_script.proofs.Common.{decide_link, asker_of, shifting, OnPath, Symlink, Rename, Link, Unveil, Fork, IsShift, and_parts, sym}
 use Rattle.pua_script.proofs.Common.{subst, is_bytes, Action}
-use Rattle.std.specs.Prelude.{◌||◌}
-use Rattle.pua_path.specs.declared.errno.Errno.TheVariants.{EPERM, EEXIST}
+use Rattle.std.specs.Prelude.{not, ◌&&◌, ◌||◌}
+use Rattle.pua_path.specs.declared.errno.Errno.TheVariants.{EPERM, EEXIST, ENOTDIR}
 use Rattle.pua_path.specs.declared.text.Ending.TheVariants as ending
 use Rattle.pua_path.specs.declared.found.Last.TheVariants.{Followed}
 use Rattle.pua_policy.specs.States.{unveil_fault, pledge_fault}
 use Rattle.pua_policy.specs.Verdict.{found_fault}
 use Rattle.pua_calls.specs.declared.call.Call.TheVariants as call
 use Rattle.pua_policy.specs.declared.answer.May.TheVariants as may
-use Rattle.pua_script.specs.Decide.{link_node, unveil_errno, given_set, is_unknown}
+use Rattle.pua_script.specs.Decide.{asks_directory, link_node, unveil_errno, given_set, is_unknown}
 use Rattle.pua_script.specs.Decide.{unless_fault, if_named, adding, change_by}
 use Rattle.pua_script.specs.Decide.{covers_by, decide_veil, decide_pair, ways_fault, named_by}
 use Rattle.pua_script.specs.declared.request.Action.TheVariants.{Pledge, Lock, Exit, Uses}
@@ -111,11 +111,12 @@ module _ (t : Tree) (h : ProcessState) where
         e,
       )
 
-  renamed : (a b : Found) (x : ℕ) (change : Change) → decide_rename t a b (Some x) ≡ Ok change →
+  renamed : (asks : Bool) (a b : Found) (x : ℕ) (change : Change) → decide_rename t asks a b (Some x) ≡ Ok change →
       (ways_fault a b ≡ None) × ((change ≡ NoChange) ⊎ IsShift t a b x change)
-  renamed a b x change e =
+  renamed asks a b x change e =
       let free = from_checked (ways_fault a b) _ change e in
-      (free.0, by (is_same_node x (node_named b)) refl free.1)
+      let fit = from_checked (fault_if (asks && not (is_whole a)) ENOTDIR) _ change free.1 in
+      (free.0, by (is_same_node x (node_named b)) refl fit.1)
     where
       kinds : Option Errno
       kinds = or_fault (inside_fault t x (spot_named b)) (kinds_fault t x a b)
@@ -160,8 +161,9 @@ decisions_are_guarded table t h (Symlink target path) change e =
     let at = one t h table call.Symlink path (adding (link_node target)) change may.0 text.1 in
     (at.0, at.1, text.0, at.2)
 decisions_are_guarded table t h (Rename old new) change e =
-    let p = pair t h table.rename ending.Dropped old new (decide_rename t) change (λ a b never. cc) e in
-    let r = renamed t h p.0 p.1 p.2 change p.4 in
+    let asks = asks_directory table.whose old new in
+    let p = pair t h table.rename ending.Dropped old new (decide_rename t asks) change (λ a b never. cc) e in
+    let r = renamed t h asks p.0 p.1 p.2 change p.4 in
     record { old = p.0; new = p.1; node = p.2; two = p.3; ways = r.0; moves = r.1 }
 decisions_are_guarded table t h (Link old new) change e =
     let p = pair t h table.link ending.Dot old new decide_link change (λ a b never. cc) e in
@@ -218,7 +220,7 @@ refusals_lack_no_room table t h (OnPath c path) = promised_apart _ _ (object_has
 refusals_lack_no_room table t h (Symlink target path) =
     promised_apart _ _ (checked_apart _ _ (path_apart target) (object_has_room table t h call.Symlink path (adding (link_node target))))
 refusals_lack_no_room table t h (Rename old new) =
-    pair_has_room table.rename t h ending.Dropped old new _ λ a b. rename_has_room t a b (node_named a)
+    pair_has_room table.rename t h ending.Dropped old new _ λ a b. rename_has_room t (asks_directory table.whose old new) a b (node_named a)
 refusals_lack_no_room table t h (Link old new) = pair_has_room table.link t h ending.Dot old new _ λ a b. link_has_room a b (node_named a)
 refusals_lack_no_room table t h (Pledge promises execpromises) =
     checked_apart _ _ (if_apart (is_unknown promises || is_unknown execpromises) EINVAL (λ e. cc))

@@ -1,14 +1,14 @@
 -- What a request decides to change, by the tree and what the one that asks keeps: all checks in their order. Of other
 -- processes, and of the room that a change needs, nothing is known here.
-use Rattle.std.specs.Prelude.{ℕ, Bool, true, false, not, ◌||◌, if◌then◌else◌, List, [], ◌∷◌, Option, Some, None, option_map, Result, Ok}
+use Rattle.std.specs.Prelude.{ℕ, Bool, true, false, not, ◌&&◌, ◌||◌, if◌then◌else◌, List, [], ◌∷◌, Option, Some, None, option_map, Result, Ok}
 use Rattle.std.specs.Prelude.{Err, is_some}
 use Rattle.pua_tree.specs.Tree.{Tree, Node, Spot, is_empty}
 use Rattle.pua_tree.specs.Edits.{is_inside, is_same_node}
-use Rattle.pua_path.specs.Paths.{path_fault}
+use Rattle.pua_path.specs.Paths.{path_fault, ends_in_slash}
 use Rattle.pua_path.specs.Resolution.{resolution_of_text}
 use Rattle.pua_path.specs.Fits.{spot_named, node_named}
 use Rattle.pua_calls.specs.Promises.{proc, unveil}
-use Rattle.pua_calls.specs.Calls.{CallTable, NameRule, PairRule, rule_of, last_of, ending_of, effect_of}
+use Rattle.pua_calls.specs.Calls.{CallTable, NameRule, PairRule, rule_of, last_of, ending_of, effect_of, execpromises_by}
 use Rattle.pua_policy.specs.States.{ProcessState, Event, Pledged, Unveiled, Locked, Moved, Ended, working_dir, may_any, pledge_fault}
 use Rattle.pua_policy.specs.States.{unveil_fault}
 use Rattle.pua_policy.specs.Verdict.{place_of, cover, cover_fault, or_fault, object_of, refusal_of}
@@ -28,6 +28,8 @@ use Rattle.pua_path.specs.declared.found.Found.{Found}
 use Rattle.pua_path.specs.declared.found.Found.TheVariants.{Whole, Slot}
 use Rattle.pua_path.specs.declared.found.Last.{Last}
 use Rattle.pua_calls.specs.declared.rules.ExecPromises.{ExecPromises}
+use Rattle.pua_calls.specs.declared.rules.Rules.{Rules}
+use Rattle.pua_calls.specs.declared.rules.Rules.TheVariants.{Standard, Openbsd}
 use Rattle.pua_policy.specs.declared.place.Place.{Place}
 use Rattle.pua_calls.specs.declared.effect.Effect.{Effect}
 use Rattle.pua_calls.specs.declared.effect.Effect.TheVariants as effect
@@ -158,7 +160,7 @@ making None spot there = NoChange
 abbrev pub change_in : CallTable → Effect → Found → Change
 change_in table effect.Removes object = removing object
 change_in table effect.Enters object = going object
-change_in table effect.Starts object = BeginProgram table.execpromises
+change_in table effect.Starts object = BeginProgram (execpromises_by table.whose)
 change_in table does object = making (made_in does) (spot_named object) (node_named object)
 
 abbrev pub change_by : CallTable → Call → Found → Change
@@ -240,15 +242,21 @@ symlink_by told table t asker target path =
     (unless_failed told.failed (told.target target)
     (object_by told table t asker call.Symlink path (λ object. Ok (adding (link_node target) object))))
 
--- a rename of what both paths named, once both are covered
-abbrev pub rename_by : {E R : Type 0} → Telling E R → Tree → Found → Found → Option ℕ → Outcome R
-rename_by told t old new None = Err (told.failed (told.misfit Old old Missing))
-rename_by told t old new (Some x) =
+-- whether a slash at the end of either text of a rename asks for a directory: by OpenBSD's rules alone
+abbrev pub asks_directory : Rules → List ℕ → List ℕ → Bool
+asks_directory Standard old new = false
+asks_directory Openbsd old new = ends_in_slash old || ends_in_slash new
+
+-- a rename of what both paths named, once both are covered, where a directory is asked for or not
+abbrev pub rename_by : {E R : Type 0} → Telling E R → Tree → Bool → Found → Found → Option ℕ → Outcome R
+rename_by told t asks old new None = Err (told.failed (told.misfit Old old Missing))
+rename_by told t asks old new (Some x) =
     unless_failed told.failed (ways_by told.misfit old new)
+    (unless_failed told.failed (fault_if (asks && not (is_whole old)) (told.misfit Old old IsNoDirectory))
     (if is_same_node x (node_named new) then Ok NoChange
     else unless_failed told.failed (or_fault (inside_by (told.inside old new) t x (spot_named new))
     (kinds_by (told.misfit New new) t old new))
-    (Ok (shifting (spot_named old) (spot_named new))))
+    (Ok (shifting (spot_named old) (spot_named new)))))
 
 -- a further name for what the old path named, once both are covered
 abbrev pub link_by : {E R : Type 0} → Telling E R → Found → Found → Option ℕ → Outcome R
@@ -315,7 +323,7 @@ abbrev pub decide_by : {E R : Type 0} → Telling E R → CallTable → Tree →
 decide_by told table t asker (OnPath call path) = call_by told table t asker call path
 decide_by told table t asker (Symlink target path) = symlink_by told table t asker target path
 decide_by told table t asker (Rename old new) =
-    pair_by told table.rename t asker ending.Dropped old new (λ a b. rename_by told t a b (node_named a))
+    pair_by told table.rename t asker ending.Dropped old new (λ a b. rename_by told t (asks_directory table.whose old new) a b (node_named a))
 decide_by told table t asker (Link old new) = pair_by told table.link t asker ending.Dot old new (λ a b. link_by told a b (node_named a))
 decide_by told table t asker (Pledge promises execpromises) = pledge_by told asker promises execpromises
 decide_by told table t asker (Unveil path perms) = unveil_by told t asker path perms
@@ -396,8 +404,8 @@ decide_call table t asker call path = call_by refusals table t asker call path
 abbrev pub decide_symlink : CallTable → Tree → Requester → List ℕ → List ℕ → Decision
 decide_symlink table t asker target path = symlink_by refusals table t asker target path
 
-abbrev pub decide_rename : Tree → Found → Found → Option ℕ → Decision
-decide_rename t old new node = rename_by refusals t old new node
+abbrev pub decide_rename : Tree → Bool → Found → Found → Option ℕ → Decision
+decide_rename t asks old new node = rename_by refusals t asks old new node
 
 abbrev pub decide_link : Found → Found → Option ℕ → Decision
 decide_link old new node = link_by refusals old new node

@@ -164,6 +164,14 @@ pub record PairRows : Type 0 where
   -- another table changes nothing of the order of further checks
   pub directory_linked : answers_by_openbsd example (codes "1 link /t /u" ∷ codes "1 rename /etc /tmp" ∷ []) ≡ Failed EPERM
       ∷ Failed ENOTEMPTY ∷ []
+  -- but that what is no directory isn't renamed by a path with a slash at its end
+  pub slash_of_rename : answers_by_openbsd ordered_tree (codes "1 rename /f/ /y" ∷ codes "1 rename /f /y/" ∷ codes "1 rename /d/ /y/" ∷ [])
+      ≡ Failed ENOTDIR ∷ Failed ENOTDIR ∷ Okay ∷ []
+  pub standard_slash_of_rename : answers_of ordered_tree (codes "1 rename /f/ /y" ∷ codes "1 rename /y /f/" ∷ []) ≡ Okay ∷ Okay ∷ []
+  pub dots_before_slash : answers_by_openbsd ordered_tree (codes "1 rename /f/ /d/." ∷ codes "1 rename /no/ /y" ∷ []) ≡ Failed EINVAL
+      ∷ Failed ENOENT ∷ []
+  pub slash_before_same : answers_by_openbsd ordered_tree (codes "1 rename /f /f/" ∷ codes "1 rename /f/ /d" ∷ []) ≡ Failed ENOTDIR
+      ∷ Failed ENOTDIR ∷ []
 
 pub pair_rows : PairRows
 pair_rows = record {
@@ -179,6 +187,10 @@ pair_rows = record {
   aliases = refl;
   standard_aliases = refl;
   directory_linked = refl;
+  slash_of_rename = refl;
+  standard_slash_of_rename = refl;
+  dots_before_slash = refl;
+  slash_before_same = refl;
 }
 
 -- a socket, which a listing has as a file, a link to it, and a program

@@ -25,7 +25,7 @@ use crate::judged::{
 use crate::link::{judge_link, naming};
 use crate::pair::{node_named, promised_pair, spot_named};
 use crate::process::{decide_lock, decide_pledge, decide_uses, refuse};
-use crate::rename::{judge_rename, moving};
+use crate::rename::{asks_directory, judge_rename, moving};
 use crate::request::Action;
 use pua_calls::{Call, CallTable, Perms};
 use pua_policy::judge::promised_for;
@@ -200,7 +200,8 @@ fn rename<'p, T: FileTree>(
         Ok(()) => (),
         Err(refusal) => return answer(tree, process, &Err(refusal)),
     }
-    let shift = match judge_rename(tree, process, need, old, new) {
+    let asks = asks_directory(table.rules(), old, new);
+    let shift = match judge_rename(tree, process, need, asks, old, new) {
         Ok(Some(shift)) => shift,
         Ok(None) => return answer(tree, process, &Ok(Granted::NoChange)),
         Err(refusal) => return answer(tree, process, &Err(refusal)),

@@ -33,6 +33,7 @@ pub use laws::{
 };
 pub use limits::{MOST_NUMBER, MOST_PROCESSES, MOST_SCRIPT_LINES};
 pub use line::{read_request, read_request_by};
+pub use rename::asks_directory;
 pub use request::{Action, Given, PathBytes, Request};
 pub use script::{Script, read_script, read_script_by};
 pub use world::World;

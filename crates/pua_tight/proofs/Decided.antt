@@ -26,7 +26,7 @@ use Rattle.pua_policy.specs.declared.answer.May.TheVariants as may
 use Rattle.pua_policy.specs.declared.answer.Refusal.{Refusal}
 use Rattle.pua_policy.specs.declared.answer.UnveilFault.TheVariants.{NotPermitted, TooManyPlaces}
 use Rattle.pua_script.specs.Decide.{Change, AddEvent, Decision, Requester, Side, Sole, Old, New, refusals, asker_of, decide, decide_by, call_by}
-use Rattle.pua_script.specs.Decide.{object_by, symlink_by, pair_by, objects_by, covers_by, rename_by, link_by, veil_by, veiling_by}
+use Rattle.pua_script.specs.Decide.{object_by, symlink_by, pair_by, objects_by, covers_by, rename_by, asks_directory, link_by, veil_by, veiling_by}
 use Rattle.pua_script.specs.Decide.{pledge_by, pledging_by, unless_refused, unless_failed, on_named, change_by, adding, link_node, fault_if}
 use Rattle.pua_script.specs.Decide.{is_unknown, given_set, unveil_errno}
 use Rattle.pua_script.specs.declared.request.Given.{Given}
@@ -140,7 +140,7 @@ module _ (table : CallTable) (t : Tree) (a b : Requester) (easier : Easier a b) 
   pub granted_more : (action : Action) → decide_by refusals table t a action ≡ Ok c → decide_by refusals table t b action ≡ Ok c
   granted_more (OnPath call path) = call_more call path
   granted_more (Symlink target path) = symlink_more target path
-  granted_more (Rename old new) = pair_more table.rename ending.Dropped old new (λ x y. rename_by refusals t x y (node_named x))
+  granted_more (Rename old new) = pair_more table.rename ending.Dropped old new (λ x y. rename_by refusals t (asks_directory table.whose old new) x y (node_named x))
   granted_more (Link old new) = pair_more table.link ending.Dot old new (λ x y. link_by refusals x y (node_named x))
   granted_more (Pledge p e) = past_failed c (fault_if (is_unknown p || is_unknown e) (refusals.unknown_promise (cond (is_unknown p) false true)))
       (fault_if (is_unknown p || is_unknown e) (refusals.unknown_promise (cond (is_unknown p) false true)))

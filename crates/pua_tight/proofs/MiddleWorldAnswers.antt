@@ -24,7 +24,7 @@ use Rattle.pua_policy.specs.declared.answer.Cover.{Cover}
 use Rattle.pua_policy.specs.declared.answer.Refusal.{Refusal}
 use Rattle.pua_policy.specs.declared.answer.UnveilFault.TheVariants.{NotPermitted, TooManyPlaces}
 use Rattle.pua_script.specs.Decide.{NoChange, Change, AddEvent, CopyAs, Decision, refusals, asker_of, decide, object_by}
-use Rattle.pua_script.specs.Decide.{objects_by, rename_by, link_by, veil_by, unless_refused, change_by, adding}
+use Rattle.pua_script.specs.Decide.{objects_by, rename_by, asks_directory, link_by, veil_by, unless_refused, change_by, adding}
 use Rattle.pua_script.specs.Decide.{link_node, fault_if, is_unknown, given_set, unveil_errno}
 use Rattle.pua_script.specs.declared.request.Given.{Given}
 use Rattle.pua_script.specs.declared.request.Action.{Action}
@@ -289,12 +289,12 @@ module _ (table : CallTable) (t : Tree) (l m s : ProcessState) (w : StateThree l
       linked : ProcessState → Decision
       linked z = check (path_fault target) (at z)
   same_agrees (Rename old new) one = two_promises table.rename.old.needs.alternatives table.rename.new.needs.alternatives one.0 one.1
-      (at l) (at m) (at s) (pair_agrees t l m s covered table.rename ending.Dropped old new (λ x y. rename_by refusals t x y (node_named x)))
-      (objects_plain table.rename t s ending.Dropped old new (λ x y. rename_by refusals t x y (node_named x))
-      (λ x y. rename_plain t x y (node_named x)))
+      (at l) (at m) (at s) (pair_agrees t l m s covered table.rename ending.Dropped old new (λ x y. rename_by refusals t (asks_directory table.whose old new) x y (node_named x)))
+      (objects_plain table.rename t s ending.Dropped old new (λ x y. rename_by refusals t (asks_directory table.whose old new) x y (node_named x))
+      (λ x y. rename_plain t (asks_directory table.whose old new) x y (node_named x)))
     where
       at : ProcessState → Decision
-      at z = objects_by refusals table.rename t (asker_of z) ending.Dropped old new (λ x y. rename_by refusals t x y (node_named x))
+      at z = objects_by refusals table.rename t (asker_of z) ending.Dropped old new (λ x y. rename_by refusals t (asks_directory table.whose old new) x y (node_named x))
   same_agrees (Link old new) one = two_promises table.link.old.needs.alternatives table.link.new.needs.alternatives one.0 one.1
       (at l) (at m) (at s) (pair_agrees t l m s covered table.link ending.Dot old new (λ x y. link_by refusals x y (node_named x)))
       (objects_plain table.link t s ending.Dot old new (λ x y. link_by refusals x y (node_named x)) (λ x y. link_plain x y (node_named x)))

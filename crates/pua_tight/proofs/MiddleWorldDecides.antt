@@ -24,7 +24,7 @@ use Rattle.pua_policy.specs.declared.answer.Refusal.{Refusal}
 use Rattle.pua_policy.specs.declared.answer.Refusal.TheVariants.{Failed, Killed}
 use Rattle.pua_policy.specs.declared.answer.UnveilFault.TheVariants.{NotPermitted, TooManyPlaces}
 use Rattle.pua_script.specs.Decide.{NoChange, AddEvent, CopyAs, Decision, refusals, asker_of, decide, object_by}
-use Rattle.pua_script.specs.Decide.{objects_by, rename_by, link_by, veil_by, unless_refused, unless_failed, change_by, adding}
+use Rattle.pua_script.specs.Decide.{objects_by, rename_by, asks_directory, link_by, veil_by, unless_refused, unless_failed, change_by, adding}
 use Rattle.pua_script.specs.Decide.{link_node, fault_if, is_unknown, given_set, unveil_errno}
 use Rattle.pua_script.specs.declared.request.Action.{Action}
 use Rattle.pua_script.specs.declared.request.Action.TheVariants.{OnPath, Symlink, Rename, Link, Pledge, Unveil, Lock, Fork, Exit, Uses}
@@ -181,12 +181,12 @@ module _ (table : CallTable) (t : Tree) (g h k : ProcessState) (v : StateWithin 
       linked : ProcessState → Decision
       linked z = unless_failed refusals.failed (path_fault target) (object_at z)
   between (Rename old new) = promised_two table.rename.old.needs.alternatives table.rename.new.needs.alternatives (at g) (at h) (at k)
-      (pair_agrees t g h k covered table.rename ending.Dropped old new (λ x y. rename_by refusals t x y (node_named x)))
-      (objects_plain table.rename t k ending.Dropped old new (λ x y. rename_by refusals t x y (node_named x))
-      (λ x y. rename_plain t x y (node_named x)))
+      (pair_agrees t g h k covered table.rename ending.Dropped old new (λ x y. rename_by refusals t (asks_directory table.whose old new) x y (node_named x)))
+      (objects_plain table.rename t k ending.Dropped old new (λ x y. rename_by refusals t (asks_directory table.whose old new) x y (node_named x))
+      (λ x y. rename_plain t (asks_directory table.whose old new) x y (node_named x)))
     where
       at : ProcessState → Decision
-      at z = objects_by refusals table.rename t (asker_of z) ending.Dropped old new (λ x y. rename_by refusals t x y (node_named x))
+      at z = objects_by refusals table.rename t (asker_of z) ending.Dropped old new (λ x y. rename_by refusals t (asks_directory table.whose old new) x y (node_named x))
   between (Link old new) = promised_two table.link.old.needs.alternatives table.link.new.needs.alternatives (at g) (at h) (at k)
       (pair_agrees t g h k covered table.link ending.Dot old new (λ x y. link_by refusals x y (node_named x)))
       (objects_plain table.link t k ending.Dot old new (λ x y. link_by refusals x y (node_named x)) (λ x y. link_plain x y (node_named x)))

@@ -24,7 +24,7 @@ use Rattle.pua_script.specs.Limits.{most_processes}
 use Rattle.pua_script.specs.Requests.{Asked}
 use Rattle.pua_script.specs.Family.{is_okay}
 use Rattle.pua_script.specs.Decide.{Change, NoChange, AddNode, CutRow, ShiftRow, TieRow, BeginProgram, AddEvent, CopyAs, Decision, decide}
-use Rattle.pua_script.specs.Decide.{refusals, unless_refused, unless_failed, change_by, adding, link_node, rename_by}
+use Rattle.pua_script.specs.Decide.{refusals, unless_refused, unless_failed, change_by, adding, link_node, rename_by, asks_directory}
 use Rattle.pua_script.specs.Decide.{link_by, fault_if, is_unknown}
 use Rattle.pua_script.specs.Replay.{World, kept_at, Fails, Copies, edit_effect, edited_tree, change_effect, refusal_effect}
 use Rattle.pua_script.specs.Replay.{come_of, answer_to, do_decided, answer_and_world, apply, answers_to, world_after}
@@ -88,8 +88,8 @@ decide_full table t h (Symlink target path) = promise_full (may_any h (rule_of t
     (not_full _ (checked_plain (path_fault target) _ (path_plain target) (object_plain table t h call.Symlink path (adding (link_node target)))))
 decide_full table t h (Rename old new) = promise_full (may_any h table.rename.old.needs.alternatives) _
     (promise_full (may_any h table.rename.new.needs.alternatives) _
-    (not_full _ (objects_plain table.rename t h ending.Dropped old new (λ x y. rename_by refusals t x y (node_named x))
-    (λ x y. rename_plain t x y (node_named x)))))
+    (not_full _ (objects_plain table.rename t h ending.Dropped old new (λ x y. rename_by refusals t (asks_directory table.whose old new) x y (node_named x))
+    (λ x y. rename_plain t (asks_directory table.whose old new) x y (node_named x)))))
 decide_full table t h (Link old new) = promise_full (may_any h table.link.old.needs.alternatives) _
     (promise_full (may_any h table.link.new.needs.alternatives) _
     (not_full _ (objects_plain table.link t h ending.Dot old new (λ x y. link_by refusals x y (node_named x)) (λ x y. link_plain x y (node_named x)))))

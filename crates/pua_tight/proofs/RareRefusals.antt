@@ -226,12 +226,13 @@ objects_plain pair t h end old new f plain = named_plain (resolution_of_text t (
     (or_plain (cover_fault (cover t h x) pair.old.needs.perms) (cover_fault (cover t h y) pair.new.needs.perms)
     (cover_plain (cover t h x) pair.old.needs.perms) (cover_plain (cover t h y) pair.new.needs.perms)) (plain x y)))
 
-pub rename_plain : (t : Tree) (old new : Found) (x : Option ℕ) → rare (rename_by refusals t old new x) ≡ false
-rename_plain t old new None = refl
-rename_plain t old new (Some x) =
+pub rename_plain : (t : Tree) (asks : Bool) (old new : Found) (x : Option ℕ) → rare (rename_by refusals t asks old new x) ≡ false
+rename_plain t asks old new None = refl
+rename_plain t asks old new (Some x) =
     checked_plain (ways_fault old new) _ (or_plain (dots_fault old) _ (dots_plain old) (or_plain (dots_fault new) _ (dots_plain new)
     (or_plain (top_fault old) (top_fault new) (top_plain old) (top_plain new))))
-    (by (is_same_node x (node_named new)))
+    (checked_plain (fault_if (asks && not (is_whole old)) ENOTDIR) _ (if_plain (asks && not (is_whole old)) ENOTDIR refl)
+    (by (is_same_node x (node_named new))))
   where
     by : (same : Bool) → rare
         (cond {A = Decision} same (Ok NoChange) (unless_failed refusals.failed (or_fault (inside_fault t x (spot_named new)) (kinds_fault t x old new))

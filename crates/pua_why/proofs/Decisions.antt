@@ -38,7 +38,7 @@ use Rattle.pua_policy.specs.declared.answer.Verdict.{Verdict}
 use Rattle.pua_policy.specs.declared.answer.Verdict.TheVariants as verdict
 use Rattle.pua_script.specs.Decide.{Decision}
 use Rattle.pua_script.specs.Decide.{tying, dots_by, top_by, ways_by, kinds_by, inside_by, is_whole, given_set, is_unknown}
-use Rattle.pua_script.specs.Decide.{object_by, rename_by, link_by, veil_by, unveil_errno, refusals, asker_of, decide}
+use Rattle.pua_script.specs.Decide.{asks_directory, object_by, rename_by, link_by, veil_by, unveil_errno, refusals, asker_of, decide}
 use Rattle.pua_policy.specs.Misfits.{misfit_errno}
 use Rattle.pua_calls.specs.declared.fits.Misfit.{Misfit}
 use Rattle.pua_calls.specs.declared.fits.Misfit.TheVariants.{IsDirectory, IsNoFile, IsNoDirectory, IsNotEmpty, Exists}
@@ -221,9 +221,12 @@ inside_told : (t : Tree) (x : ℕ) (a b : Found) (spot : Option Spot) →
 inside_told t x a b None = refl
 inside_told t x a b (Some spot) = when_told (is_inside t x spot.0) (Inside a b) EINVAL refl
 
-rename_told : (t : Tree) (a b : Found) (node : Option ℕ) → decision_of (rename_by faults t a b node) ≡ rename_by refusals t a b node
-rename_told t a b None = refl
-rename_told t a b (Some x) = failed_told _ _ _ _ (ways_told a b) (by (is_same_node x (node_named b)))
+rename_told : (t : Tree) (asks : Bool) (a b : Found) (node : Option ℕ) →
+    decision_of (rename_by faults t asks a b node) ≡ rename_by refusals t asks a b node
+rename_told t asks a b None = refl
+rename_told t asks a b (Some x) = failed_told _ _ _ _ (ways_told a b)
+    (failed_told _ _ _ _ (when_told (asks && not (is_whole a)) (Unfit Old a IsNoDirectory) (misfit_errno IsNoDirectory) refl)
+    (by (is_same_node x (node_named b))))
   where
     moves : Decision
     moves = Ok (shifting (spot_named a) (spot_named b))
@@ -294,7 +297,7 @@ reasons_give_decisions table t h (Symlink target path) =
     refused_told _ _ _ _ (promises_told h (rule_of table call.Symlink).alternatives)
     (failed_told _ _ _ _ (target_told target) (call_told t h table call.Symlink path (adding (link_node target))))
 reasons_give_decisions table t h (Rename old new) =
-    pair_told t h table.rename ending.Dropped old new _ _ (λ a b. rename_told t a b (node_named a))
+    pair_told t h table.rename ending.Dropped old new _ _ (λ a b. rename_told t (asks_directory table.whose old new) a b (node_named a))
 reasons_give_decisions table t h (Link old new) = pair_told t h table.link ending.Dot old new _ _ (λ a b. link_told a b (node_named a))
 reasons_give_decisions table t h (Pledge p x) =
     failed_told _ _ _ _ (when_told (is_unknown p || is_unknown x) (UnknownPromise (not (is_unknown p))) EINVAL refl)

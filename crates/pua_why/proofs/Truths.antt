@@ -21,7 +21,7 @@ use Rattle.pua_policy.specs.States.{most_places}
 use Rattle.pua_policy.specs.Verdict.{place_of}
 use Rattle.pua_calls.specs.declared.call.Call.TheVariants as call
 use Rattle.pua_script.specs.Decide.{dots_by, top_by, kinds_by, inside_by, is_whole}
-use Rattle.pua_script.specs.Decide.{given_set, is_unknown, rename_by, link_by, veil_by}
+use Rattle.pua_script.specs.Decide.{asks_directory, given_set, is_unknown, rename_by, link_by, veil_by}
 use Rattle.pua_calls.specs.declared.fits.Misfit.TheVariants.{Missing, Exists, IsDirectory, IsNoFile, IsNoDirectory, IsNotEmpty, ByDot}
 use Rattle.pua_calls.specs.declared.fits.Misfit.TheVariants.{ByDotDot, ByNothing}
 use Rattle.pua_script.specs.Replay.{Fails, effect}
@@ -38,6 +38,7 @@ use Rattle.pua_script.proofs.ForCallers.{requests_lack}
 use Rattle.pua_why.proofs.Decisions.{reasons_give_decisions}
 use Rattle.pua_why.proofs.Faults.{object_true, call_faults_hold}
 use Rattle.std.proofs.lemmas.Bool.{not-true}
+use Rattle.std.proofs.Common.{◌&&◌, false≢true}
 
 -- a symlink: a fault of a call on its path, or of its target
 by_target : (table : CallTable) (t : Tree) (h : ProcessState) (target path : List ℕ) (fault : Fault) →
@@ -124,16 +125,23 @@ module _ (pair : PairRule) (t : Tree) (h : ProcessState) (end : Ending) (a b : L
         record { node = x; spot = spot; is_node = is_x; is_spot = is_spot; inside = v },
       )) e
 
-  rename_true : (old new : Found) (node : Option ℕ) (fault : Fault) → node_named old ≡ node → Led Old old → Led New new →
-      rename_by faults t old new node ≡ Err fault → Pair fault
-  rename_true old new None fault is o n e = subst Pair (same_fault (Unfit Old old Missing) fault e) (o, is)
-  rename_true old new (Some x) fault is o n e =
+  rename_true : (asks : Bool) (old new : Found) (node : Option ℕ) (fault : Fault) → node_named old ≡ node → Led Old old → Led New new →
+      rename_by faults t asks old new node ≡ Err fault → Pair fault
+  rename_true asks old new None fault is o n e = subst Pair (same_fault (Unfit Old old Missing) fault e) (o, is)
+  rename_true asks old new (Some x) fault is o n e =
       failed_true _ _ fault Pair
       (λ bad e. either_true _ _ bad Pair (dots_true Old old bad o)
       (λ e. either_true _ _ bad Pair (dots_true New new bad n)
       (λ e. either_true _ _ bad Pair (top_true Old old bad o) (top_true New new bad n) e) e) e)
-      (λ e. by (is_same_node x (node_named new)) e) e
+      (λ e. failed_true _ _ fault Pair
+      (λ bad e. when_true (asks && not (is_whole old)) (Unfit Old old IsNoDirectory) bad Pair
+      (λ v. (o, (not-true (is_whole old) (asked asks (is_whole old) v), ap is_some is))) e)
+      (λ e. by (is_same_node x (node_named new)) e) e) e
     where
+      asked : (a b : Bool) → (a && not b) ≡ true → not b ≡ true
+      asked true b v = v
+      asked false b v = absurd (false≢true v)
+
       by : (v : Bool) →
           (if v then Ok NoChange else unless_failed (λ fault. fault) (or_fault (inside_by (Inside old new) t x (spot_named new))
           (kinds_by (λ wrong. Unfit New new wrong) t old new)) (Ok (shifting (spot_named old) (spot_named new)))) ≡ Err fault →
@@ -260,8 +268,8 @@ pub check_faults_hold : CheckFaultsHold
 check_faults_hold table t h (OnPath c path) fault e = call_faults_hold t table h c path fault e
 check_faults_hold table t h (Symlink target path) fault e = symlink_true table t h target path fault e
 check_faults_hold table t h (Rename old new) fault e =
-    pair_true table.rename t h ending.Dropped old new _ fault (λ a b o n e. rename_true table.rename t h ending.Dropped old new a b
-    (node_named a) fault refl o n e) e
+    pair_true table.rename t h ending.Dropped old new _ fault (λ a b o n e. rename_true table.rename t h ending.Dropped old new
+    (asks_directory table.whose old new) a b (node_named a) fault refl o n e) e
 check_faults_hold table t h (Link old new) fault e =
     pair_true table.link t h ending.Dot old new _ fault (λ a b o n e. link_true table.link t h ending.Dot old new a b (node_named a) fault
     refl o n e) e

@@ -141,6 +141,8 @@ pub record WhyRows : Type 0 where
       codes "needs unveil" ∷ codes "names file /etc/passwd" ∷ codes "ok" ∷ []
   pub by_kernel : why_by Openbsd ordered_tree (codes "1 pledge stdio,cpath -" ∷ codes "1 rename /f /g" ∷ []) ≡
       codes "1 ok" ∷ codes "2 killed no rpath since line 1" ∷ []
+  pub kernel_slash : why_by Openbsd ordered_tree (codes "1 rename /f/ /y" ∷ codes "1 rename /d/f /y/" ∷ []) ≡
+      codes "1 ENOTDIR old: /f is no directory" ∷ codes "2 ENOTDIR old: /d/f is no directory" ∷ []
   pub by_kernel_new : why_by Openbsd ordered_tree (codes "1 pledge stdio,rpath -" ∷ codes "1 link /f /g" ∷ []) ≡
       codes "1 ok" ∷ codes "2 killed no cpath since line 1" ∷ []
   pub kernel_pair : chain_by Openbsd ordered_tree [] (codes "1 rename /d/f /d/h") ≡
@@ -254,6 +256,7 @@ why_rows = record {
   lacking_veil = refl;
   another_veil = refl;
   by_kernel = refl;
+  kernel_slash = refl;
   by_kernel_new = refl;
   kernel_pair = refl;
   kernel_link = refl;

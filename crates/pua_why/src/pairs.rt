@@ -6,9 +6,9 @@ ghost use Rattle.pua_tree.specs.Tree.{is_dir};
 ghost use Rattle.pua_path.specs.Fits.{FoundFits, StandsAsNamed, node_named, spot_named};
 ghost use Rattle.pua_path.specs.declared.found.Found as founds;
 ghost use Rattle.pua_path.specs.declared.text.Ending.TheVariants as endings;
-ghost use Rattle.pua_script.specs.Decide.{New, Outcome, covers_by, dots_by, inside_by, is_whole};
-ghost use Rattle.pua_script.specs.Decide.{kinds_by, link_by, objects_by, pair_by, rename_by};
-ghost use Rattle.pua_script.specs.Decide.{top_by, ways_by};
+ghost use Rattle.pua_script.specs.Decide.{New, Outcome, asks_directory, covers_by, dots_by};
+ghost use Rattle.pua_script.specs.Decide.{inside_by, is_whole, kinds_by, link_by, objects_by};
+ghost use Rattle.pua_script.specs.Decide.{pair_by, rename_by, top_by, ways_by};
 ghost use Rattle.pua_why.specs.Checked.{refused_by};
 ghost use Rattle.pua_why.specs.Reasons.{Fault as Meant, faults, faults_of};
 ghost use Rattle.pua_why.specs.Seen.{fault_seen, on_found, side_seen};
@@ -18,6 +18,7 @@ use crate::told::{Fault, Side};
 use pua_calls::{CallTable, PairNeed};
 use pua_path::{Counted, Ending, Found, Links, Probe, Way};
 use pua_policy::{Misfit, Process};
+use pua_script::asks_directory;
 use pua_tree::{FileTree, Kind, NodeId};
 
 /// What an old path and a new one name.
@@ -39,8 +40,10 @@ pub(crate) fn rename_fault<'s, T: FileTree>(
     ensures { option_map fault_seen result
         ≡ refused_by (pair_by faults table.now.rename (T.content tree.now) (faults_of process.now)
         endings.Dropped old.now new.now
-        (λ a b. rename_by faults (T.content tree.now) a b (node_named a))) }
+        (λ a b. rename_by faults (T.content tree.now)
+        (asks_directory table.now.whose old.now new.now) a b (node_named a))) }
 {
+    let asks = asks_directory(table.rules(), old, new);
     match judged(
         tree,
         table.rename(),
@@ -50,7 +53,7 @@ pub(crate) fn rename_fault<'s, T: FileTree>(
         new,
         links,
     ) {
-        Ok(pair) => shift_fault(tree, &pair),
+        Ok(pair) => shift_fault(tree, asks, &pair),
         Err(fault) => Some(fault),
     }
 }
@@ -152,9 +155,13 @@ fn covers_fault<'s, 't, P: Probe<'t>>(
 }
 
 /// What is wrong with a rename of what was named.
-fn shift_fault<'s, T: FileTree>(tree: &T, pair: &Pair) -> Option<Fault<'s>>
+fn shift_fault<'s, T: FileTree>(
+    tree: &T,
+    asks: bool,
+    pair: &Pair,
+) -> Option<Fault<'s>>
     ensures { StandsAsNamed (T.content tree.now) pair.now.new → option_map fault_seen result
-        ≡ refused_by (rename_by faults (T.content tree.now) pair.now.old pair.now.new
+        ≡ refused_by (rename_by faults (T.content tree.now) asks pair.now.old pair.now.new
         (node_named pair.now.old)) }
 {
     let Some(node) = node_named(&pair.old) else {
@@ -163,6 +170,9 @@ fn shift_fault<'s, T: FileTree>(tree: &T, pair: &Pair) -> Option<Fault<'s>>
     let fault = ways_fault(pair);
     if fault.is_some() {
         return fault;
+    }
+    if asks && !is_whole(&pair.old) {
+        return Some(Fault::Unfit(Side::Old, pair.old, Misfit::IsNoDirectory));
     }
     if is_node(node, &pair.new) {
         return None;
