@@ -1,4 +1,4 @@
-//! What decides one request behind a script.
+//! What decides one request after a script.
 
 ghost use Rattle.std.specs.Prelude.{◌≡◌, ◌++◌, ◌∷◌, [], List, IfOk, OnOk, flat_map, map};
 ghost use Rattle.std.specs.Prelude.{option_map, string_bytes};
@@ -22,7 +22,7 @@ use pua_tree::{FileTree, OutOfMemory};
 use pua_why::{Fact, TreePaths, facts, push_fact};
 use std::alloc::{AllocError, Global};
 
-/// What decides a request behind a script: a line for the promises that let it through, for each
+/// What decides a request after a script: a line for the promises that let it through, for each
 /// link that its paths follow, for what they name and for the veil that covers that, in the order
 /// of the checks and as far as it passes them; and as the last line its answer, with the reason,
 /// since which line that is so, and what opens the path all the same, as

@@ -90,7 +90,7 @@ pub fn dated_text<T: FileTree>(
     Ok((text, lines_at(alloc, &watches, own.as_slice())?))
 }
 
-/// Adds a question for each of these veils, whose answers are wanted behind so many lines, and
+/// Adds a question for each of these veils, whose answers are wanted after so many lines, and
 /// answers their places.
 fn watch_veils<'a, T: FileTree>(
     alloc: Global,

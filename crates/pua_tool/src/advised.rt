@@ -138,7 +138,7 @@ fn tell<E: Sink>(fault: ToolFault, advice: Option<Advice<'_>>, err: &mut E) -> u
     fault.status()
 }
 
-/// Writes the line of a fault, and that of what there is to say behind it.
+/// Writes the line of a fault, and that of what there is to say after it.
 fn put_told<E: Sink>(
     fault: ToolFault,
     advice: Option<Advice<'_>>,
@@ -165,7 +165,7 @@ fn put_advice<E: Sink>(advice: Option<Advice<'_>>, err: &mut E) -> Result<(), Pu
         &[
             Piece::Text("pua: "),
             Piece::Text(before),
-            Piece::About(advice.subject()),
+            Piece::About(advice.wrong_part()),
             Piece::Text(behind),
         ],
     )

@@ -155,11 +155,7 @@ fn covers_fault<'s, 't, P: Probe<'t>>(
 }
 
 /// What is wrong with a rename of what was named.
-fn shift_fault<'s, T: FileTree>(
-    tree: &T,
-    asks: bool,
-    pair: &Pair,
-) -> Option<Fault<'s>>
+fn shift_fault<'s, T: FileTree>(tree: &T, asks: bool, pair: &Pair) -> Option<Fault<'s>>
     ensures { StandsAsNamed (T.content tree.now) pair.now.new → option_map fault_seen result
         ≡ refused_by (rename_by faults (T.content tree.now) asks pair.now.old pair.now.new
         (node_named pair.now.old)) }
