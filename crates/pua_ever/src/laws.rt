@@ -2,7 +2,8 @@
 
 ghost use Rattle.pua_ever.specs.Examples.{EverRows, MovedRows, StartedRows};
 ghost use Rattle.pua_ever.specs.JointlyExamples.{JointlyRows};
-ghost use Rattle.pua_ever.specs.Jointly.{JointlyAfterRead, JointlyComplete, JointlyGrows, JointlyLasts, JointlyThrough, JointlyWithin};
+ghost use Rattle.pua_ever.specs.Jointly.{JointListsGrow, JointlyAfterRead, JointlyComplete};
+ghost use Rattle.pua_ever.specs.Jointly.{JointlyGrows, JointlyLasts, JointlyThrough, JointlyWithin};
 ghost use Rattle.pua_ever.specs.Laws.{EverAfterRead, EverAsRead, EverBeside, EverComplete, EverOfMany};
 ghost use Rattle.pua_ever.specs.Laws.{EverWithExecs};
 ghost use Rattle.pua_ever.specs.Laws.{NowWithinEver};
@@ -117,6 +118,7 @@ pub fn jointly_law()
     ensures read { JointlyAfterRead }
     ensures lasts { JointlyLasts }
     ensures grows { JointlyGrows }
+    ensures lists { JointListsGrow }
 {}
 
 /// Examples of what processes with veils of their own can ever touch together.
