@@ -19,6 +19,10 @@ pub mod Jointly
 pub mod JointlyDone
 pub mod JointlyLasts
 pub mod JointlyClosed
+pub mod Unnamed
+pub mod JointFound
+pub mod JointWatched
+pub mod Once
 pub mod JointlyGrows
 pub mod JointlyRows
 pub mod Now
