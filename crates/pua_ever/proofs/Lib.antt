@@ -21,7 +21,10 @@ pub mod JointlyLasts
 pub mod JointlyClosed
 pub mod Unnamed
 pub mod JointFound
+pub mod JointTabled
+pub mod JointPlaced
 pub mod JointWatched
+pub mod JointRows
 pub mod Once
 pub mod JointlyGrows
 pub mod JointlyRows

@@ -1,6 +1,7 @@
 //! Laws and worked examples, each the contract of a function that does nothing.
 
 ghost use Rattle.pua_ever.specs.Examples.{EverRows, MovedRows, StartedRows};
+ghost use Rattle.pua_ever.specs.JointTable.{TableLaw};
 ghost use Rattle.pua_ever.specs.JointlyExamples.{JointlyRows};
 ghost use Rattle.pua_ever.specs.Jointly.{JointListsGrow, JointlyAfterRead, JointlyComplete};
 ghost use Rattle.pua_ever.specs.Jointly.{JointlyGrows, JointlyLasts, JointlyThrough, JointlyWithin};
@@ -125,4 +126,10 @@ pub fn jointly_law()
 #[tactic(auto, using(crate::proofs::JointlyRows::jointly_rows))]
 pub fn jointly_examples()
     ensures { JointlyRows }
+{}
+
+/// The table of a crew: once nothing more follows from what is in it, it has all that the crew can
+/// come to do, and nothing else.
+pub fn crew_table_law()
+    ensures { TableLaw }
 {}
