@@ -26,6 +26,8 @@ pub mod JointPlaced
 pub mod JointWatched
 pub mod JointRows
 pub mod Once
+pub mod JointPlaces
+pub mod JointRead
 pub mod JointlyGrows
 pub mod JointlyRows
 pub mod Now
