@@ -1,4 +1,5 @@
 pub mod Common
+pub mod Gaining
 pub mod Covers
 pub mod Grown
 pub mod Growing
