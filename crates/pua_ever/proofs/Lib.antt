@@ -29,6 +29,8 @@ pub mod JointRows
 pub mod Once
 pub mod JointPlaces
 pub mod JointRead
+pub mod CoverBits
+pub mod JointDoing
 pub mod JointlyGrows
 pub mod JointlyRows
 pub mod Now
