@@ -29,6 +29,7 @@ pub mod JointRows
 pub mod Once
 pub mod JointPlaces
 pub mod JointRead
+pub mod JointWords
 pub mod CoverBits
 pub mod JointDoing
 pub mod JointlyGrows
