@@ -30,7 +30,9 @@ pub mod Once
 pub mod JointPlaces
 pub mod JointRead
 pub mod JointWords
+pub mod JointOlds
 pub mod CoverBits
+pub mod JointNames
 pub mod JointDoing
 pub mod JointlyGrows
 pub mod JointlyRows
