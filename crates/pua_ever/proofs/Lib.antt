@@ -33,6 +33,8 @@ pub mod JointWords
 pub mod JointOlds
 pub mod CoverBits
 pub mod JointNames
+pub mod JointFlags
+pub mod JointSteps
 pub mod JointDoing
 pub mod JointlyGrows
 pub mod JointlyRows
