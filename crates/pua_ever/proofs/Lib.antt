@@ -34,6 +34,7 @@ pub mod JointOlds
 pub mod CoverBits
 pub mod JointNames
 pub mod JointFlags
+pub mod JointRounds
 pub mod JointSteps
 pub mod JointDoing
 pub mod JointlyGrows
