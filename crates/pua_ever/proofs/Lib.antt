@@ -36,6 +36,7 @@ pub mod JointNames
 pub mod JointFlags
 pub mod JointRounds
 pub mod JointSteps
+pub mod JointMembers
 pub mod JointDoing
 pub mod JointlyGrows
 pub mod JointlyRows
