@@ -35,8 +35,11 @@ pub mod CoverBits
 pub mod JointNames
 pub mod JointFlags
 pub mod JointRounds
+pub mod JointSorted
 pub mod JointSteps
 pub mod JointMembers
+pub mod JointWorked
+pub mod JointGathered
 pub mod JointDoing
 pub mod JointlyGrows
 pub mod JointlyRows
