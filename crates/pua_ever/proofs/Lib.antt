@@ -41,6 +41,7 @@ pub mod JointMembers
 pub mod JointWorked
 pub mod JointGathered
 pub mod JointDoing
+pub mod JointShown
 pub mod JointlyGrows
 pub mod JointlyRows
 pub mod Now
