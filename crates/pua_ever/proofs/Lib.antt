@@ -42,6 +42,7 @@ pub mod JointWorked
 pub mod JointGathered
 pub mod JointDoing
 pub mod JointShown
+pub mod JointAllowed
 pub mod JointlyGrows
 pub mod JointlyRows
 pub mod Now
@@ -70,4 +71,5 @@ pub mod Together
 pub mod Chosen
 pub mod ForCallers
 pub mod RowsTell
+pub mod JointTold
 pub mod RowsLast
