@@ -72,4 +72,5 @@ pub mod Chosen
 pub mod ForCallers
 pub mod RowsTell
 pub mod JointTold
+pub mod JointLines
 pub mod RowsLast
