@@ -24,6 +24,7 @@ pub mod Unnamed
 pub mod JointFound
 pub mod JointTabled
 pub mod JointPlaced
+pub mod JointTurning
 pub mod JointWatched
 pub mod JointRows
 pub mod Once
