@@ -19,7 +19,7 @@ use Rattle.pua_ever.proofs.Growing.{takes, requests_grow}
 use Rattle.pua_ever.proofs.KindFaults.{plain_alike}
 use Rattle.pua_ever.proofs.Origins.{Stays}
 use Rattle.pua_ever.proofs.Unedited.{yes_before}
-use Rattle.pua_ever.proofs.Stepping.{stays_then}
+use Rattle.pua_ever.proofs.RequestKeepsRows.{stays_then}
 
 -- what has grown by a tightened process has grown by the one that it tightens
 module _ (table : CallTable) (sound : NoCallNeedsError table) (now a : ProcessState) (within : IsWithin now a) (t : Tree) (well : WellFormed t)

@@ -4,8 +4,8 @@
 pub use Rattle.pua_ever.proofs.KeptVeils.{among_kept_at}
 -- a list for ever of one process where others leave the tree, behind what is read, and where nothing refuses it
 pub use Rattle.pua_ever.proofs.Complete.{beside_one}
-pub use Rattle.pua_ever.proofs.Standing.{ever_after_read}
-pub use Rattle.pua_ever.proofs.Placed.{placed_after_read}
+pub use Rattle.pua_ever.proofs.VeilPlacesGiven.{ever_after_read}
+pub use Rattle.pua_ever.proofs.VeilsStandAtNames.{placed_after_read}
 pub use Rattle.pua_ever.proofs.Lasts.{ever_lasts_after_read, none_starts_after_read}
 pub use Rattle.pua_ever.proofs.Refused.{unrefused_table, unrefused_process}
 -- whether some line has exec, by the rows, and that none starts anything where none has

@@ -25,7 +25,7 @@ use Rattle.pua_script.proofs.ForCallers.{still_ended}
 use Rattle.pua_script.specs.Laws.{IsConfined}
 use Rattle.pua_ever.specs.Through.{AreWithin, HandsDown, HoldsOne, IsAlong, GoesAlong, FamiliesGoAlong, is_promised_by, is_bounded}
 use Rattle.pua_ever.specs.Through.{stays, is_confined_through, bound_of, GoAlong}
-use Rattle.pua_ever.proofs.Keeping.{Keeps, Are, alone_are, own_kept, then_kept, after_kept}
+use Rattle.pua_ever.proofs.KindsKept.{Keeps, Are, alone_are, own_kept, then_kept, after_kept}
 
 -- who has the veils of one that has those of a third has these
 alike : {a b c : ProcessState} → a.veils ≡ b.veils → SameVeils b c → SameVeils a c

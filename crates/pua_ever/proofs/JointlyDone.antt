@@ -52,7 +52,7 @@ use Rattle.pua_ever.proofs.Untaken.{RowsStay, untaken, still_untaking}
 use Rattle.pua_ever.proofs.Ending.{named_link, one_new, parts_of, Parts}
 use Rattle.pua_ever.proofs.Complete.{all_within, yes_is}
 use Rattle.pua_ever.proofs.Holding.{lacks_unveil, along_then}
-use Rattle.pua_ever.proofs.Standing.{new_places, replays_keep_places}
+use Rattle.pua_ever.proofs.VeilPlacesGiven.{new_places, replays_keep_places}
 use Rattle.pua_ever.specs.Through.{is_bounded, AreWithin, GoesAlong, GoAlong}
 use Rattle.std.specs.Prelude.{flat_map}
 use Rattle.pua_policy.specs.States.{held_set}

@@ -26,7 +26,7 @@ use Rattle.pua_ever.specs.Laws.{EditsNeedC, MembersEdit, IsWithinEver, IsWithinL
 use Rattle.pua_ever.specs.Through.{is_promised_by, is_promised_by_one, can_come, let_through, ever_through, has_exec, ever_lasting, is_bounded}
 use Rattle.pua_ever.specs.Through.{is_confined_through, EverLastsAfterRead, NowWithinLasting}
 use Rattle.pua_ever.proofs.Now.{now_within_ever}
-use Rattle.pua_ever.proofs.Standing.{replays_keep_places, new_places}
+use Rattle.pua_ever.proofs.VeilPlacesGiven.{replays_keep_places, new_places}
 use Rattle.pua_ever.proofs.Holding.{goes, along_now, may_holds}
 use Rattle.pua_ever.proofs.Through.{within_both, ever_lasts, no_line}
 use Rattle.pua_ever.proofs.NoExec.{without_exec_beside}

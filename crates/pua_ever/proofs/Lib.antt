@@ -6,7 +6,7 @@ pub mod Growing
 pub mod Ways
 pub mod Quiet
 pub mod Origins
-pub mod Stepping
+pub mod RequestKeepsRows
 pub mod Execs
 pub mod Along
 pub mod Unedited
@@ -50,8 +50,8 @@ pub mod Now
 pub mod NoExec
 pub mod Calling
 pub mod Leaving
-pub mod Standing
-pub mod Placed
+pub mod VeilPlacesGiven
+pub mod VeilsStandAtNames
 pub mod Rules
 pub mod KeptVeils
 pub mod Origin
@@ -63,7 +63,7 @@ pub mod Refused
 pub mod Lined
 pub mod Prospected
 pub mod Named
-pub mod Keeping
+pub mod KindsKept
 pub mod Holding
 pub mod Through
 pub mod Narrowed

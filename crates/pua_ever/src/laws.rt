@@ -22,7 +22,7 @@ ghost use Rattle.pua_ever.specs.TogetherExamples.{TogetherRows};
 /// Whatever a process that can put no veil any more and what it forks ask for, as long as nobody
 /// else changes the tree and no exec of theirs succeeds: if a call of one of them is then allowed
 /// on what a path names, the line of that thing in the list of the beginning has the call. So it is
-/// of several processes with the same veils, of execs that let them do no more, and behind a
+/// of several processes with the same veils, of execs that let them do no more, and after a
 /// listing and a script as a command reads them. Where no line has an exec, none can succeed; and a
 /// file that is made, or that a call of its line can make a program, has exec in its line wherever
 /// it could be started, were it one.
@@ -46,7 +46,7 @@ pub fn now_law()
 
 /// Each veil stands on a number that was given, in a new world and in each that a replay leaves;
 /// and the standard rules and those of OpenBSD are tables that the laws speak of.
-#[tactic(auto, using(crate::proofs::Standing::new_places, crate::proofs::Standing::replays_keep_places, crate::proofs::Rules::rules_edit_by_c))]
+#[tactic(auto, using(crate::proofs::VeilPlacesGiven::new_places, crate::proofs::VeilPlacesGiven::replays_keep_places, crate::proofs::Rules::rules_edit_by_c))]
 pub fn premises_law()
     ensures new { NewPlacesStand }
     ensures places { ReplaysKeepPlaces }
@@ -74,7 +74,7 @@ pub fn program_examples()
 /// The same through execs, where all that is started is bounded by the execpromises: each of the
 /// family holds what the process held, or what it handed down, under the same veils, and each call
 /// that is then allowed to one of them has its line in the list of the beginning. So it is of
-/// several processes that act together, of files that are made programs, and behind a listing and a
+/// several processes that act together, of files that are made programs, and after a listing and a
 /// script as a command reads them. The list of the objects of now lies within it.
 pub fn through_law()
     ensures along { FamiliesGoAlong }
@@ -96,7 +96,7 @@ pub fn through_examples()
 /// Several processes with the same veils, in whichever order, that can put no more: whatever they
 /// and what they fork ask for, as long as nobody else changes the tree and no exec of theirs
 /// succeeds, each call that is then allowed to one of them has its line in the list of the one that
-/// stands for all of them. So it is through execs, where all that they start is bounded, and behind
+/// stands for all of them. So it is through execs, where all that they start is bounded, and after
 /// a listing and a script as a command reads them.
 pub fn together_law()
     ensures together { EverTogether }
@@ -112,7 +112,7 @@ pub fn together_examples()
 
 /// Several processes with veils and promises of their own, and what they fork: whatever they ask
 /// for, all of them together, each call that is then allowed to one of them has its line in the
-/// joint list of that one. So it is through execs, where all that they start is bounded, and behind
+/// joint list of that one. So it is through execs, where all that they start is bounded, and after
 /// a listing and a script. Who has more help has no less in its list. A file on which exec would be
 /// allowed to one of them, were it a program, has exec in its list, if a call of any of them could
 /// make it one.

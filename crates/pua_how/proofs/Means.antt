@@ -23,7 +23,7 @@ use Rattle.pua_how.specs.Laws.{LinesMeanTheirOwn}
 use Rattle.pua_how.specs.Targets.{target_about}
 use Rattle.pua_how.specs.declared.target.Target.{Target}
 use Rattle.pua_how.specs.declared.target.Target.TheVariants as target
-use Rattle.pua_how.proofs.Placed.{IsDirBy, IsPlaced, lasting_placed, spot_by, spot_in}
+use Rattle.pua_how.proofs.NamesLeadToThing.{IsDirBy, IsPlaced, lasting_placed, spot_by, spot_in}
 
 -- ---- kinds
 

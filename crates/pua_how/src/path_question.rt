@@ -32,7 +32,7 @@ pub enum PathQuestion {
 
 impl PathQuestion {
     /// What a path asks about, as a list for ever prints it: `/`, or names as they are spelled,
-    /// each behind one slash; or `new`. None where it is neither. The only error is that a growth
+    /// each after one slash; or `new`. None where it is neither. The only error is that a growth
     /// was refused.
     pub fn read(alloc: Global, path: &[u8]) -> Result<Option<PathQuestion>, OutOfMemory>
         ensures { IfOk result (λ read. option_map asking_given read ≡ path_question path.now) }

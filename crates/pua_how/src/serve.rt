@@ -59,7 +59,7 @@ pub fn serve_way<T: FileTree>(
     }
 }
 
-/// Serves the last step, behind those that were served.
+/// Serves the last step, after those that were served.
 fn serve_last<T: FileTree>(
     alloc: Global,
     rules: Rules,

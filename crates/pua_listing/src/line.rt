@@ -83,7 +83,7 @@ fn word(made: Option<MadeNode<'_>>) -> &'static str
     }
 }
 
-/// Adds what a line has behind the name: the target of a link, and the number of the node where the
+/// Adds what a line has after the name: the target of a link, and the number of the node where the
 /// line makes none.
 fn add_last(text: &mut Vec<u8>, node: usize, made: Option<MadeNode<'_>>) -> Result<(), OutOfMemory>
     ensures last { OnOk result (text.new.items

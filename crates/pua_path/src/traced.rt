@@ -58,9 +58,9 @@ impl Links {
 /// Where a path leads no further: at which name of which directory.
 #[derive(Clone, Copy)]
 pub enum Stop {
-    /// Nothing has the name, and a part is left behind it.
+    /// Nothing has the name, and a part is left after it.
     NoEntry(Spot),
-    /// What has the name is no directory, and a part is left behind it.
+    /// What has the name is no directory, and a part is left after it.
     NoDirectory(Spot),
     /// A link has the name, and 32 were followed before it.
     LinkBeyond(Spot),

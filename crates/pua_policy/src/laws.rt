@@ -59,7 +59,7 @@ pub fn promise_laws()
 
 /// What a process keeps is what its history left, event by event and after an exec; and what a
 /// history lets a process do is said of what it left.
-#[tactic(auto, using(crate::proofs::Standing::states_are_left))]
+#[tactic(auto, using(crate::proofs::StatesLeft::states_are_left))]
 pub fn standing_law()
     ensures { StatesAreLeft }
 {}

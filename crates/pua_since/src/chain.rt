@@ -1,4 +1,4 @@
-//! What decides one request behind a script.
+//! What decides one request after a script.
 
 ghost use Rattle.std.specs.Prelude.{◌≡◌, ◌++◌, ◌∷◌, [], List, IfOk, OnOk, flat_map, map};
 ghost use Rattle.std.specs.Prelude.{option_map, string_bytes};
@@ -22,7 +22,7 @@ use pua_tree::{FileTree, OutOfMemory};
 use pua_why::{Fact, TreePaths, facts, push_fact};
 use std::alloc::{AllocError, Global};
 
-/// What decides a request behind a script: a line for the promises that let it through, for each
+/// What decides a request after a script: a line for the promises that let it through, for each
 /// link that its paths follow, for what they name and for the veil that covers that, in the order
 /// of the checks and as far as it passes them; and as the last line its answer, with the reason,
 /// since which line that is so, and what opens the path all the same, as
@@ -62,7 +62,7 @@ struct Dates {
     facts: Vec<Option<usize>>,
 }
 
-/// Since which lines the facts of a request and its reason are so behind these requests, which are
+/// Since which lines the facts of a request and its reason are so after these requests, which are
 /// served in this world.
 fn dates_of<T: FileTree>(
     alloc: Global,
@@ -91,7 +91,7 @@ fn dates_of<T: FileTree>(
     })
 }
 
-/// Adds a question for each fact of a process that tells a veil, whose answers are wanted behind so
+/// Adds a question for each fact of a process that tells a veil, whose answers are wanted after so
 /// many lines, and answers its place for each of these facts.
 fn watch_facts<'a, T: FileTree>(
     alloc: Global,
@@ -117,7 +117,7 @@ fn watch_facts<'a, T: FileTree>(
     Ok(veils)
 }
 
-/// Adds a question for a fact of a process, if it tells a veil, whose answer is wanted behind so
+/// Adds a question for a fact of a process, if it tells a veil, whose answer is wanted after so
 /// many lines, and answers its place.
 fn watch_fact<'a, T: FileTree>(
     alloc: Global,

@@ -1,7 +1,7 @@
 //! Since which line of a script something is so, and the texts that tell it: the lines of a run
 //! with their reasons, and the chain of what decides one request.
 //!
-//! A script is served once more, and each question is asked again behind each line that may have
+//! A script is served once more, and each question is asked again after each line that may have
 //! changed what it is told.
 #![tactic(auto)]
 

@@ -61,7 +61,7 @@ pub(crate) fn watch_lines<'a, T: FileTree>(
     Ok(places)
 }
 
-/// The place of the question of a line behind so many others: of an earlier one with the same
+/// The place of the question of a line after so many others: of an earlier one with the same
 /// bytes, or its own.
 fn place_of<'a, 'l, T: FileTree>(
     alloc: Global,

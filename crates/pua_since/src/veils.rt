@@ -56,7 +56,7 @@ fn add_veils<'w>(
 }
 
 /// What [`reason_text`](crate::reason_text) tells, and since which line each of these veils, with
-/// the number of its process, has the letters that it has behind the script, or has none there:
+/// the number of its process, has the letters that it has after the script, or has none there:
 /// None where that was so from the start. The only error is that a growth was refused.
 pub fn dated_text<T: FileTree>(
     alloc: Global,
@@ -90,7 +90,7 @@ pub fn dated_text<T: FileTree>(
     Ok((text, lines_at(alloc, &watches, own.as_slice())?))
 }
 
-/// Adds a question for each of these veils, whose answers are wanted behind so many lines, and
+/// Adds a question for each of these veils, whose answers are wanted after so many lines, and
 /// answers their places.
 fn watch_veils<'a, T: FileTree>(
     alloc: Global,

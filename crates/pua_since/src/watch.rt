@@ -39,7 +39,7 @@ pub(crate) struct Watch<'a> {
     /// whoever the process was there: itself, or a forebear.
     process: u32,
     question: Question<'a>,
-    /// Behind how many lines the answer is wanted at last.
+    /// After how many lines the answer is wanted at last.
     last: usize,
     told: Told,
     /// The line since which that is told; None where it was told from the start.
@@ -84,14 +84,14 @@ impl<'a> Watch<'a> {
         self.line
     }
 
-    /// Has the answer wanted behind so many lines too.
+    /// Has the answer wanted after so many lines too.
     pub(crate) fn extend(&mut self, last: usize)
         ensures { self.new ≡ record self.old { last = max self.old.last last } }
     {
         self.last = self.last.max(last);
     }
 
-    /// Asks a world again, behind this line, if the answer is still wanted there and what the line
+    /// Asks a world again, after this line, if the answer is still wanted there and what the line
     /// touched may concern whoever its process was there. The only error is that a growth was
     /// refused.
     pub(crate) fn ask<T: FileTree>(

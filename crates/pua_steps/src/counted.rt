@@ -46,7 +46,7 @@ impl CountedLists {
         self.lists.span(left, dir)
     }
 
-    /// The entry at a place among those of all lists, which is counted. None behind the last one.
+    /// The entry at a place among those of all lists, which is counted. None after the last one.
     #[inline]
     pub(crate) fn read(&mut self, place: usize) -> Option<Entry>
         ensures lists { self.new.lists ≡ self.old.lists }

@@ -24,7 +24,7 @@ use pua_policy::{AllowedCalls, Process, Promising};
 use pua_tree::OutOfMemory;
 use std::alloc::Global;
 
-/// The lines of these items, behind which stands LF. The only error is that a growth was refused.
+/// The lines of these items, after which stands LF. The only error is that a growth was refused.
 pub(crate) fn object_lines<'t>(
     alloc: Global,
     process: &Process,

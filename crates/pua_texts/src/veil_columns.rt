@@ -1,4 +1,4 @@
-//! The columns of veils, behind the lines of what they cover.
+//! The columns of veils, after the lines of what they cover.
 
 ghost use Rattle.std.specs.Prelude.{◌≡◌, ◌++◌, ◌∷◌, [], ℕ, Option, None, IfOk, OnOk, decimal, map};
 ghost use Rattle.std.specs.Prelude.{slice_index_or, string_bytes, unwrap_or};
@@ -61,7 +61,7 @@ fn veil_texts<T: FileTree>(
     Ok(texts)
 }
 
-/// The line at an index; None behind the last.
+/// The line at an index; None after the last.
 fn line_at(lines: &[Option<usize>], index: usize) -> Option<usize>
     ensures { result ≡ slice_index_or lines.now index None }
 {

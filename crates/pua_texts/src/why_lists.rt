@@ -56,7 +56,7 @@ pub fn begin_reasons<'t, T: FileTree>(
     Ok(lists)
 }
 
-/// Splits the lines that are left behind those of the veils of a process. The only error is that a
+/// Splits the lines that are left after those of the veils of a process. The only error is that a
 /// growth was refused.
 fn split_lines<'l>(
     alloc: Global,

@@ -23,9 +23,9 @@ use Rattle.pua_tight.specs.declared.together.Kept.{Kept}
 use Rattle.pua_tight.proofs.PromisesTogether.{again, one_more}
 use Rattle.pua_tight.proofs.Minimal.{middle_kept, same_self}
 use Rattle.pua_tight.proofs.OneByOne.{in_two}
-use Rattle.pua_tight.proofs.Pieces.{scripts_are_tightened}
+use Rattle.pua_tight.proofs.MayBeLeftOut.{scripts_are_tightened}
 use Rattle.pua_tight.specs.Uses.{first_other}
-use Rattle.pua_tight.proofs.Served.{dropped, first_self, gone_by, same_by_first}
+use Rattle.pua_tight.proofs.FirstOtherAnswer.{dropped, first_self, gone_by, same_by_first}
 use Rattle.pua_tight.proofs.Tightened.{ask_less, ask_self, ask_twice, same_sound, world_self}
 use Rattle.pua_tight.proofs.Trying.{lines_told, trials_at}
 use Rattle.pua_tight.proofs.Worlds.{heads, tails, request_keeps}

@@ -72,7 +72,7 @@ fn begun(alloc: Global, tree: &SlabTree, table: &CallTable) -> Result<World<Slab
 }
 
 /// Gives back the memory of a world: one call, where the world's drop would else be walked and
-/// proved at each exit behind it.
+/// proved at each exit after it.
 fn release(world: World<SlabTree>) {}
 
 /// Serves requests in a world up to the first that is answered otherwise than is wanted, and

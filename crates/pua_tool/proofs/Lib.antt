@@ -5,12 +5,12 @@ pub mod Futures
 pub mod Alike
 pub mod Numbers
 pub mod TextAnswers
-pub mod Written
+pub mod EverTextForesees
 pub mod ListWritten
 pub mod Stops
-pub mod Pieces
+pub mod LinesWritten
 pub mod Ends
-pub mod Telling
+pub mod FaultsWritten
 pub mod Advising
 pub mod WhyTexts
 pub mod Reasoned

@@ -36,7 +36,7 @@ use Rattle.pua_tool.specs.HowTexts.{some_thing, things_asked, told_without, unle
 use Rattle.pua_tool.specs.Never.{IsNeverTold, NeverAsWritten, NeverComesBehind, NeverComesTo, before_exec_line, never_line}
 use Rattle.pua_tool.specs.declared.fault.ToolFault.TheVariants.{NoProcess, HowCall, HowPath, HowThing, HowLink}
 use Rattle.pua_tool.proofs.Replays.{replayed_is}
-use Rattle.pua_tool.proofs.Written.{foreseen_behind}
+use Rattle.pua_tool.proofs.EverTextForesees.{foreseen_behind}
 
 -- ---- what is asked about
 

@@ -5,8 +5,8 @@ use Rattle.pua_words.specs.declared.command.Columns.TheVariants.{Plain, Why, How
 use Rattle.pua_words.specs.declared.command.ListWords.{ListWords}
 use Rattle.pua_words.specs.declared.command.Processes.{Processes}
 use Rattle.pua_words.specs.declared.command.Processes.TheVariants.{One}
-use Rattle.pua_words.specs.declared.command.Span.{Span}
-use Rattle.pua_words.specs.declared.command.Span.TheVariants.{Now, Ever}
+use Rattle.pua_words.specs.declared.command.Time.{Time}
+use Rattle.pua_words.specs.declared.command.Time.TheVariants.{Now, Ever}
 use Rattle.pua_tool.specs.Texts.{Chosen}
 use Rattle.pua_tool.specs.ObjectTexts.{objects_text}
 use Rattle.pua_tool.specs.WhyTexts.{objects_why_text}
@@ -28,7 +28,7 @@ IsWaysText choice tree script (One process) answer = IsEverHowText choice tree s
 IsWaysText choice tree script several answer = Err SeveralHow ≡ answer
 
 -- of now, one after another, with reasons or without; for ever, with the steps of ways or without
-abbrev pub IsListBy : Span → Columns → Processes → Chosen → List ℕ → List ℕ → Result (List ℕ) ToolFault → Type 0
+abbrev pub IsListBy : Time → Columns → Processes → Chosen → List ℕ → List ℕ → Result (List ℕ) ToolFault → Type 0
 IsListBy Now Plain whose choice tree script answer = objects_text choice tree script whose ≡ answer
 IsListBy Now Why whose choice tree script answer = objects_why_text choice tree script whose ≡ answer
 IsListBy Now How whose choice tree script answer = Err NowHow ≡ answer

@@ -128,7 +128,7 @@ fn request_in(alloc: Global, text: &Text<'_>) -> Result<Vec<u8>, AllocError>
     }
 }
 
-/// Tells of a fault, and what there is to say behind it, and answers the status.
+/// Tells of a fault, and what there is to say after it, and answers the status.
 fn tell<E: Sink>(fault: ToolFault, advice: Option<Advice<'_>>, err: &mut E) -> u8
     ensures status { result ≡ status_of fault }
     ensures told { IsLineTold (fault_line fault ++ advice_line (option_map advice_seen advice.entry))
@@ -138,7 +138,7 @@ fn tell<E: Sink>(fault: ToolFault, advice: Option<Advice<'_>>, err: &mut E) -> u
     fault.status()
 }
 
-/// Writes the line of a fault, and that of what there is to say behind it.
+/// Writes the line of a fault, and that of what there is to say after it.
 fn put_told<E: Sink>(
     fault: ToolFault,
     advice: Option<Advice<'_>>,
@@ -165,7 +165,7 @@ fn put_advice<E: Sink>(advice: Option<Advice<'_>>, err: &mut E) -> Result<(), Pu
         &[
             Piece::Text("pua: "),
             Piece::Text(before),
-            Piece::About(advice.subject()),
+            Piece::About(advice.wrong_part()),
             Piece::Text(behind),
         ],
     )

@@ -1,4 +1,4 @@
-//! What stands behind the calls of a line of a list for ever: how many steps a way has to each call
+//! What stands after the calls of a line of a list for ever: how many steps a way has to each call
 //! that the list of now lacks.
 
 ghost use Rattle.std.specs.Prelude.{◌≡◌, ◌&&◌, ◌++◌, ◌∷◌, [], IfErr, IfOk, OnOk, map, not};
@@ -169,7 +169,7 @@ pub(crate) fn steps_to(
     }
 }
 
-/// What stands behind the calls of a line: a blank, and calls with the numbers of steps, with
+/// What stands after the calls of a line: a blank, and calls with the numbers of steps, with
 /// commas between them; and LF. The only error is that a growth was refused.
 fn text_of(alloc: Global, counts: &[(Call, Result<usize, NoWay>)]) -> Result<String, AllocError>
     ensures { IfOk result (λ text. string_bytes text
@@ -185,7 +185,7 @@ fn text_of(alloc: Global, counts: &[(Call, Result<usize, NoWay>)]) -> Result<Str
     Ok(text)
 }
 
-/// Adds further calls with their numbers of steps, each behind a comma.
+/// Adds further calls with their numbers of steps, each after a comma.
 fn push_others(text: &mut String, counts: &[(Call, Result<usize, NoWay>)]) -> Result<(), AllocError>
     ensures { OnOk result (string_bytes text.new ≡ string_bytes text.old
         ++ counts_text 44 counts.now) }

@@ -60,7 +60,7 @@ pub enum ToolFault {
     /// The tree that the script leaves has more names than a listing has lines: over 1,000,000, the
     /// root counted as one.
     TooManyNames,
-    /// The script ends before this line, behind which it was asked how things stood.
+    /// The script ends before this line, after which it was asked how things stood.
     NoLine(u32),
     /// What a way is asked for is none of the calls on one path.
     HowCall,

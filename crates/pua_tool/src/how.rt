@@ -32,7 +32,7 @@ use pua_words::HowWords;
 use std::alloc::{AllocError, Global};
 
 /// Writes a way by which a process comes to a call on something, where the script has been served:
-/// lines of a script, each of this process, each answered `ok` behind the script and the lines
+/// lines of a script, each of this process, each answered `ok` after the script and the lines
 /// before it, none an exec but the last one, which is the call, on a path that leads to what was
 /// asked about wherever that is then. What is asked about is what a line of the list for ever is
 /// about, by the path that the line has: what stands there, by any of its names, or the missing
@@ -104,7 +104,7 @@ fn text_behind(
     Ok(told(alloc, &found)?)
 }
 
-/// What is asked about behind a script, with what the list for ever says of it.
+/// What is asked about after a script, with what the list for ever says of it.
 #[derive(Drop)]
 pub(crate) struct HowQuestion {
     pub(crate) call: Call,
@@ -207,7 +207,7 @@ fn outlook_of<T: FileTree>(
     Ok(find_outlook(tree, &list, things, call))
 }
 
-/// A way to what is asked about, behind the script; [`NoWay`] exactly where none of the plans that
+/// A way to what is asked about, after the script; [`NoWay`] exactly where none of the plans that
 /// are laid is one. `NoProcess` where the process was never made, and `OutOfMemory` where a growth
 /// was refused.
 pub(crate) fn find(

@@ -76,7 +76,7 @@ pub fn objects_text_law()
 }
 
 /// Where there is a text of a list for ever, it is the answers and the list of the process, which
-/// is complete: whatever is asked behind the script, as long as nobody else changes the tree, and
+/// is complete: whatever is asked after the script, as long as nobody else changes the tree, and
 /// all that the family starts is bounded or no exec of theirs succeeds.
 pub fn ever_text_law()
     ensures { EverAsWritten }
@@ -94,7 +94,7 @@ pub fn together_text_law()
 }
 
 /// Where there is a text of a run with reasons, or of the list of a process with them, each line's
-/// reason is so: its answer follows from it, what it says holds of the world behind the lines
+/// reason is so: its answer follows from it, what it says holds of the world after the lines
 /// before, and since the line that it names the same request had the same reason, and just before
 /// it another. In the list each line has the promises on which its calls rest, which are held, the
 /// veil that covers it, and the line since which that veil has its letters. What is told to lack is
@@ -106,7 +106,7 @@ pub fn reasons_text_law()
 
 /// Where the text of a way says `never`, or `never before an exec`, the call is allowed to no
 /// member of the process's family on anything that is meant, by whatever path from wherever:
-/// whatever is asked behind the script, as long as nobody else changes the tree; and where it says
+/// whatever is asked after the script, as long as nobody else changes the tree; and where it says
 /// the latter, as long as no exec of theirs succeeds.
 #[tactic(auto, using(crate::proofs::Never::never_as_written))]
 pub fn never_text_law()

@@ -52,7 +52,7 @@ pub use pua_io::{
 };
 pub use pua_texts::state_law;
 pub use pua_words::{
-    AuditWords, Columns, Command, HowWords, ListWords, Processes, Span, Text, UsageLine, WhyWords,
+    AuditWords, Columns, Command, HowWords, ListWords, Processes, Text, Time, UsageLine, WhyWords,
 };
 pub use run::{run_by, run_to};
 pub use run_why::run_why_to;

@@ -18,7 +18,7 @@ use pua_tree::OutOfMemory;
 use std::alloc::Global;
 
 /// Writes the text of a run with reasons: what [`run_by`](crate::run_by) writes, and in each line
-/// whose answer is not `ok` behind it a blank and the reason, and then ` since line M`, if it was
+/// whose answer is not `ok` after it a blank and the reason, and then ` since line M`, if it was
 /// not so from the start: before line M of the script the same request would have had another
 /// reason, after it and after each later line before this one it would have had this one. A process
 /// asked by its parent before the fork that made it. By OpenBSD's rules `, a kernel opens it by

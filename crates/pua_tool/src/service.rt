@@ -38,7 +38,7 @@ use std::alloc::Global;
 /// for ever, of a way, of a tightened script or of a tree goes to `out`, and of a fault a line or
 /// two go to `err`, which are dropped where they can't be written. The inputs are taken, first the
 /// tree's, then the script's, then the table's where one is named, before any of them is read as a
-/// listing, a script or a table; none behind one that can't be taken, and no others. Where the
+/// listing, a script or a table; none after one that can't be taken, and no others. Where the
 /// command names a line of the script, the text is that of the script's lines up to this one;
 /// [`REFUSED`] also where there is no such line.
 ///
@@ -50,7 +50,7 @@ use std::alloc::Global;
 /// [`REFUSED`] and [`MEMORY`] nothing was written. After each but [`DONE`] the line of what stopped
 /// it went to `err`: all of it, or a front of it before a put that failed. Of an input that is
 /// refused this is the line with what is wrong, and with which line, candidate or call, if with
-/// one. Behind that line of a script, or of a request that is asked about, a second one says by
+/// one. After that line of a script, or of a request that is asked about, a second one says by
 /// OpenBSD's rules what is wrong with it ([`advise`](pua_advice::advise)).
 pub fn perform<I: Inputs, O: Sink, E: Sink>(
     alloc: Global,

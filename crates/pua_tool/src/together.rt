@@ -20,7 +20,7 @@ use pua_ever::{bounded_exec, join, list_lasting};
 use pua_io::Sink;
 use pua_policy::Process;
 use pua_script::World;
-use pua_texts::{Joint, Member, answer_text, begin_together};
+use pua_texts::{Joined, Member, answer_text, begin_together};
 use pua_words::Processes;
 use std::alloc::Global;
 
@@ -125,7 +125,7 @@ fn joint_to<S: Sink>(
         Ok(list) => list,
         Err(fault) => return Err(fault_of(first.number, fault)),
     };
-    let joint = Some(Joint {
+    let joint = Some(Joined {
         one: &one,
         list: &list,
     });

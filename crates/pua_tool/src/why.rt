@@ -22,7 +22,7 @@ use pua_tree::OutOfMemory;
 use std::alloc::{AllocError, Global};
 use std::fmt::Write;
 
-/// Writes what decides a request of this process, given by the fields of a script's line behind the
+/// Writes what decides a request of this process, given by the fields of a script's line after the
 /// number, where the script has been served: a line for the promises that let it through, for each
 /// link that its paths follow, for what they name and for the veil that covers that, in the order
 /// of the checks and as far as it passes them; and as the last line its answer, with the reason,
@@ -52,7 +52,7 @@ pub fn why_to<S: Sink>(
     put_text(text?.as_str(), sink)
 }
 
-/// The lines of what the request passes behind a script, or the fault of its fields. `OutOfMemory`
+/// The lines of what the request passes after a script, or the fault of its fields. `OutOfMemory`
 /// where a growth was refused.
 fn asked_text(
     alloc: Global,
@@ -77,7 +77,7 @@ fn asked_text(
     }
 }
 
-/// The request of a process, by the fields behind its number, which are read by these rules.
+/// The request of a process, by the fields after its number, which are read by these rules.
 fn read_asked(
     alloc: Global,
     rules: Rules,
@@ -101,7 +101,7 @@ fn read_asked(
     }
 }
 
-/// The line of a script with this process and these fields behind it. The only error is that a
+/// The line of a script with this process and these fields after it. The only error is that a
 /// growth was refused.
 pub(crate) fn line_of(alloc: Global, process: u32, fields: &[&[u8]]) -> Result<Vec<u8>, AllocError>
     ensures { IfOk result (λ line. line.items ≡ request_line process
@@ -125,7 +125,7 @@ fn push_field(line: &mut Vec<u8>, field: &[u8]) -> Result<(), AllocError>
     line.extend_from_slice(field)
 }
 
-/// The lines of what a request passes behind a script, and of its answer.
+/// The lines of what a request passes after a script, and of its answer.
 fn text_of(
     alloc: Global,
     rules: Rules,

@@ -12,7 +12,7 @@ pub(crate) const OBJECTS_USAGE: &str =
 pub(crate) const WHY_USAGE: &str =
     "pua: usage: pua why [--process P] [--at N] [--rules profile|openbsd] [--table FILE] TREE SCRIPT CALL [ARG...]";
 
-/// How the listing of the tree behind a script is asked for, in one line.
+/// How the listing of the tree after a script is asked for, in one line.
 pub(crate) const TREE_USAGE: &str =
     "pua: usage: pua tree [--at N] [--rules profile|openbsd] [--table FILE] TREE SCRIPT";
 
@@ -122,8 +122,8 @@ written as a backslash and three octal digits: `a\\040b`.
 Example: pua objects TREE SCRIPT
 `pua run --help` lists the calls of a SCRIPT, and what is behind each fault.";
 
-/// What a command prints, and behind it what all commands share: the calls of a script, and what is
-/// behind each fault; and then the faults of this command alone.
+/// What a command prints, and after it what all commands share: the calls of a script, and what is
+/// after each fault; and then the faults of this command alone.
 macro_rules! with_calls_and_faults {
     ($output:literal, $faults:literal) => {
         concat!(

@@ -14,7 +14,7 @@ pub enum UsageLine {
     Objects,
     /// How it is asked why a request is answered as it is.
     Why,
-    /// How the listing of the tree behind a script is asked for.
+    /// How the listing of the tree after a script is asked for.
     Tree,
     /// How a script is asked for without what none of its answers needs.
     Tight,

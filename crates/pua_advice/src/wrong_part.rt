@@ -5,7 +5,7 @@ use std::fmt;
 
 /// What of a line an advice is about.
 #[derive(Clone, Copy, Debug, PartialEq, Eq)]
-pub enum Subject<'a> {
+pub enum WrongPart<'a> {
     /// The whole line.
     Line,
     /// A word, which is visible ASCII.
@@ -15,12 +15,12 @@ pub enum Subject<'a> {
 }
 
 /// A word is displayed as it stands, a byte as a path has it, and of the whole line nothing is.
-impl fmt::Display for Subject<'_> {
+impl fmt::Display for WrongPart<'_> {
     fn fmt<W: fmt::Write>(&self, f: &mut fmt::Formatter<W>) -> fmt::Result {
         match self {
-            Subject::Line => Ok(()),
-            Subject::Word(word) => write_bytes(word, f),
-            Subject::Byte(byte) => write_bytes(byte_spelling(*byte).as_bytes(), f),
+            WrongPart::Line => Ok(()),
+            WrongPart::Word(word) => write_bytes(word, f),
+            WrongPart::Byte(byte) => write_bytes(byte_spelling(*byte).as_bytes(), f),
         }
     }
 }

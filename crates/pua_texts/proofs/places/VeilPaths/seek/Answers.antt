@@ -2,7 +2,7 @@ use Rattle.pua_texts.proofs.Common.{◌++◌, ◌∷◌, [], sym, ap, ◌∙◌,
 use Rattle.pua_why.specs.Texts.{dir_names}
 use Rattle.pua_why.specs.TreePaths.{PathsState}
 use Rattle.pua_texts.proofs.Climbing.{of_dir, of_slot}
-use Rattle.pua_texts.proofs.places.Places.seek.Goals as goal
+use Rattle.pua_texts.proofs.places.VeilPaths.seek.Goals as goal
 
 pub returns-in-Dir-clause-names : goal.returns-in-Dir-clause-names
 returns-in-Dir-clause-names g c =

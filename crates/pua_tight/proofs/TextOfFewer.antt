@@ -26,7 +26,7 @@ use Rattle.pua_tight.specs.Laws.{TextsAreRead, TightTextsAreRead}
 use Rattle.pua_tight.proofs.KeptWords.{cut, free, joined_pass, cut_joined, pieces_free}
 use Rattle.pua_tight.proofs.Thinned.{field_bytes, with_action, thin_line_read}
 use Rattle.pua_tight.proofs.Tightened.{tightens}
-use Rattle.pua_tight.proofs.Pieces.{scripts_are_tightened}
+use Rattle.pua_tight.proofs.MayBeLeftOut.{scripts_are_tightened}
 
 -- the bytes of a line: visible ones, and spaces
 abbrev is_shown : ℕ → Bool
