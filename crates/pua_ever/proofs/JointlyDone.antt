@@ -416,7 +416,7 @@ module _ (table : CallTable) (t0 : Tree) (crew : List ProcessState) (well0 : Wel
     new_lines = map (λ new. joint_line test [] (Comes new)) all_new
 
     has_call : (thing : Thing) → IsJointlyAllowed t0 table crew a thing c → Among (filter (test thing) calls) c
-    has_call thing can = among_filter (test thing) calls c (tells.all thing c can) (one_of_calls c)
+    has_call thing can = among_filter (test thing) calls c (tells.all thing c (inl can)) (one_of_calls c)
 
     in_list : (thing : Thing) → Lined thing → IsJointlyAllowed t0 table crew a thing c →
         (word : Word) × Among (joint_lines t0 a test) (joint_line test word thing)

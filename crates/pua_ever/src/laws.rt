@@ -1,8 +1,12 @@
 //! Laws and worked examples, each the contract of a function that does nothing.
 
 ghost use Rattle.pua_ever.specs.Examples.{EverRows, MovedRows, StartedRows};
+ghost use Rattle.pua_ever.specs.JointTable.{TableLaw};
 ghost use Rattle.pua_ever.specs.JointlyExamples.{JointlyRows};
-ghost use Rattle.pua_ever.specs.Jointly.{JointlyAfterRead, JointlyComplete, JointlyGrows, JointlyLasts, JointlyThrough, JointlyWithin};
+ghost use Rattle.pua_ever.specs.JointStarts.{JointStartsListed};
+ghost use Rattle.pua_ever.specs.Jointly.{JointListsGrow, JointlyAfterRead};
+ghost use Rattle.pua_ever.specs.Jointly.{JointlyComplete, JointlyGrows, JointlyLasts, JointlyThrough};
+ghost use Rattle.pua_ever.specs.Jointly.{JointlyWithin};
 ghost use Rattle.pua_ever.specs.Laws.{EverAfterRead, EverAsRead, EverBeside, EverComplete, EverOfMany};
 ghost use Rattle.pua_ever.specs.Laws.{EverWithExecs};
 ghost use Rattle.pua_ever.specs.Laws.{NowWithinEver};
@@ -109,7 +113,9 @@ pub fn together_examples()
 /// Several processes with veils and promises of their own, and what they fork: whatever they ask
 /// for, all of them together, each call that is then allowed to one of them has its line in the
 /// joint list of that one. So it is through execs, where all that they start is bounded, and after
-/// a listing and a script. Who has more help has no less in its list.
+/// a listing and a script. Who has more help has no less in its list. A file on which exec would be
+/// allowed to one of them, were it a program, has exec in its list, if a call of any of them could
+/// make it one.
 pub fn jointly_law()
     ensures within { JointlyWithin }
     ensures complete { JointlyComplete }
@@ -117,10 +123,18 @@ pub fn jointly_law()
     ensures read { JointlyAfterRead }
     ensures lasts { JointlyLasts }
     ensures grows { JointlyGrows }
+    ensures lists { JointListsGrow }
+    ensures starts { JointStartsListed }
 {}
 
 /// Examples of what processes with veils of their own can ever touch together.
 #[tactic(auto, using(crate::proofs::JointlyRows::jointly_rows))]
 pub fn jointly_examples()
     ensures { JointlyRows }
+{}
+
+/// The table of a crew: once nothing more follows from what is in it, it has all that the crew can
+/// come to do, and nothing else.
+pub fn crew_table_law()
+    ensures { TableLaw }
 {}

@@ -87,7 +87,7 @@ fn may_edit(process: &Process, table: &CallTable) -> bool
 }
 
 /// Whether a process holds the promises of both of link's names.
-fn may_link(process: &Process, table: &CallTable) -> bool
+pub(crate) fn may_link(process: &Process, table: &CallTable) -> bool
     ensures { result ≡ links_files table.now process.now }
 {
     let link = table.link();
