@@ -7,6 +7,8 @@ mod Given
 mod Granting
 mod Outlooking
 mod Meaning
+mod SameSteps
+mod Staying
 mod StepsComeToCall
 pub mod ForCallers
 mod Unlaid

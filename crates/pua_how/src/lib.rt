@@ -10,6 +10,7 @@ mod plan;
 mod serve;
 mod step;
 mod target;
+mod trials;
 mod way;
 
 pub use about::target_of;
@@ -21,4 +22,5 @@ pub use plan::Planner;
 pub use serve::serve_way;
 pub use step::{At, Dir, Step};
 pub use target::Target;
+pub use trials::Trials;
 pub use way::{BestPlans, NoWay};

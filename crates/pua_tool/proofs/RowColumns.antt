@@ -2,7 +2,7 @@
 use Rattle.pua_tool.proofs.Common.{◌≡◌, ℕ, List, [], ◌∷◌, ◌++◌, ◌∙◌, arith, map, refl, sym, subst, ap, ProcessState, Replayed, Option, Some, None}
 use Rattle.pua_tool.proofs.Common.{CallTable, Tree, Result, Ok, Err, as_replayed, with_end}
 use Rattle.std.proofs.Common.{Bool, true, false, cond, length, ◌+◌, ◌<◌, take, get_or, zero, suc, inl, inr}
-use Rattle.std.specs.Prelude.{IfSome, filter, is_none, is_some, not, option_map, ◌&&◌}
+use Rattle.std.specs.Prelude.{IfOk, IfSome, filter, is_none, is_some, not, option_map, ◌&&◌}
 use Rattle.std.specs.List.{AllByRecursion, Contains}
 use Rattle.std.proofs.lemmas.List.{length-map, take_more}
 use Rattle.std.proofs.lemmas.List.Elements.{filter_agree}
@@ -37,7 +37,7 @@ use Rattle.pua_ever.specs.declared.list.EverAbout.TheVariants as ever_about
 use Rattle.pua_ever.specs.declared.list.EverRow.{EverRow}
 use Rattle.pua_ever.specs.declared.made.Made.{Made}
 use Rattle.pua_how.specs.PathQuestion.{PathQuestion, question_by, targets_of, thing_word}
-use Rattle.pua_how.specs.Served.{AreWay, asks_of}
+use Rattle.pua_how.specs.Served.{AreWay, Tried, asks_of}
 use Rattle.pua_how.specs.Steps.{NoneComes, nothing_laid}
 use Rattle.pua_how.specs.Targets.{IsLast, target_about}
 use Rattle.pua_how.proofs.ForCallers.{IsPlaced, lasting_placed, meant, nothing_comes}
@@ -46,8 +46,9 @@ use Rattle.pua_how.specs.declared.target.Target.{Target}
 use Rattle.pua_how.specs.declared.way.NoWay.{NoWay}
 use Rattle.pua_texts.specs.EverHowLines.{AreToldWith, has_calls_with}
 use Rattle.pua_texts.specs.EverLines.{kind_of}
+use Rattle.pua_tool.specs.declared.columns.Behind.{Behind}
 use Rattle.pua_tool.specs.declared.script.Replay.{Replay}
-use Rattle.pua_tool.specs.RowColumns.{AreColumns, AreStepsTo, IsColumnAt, IsColumnOf, IsCountTo, is_now_on, is_there}
+use Rattle.pua_tool.specs.RowColumns.{AreColumns, AreStepsTo, IsColumnAt, IsColumnOf, IsCountTo, done_behind, is_now_on, is_there, tried_behind}
 use Rattle.pua_tool.specs.EverHowTexts.{IsColumn, IsCount, counts_text, is_now, lacking}
 use Rattle.pua_tool.proofs.NowThere.{now_meant}
 
@@ -63,6 +64,17 @@ steps_of rules replay process things call thing lines meant way = record {
   way = way.way;
   long = length-map lines (λ line. line.request);
 }
+
+-- lines that were counted
+pub counted_steps : (behind : Behind) (tried : Tried) → tried ≡ tried_behind behind → (things : List Target) (call : Call) (counted : Result ℕ NoWay) →
+    IfOk counted (λ count. (thing : Target) × Contains things thing × (lines : List WayLine)
+    × AreWay tried.rules tried.world tried.process call thing lines × (length lines ≡ count)) →
+    IfOk counted (AreStepsTo (done_behind behind) behind.number things call)
+counted_steps behind tried is things call (Ok count) way =
+    subst (AreStepsTo (done_behind behind) behind.number things call) way.4
+    (steps_of behind.rules behind.replay.now behind.number things call way.0 way.2 way.1
+    (subst (λ (t : Tried). AreWay t.rules t.world t.process call way.0 way.2) is way.3))
+counted_steps behind tried is things call (Err none) way = tt
 
 -- what is among one thing alone
 alone : {A : Type 0} (x y : A) → Contains (x ∷ []) y → x ≡ y

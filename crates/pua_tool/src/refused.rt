@@ -1,7 +1,7 @@
 //! Wrong bodies of functions that no other crate calls: each claim meets what such a body would
 //! answer, and is proved never to, by the contracts of what it calls.
 
-use crate::columns::{Behind, steps_to};
+use crate::columns::{Behind, steps_to, trials_behind};
 use crate::how::{HowQuestion, find};
 use crate::script::Replay;
 use pua_calls::{Call, Rules};
@@ -35,7 +35,8 @@ fn steps_unknown_for_want_of_memory(
     call: Call,
     meant: &Meant,
 ) {
-    let Ok(Err(none)) = steps_to(alloc, behind, planner, call, meant) else {
+    let mut trials = trials_behind(alloc, behind);
+    let Ok(Err(none)) = steps_to(&mut trials, planner, call, meant) else {
         return;
     };
     let (world, rules) = (&behind.replay.world, behind.rules);
