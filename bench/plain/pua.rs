@@ -672,8 +672,9 @@ impl Process {
 
     fn pledge(&mut self, promises: Option<u64>, execpromises: Option<u64>) -> Result<(), Errno> {
         let adds = |old: Option<u64>, new: Option<u64>| new.unwrap_or(0) & !old.unwrap_or(u64::MAX) != 0;
-        let is_more = adds(self.promises, promises) || adds(self.execpromises, execpromises);
-        if is_more && self.held() & ERROR == 0 {
+        let is_freed = self.held() & ERROR != 0;
+        let is_exec_freed = is_freed && !rules().is_openbsd;
+        if !is_freed && adds(self.promises, promises) || !is_exec_freed && adds(self.execpromises, execpromises) {
             return Err("EPERM");
         }
         let both = |old: Option<u64>, new: Option<u64>| old.map_or(new, |old| Some(old & new.unwrap_or(old)));

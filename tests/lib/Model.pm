@@ -368,7 +368,7 @@ sub _pledge {
     for my $at (0, 1) {
         next unless $sets[$at] && $given[$at];
         my @more = grep { !$given[$at]{$_} } keys %{ $sets[$at] };
-        return 'EPERM' if @more && !$errs;
+        return 'EPERM' if @more && !($errs && !($at && $model->{openbsd}));
         delete $sets[$at]{$_} for @more;
     }
     $process->{promises} = $sets[0] if $sets[0];

@@ -79,9 +79,12 @@ pub record VerdictRows : Type 0 where
   pub unveiled : verdict_on example_tree standard_table (state_of root_veiled) Stat (codes "/etc") ≡ Allowed
   -- something stands there too
   pub cover_before_kind : verdict_on example_tree standard_table (state_of root_veiled) Mkdir (codes "/tmp/sh") ≡ Failed EACCES
-  pub exec_increase : pledge_fault (Pledged None (Some rpath) ∷ new_history) None (Some (rpath + wpath)) ≡ Some EPERM
-  pub first_promises : pledge_fault (Pledged None (Some rpath) ∷ new_history) (Some (rpath + error)) None ≡ None
-  pub under_error : pledge_fault with_error (Some (rpath + wpath)) (Some wpath) ≡ None
+  pub exec_increase : pledge_fault Standard (Pledged None (Some rpath) ∷ new_history) None (Some (rpath + wpath)) ≡ Some EPERM
+  pub first_promises : pledge_fault Standard (Pledged None (Some rpath) ∷ new_history) (Some (rpath + error)) None ≡ None
+  pub under_error : pledge_fault Standard with_error (Some (rpath + wpath)) (Some wpath) ≡ None
+  -- by OpenBSD's rules `error` lets the promises alone ask for more
+  pub promises_under_error : pledge_fault Openbsd with_error (Some (rpath + wpath)) (Some rpath) ≡ None
+  pub exec_under_error : pledge_fault Openbsd with_error (Some rpath) (Some wpath) ≡ Some EPERM
   pub promises : held_set narrowed_history ≡ rpath
   pub execpromises : held_for_exec narrowed_history ≡ Some 0
   pub lacking : may_any narrowed_history (wpath ∷ []) ≡ may.Death
@@ -98,6 +101,8 @@ verdict_rows = record {
   exec_increase = refl;
   first_promises = refl;
   under_error = refl;
+  promises_under_error = refl;
+  exec_under_error = refl;
   promises = refl;
   execpromises = refl;
   lacking = refl;

@@ -181,7 +181,7 @@ decisions_are_guarded table t h (Link old new) change e =
     }
 decisions_are_guarded table t h (Pledge p x) change e =
     let known = from_checked (fault_if (is_unknown p || is_unknown x) EINVAL) _ change e in
-    let free = from_checked (pledge_fault h (given_set p) (given_set x)) _ change known.1 in
+    let free = from_checked (pledge_fault table.whose h (given_set p) (given_set x)) _ change known.1 in
     record { known = not_faulty _ EINVAL known.0; within = free.0; is = is_ok _ _ free.1 }
 decisions_are_guarded table t h (Unveil path perms) change e =
     let may = from_promised (may_any h (unveil ∷ [])) _ change e in

@@ -94,8 +94,8 @@ pub record Asker (E R : Type 0) : Type 0 where
   pub path : Side → Tree → Ending → List ℕ → Last → Result Found E
   -- the veils leave an object less than these permissions
   pub cover : Side → Tree → Found → ℕ → Option E
-  -- a pledge asks for more than was given
-  pub beyond : Option ℕ → Option ℕ → Option E
+  -- by these rules a pledge asks for more than was given
+  pub beyond : Rules → Option ℕ → Option ℕ → Option E
   -- the veils are locked
   pub locked : Option E
   -- a place may not have these permissions
@@ -309,14 +309,14 @@ abbrev pub uses_by : {E R : Type 0} → Asker E R → List ℕ → Outcome R
 uses_by asker sets = unless_refused (asker.promises sets) (Ok NoChange)
 
 -- what is given and given up, after what was before
-abbrev pub pledging_by : {E R : Type 0} → Telling E R → Asker E R → Option ℕ → Option ℕ → Outcome R
-pledging_by told asker promises execpromises =
-    unless_failed told.failed (asker.beyond promises execpromises) (Ok (AddEvent (Pledged promises execpromises)))
+abbrev pub pledging_by : {E R : Type 0} → Telling E R → Asker E R → Rules → Option ℕ → Option ℕ → Outcome R
+pledging_by told asker whose promises execpromises =
+    unless_failed told.failed (asker.beyond whose promises execpromises) (Ok (AddEvent (Pledged promises execpromises)))
 
-abbrev pub pledge_by : {E R : Type 0} → Telling E R → Asker E R → Given → Given → Outcome R
-pledge_by told asker promises execpromises =
+abbrev pub pledge_by : {E R : Type 0} → Telling E R → Asker E R → Rules → Given → Given → Outcome R
+pledge_by told asker whose promises execpromises =
     unless_failed told.failed (fault_if (is_unknown promises || is_unknown execpromises) (told.unknown_promise (not (is_unknown promises))))
-    (pledging_by told asker (given_set promises) (given_set execpromises))
+    (pledging_by told asker whose (given_set promises) (given_set execpromises))
 
 -- what a living process's request changes, or what is told of why it is refused: all checks in their order
 abbrev pub decide_by : {E R : Type 0} → Telling E R → CallTable → Tree → Asker E R → Action → Outcome R
@@ -325,7 +325,7 @@ decide_by told table t asker (Symlink target path) = symlink_by told table t ask
 decide_by told table t asker (Rename old new) =
     pair_by told table.rename t asker ending.Dropped old new (λ a b. rename_by told t (asks_directory table.whose old new) a b (node_named a))
 decide_by told table t asker (Link old new) = pair_by told table.link t asker ending.Dot old new (λ a b. link_by told a b (node_named a))
-decide_by told table t asker (Pledge promises execpromises) = pledge_by told asker promises execpromises
+decide_by told table t asker (Pledge promises execpromises) = pledge_by told asker table.whose promises execpromises
 decide_by told table t asker (Unveil path perms) = unveil_by told t asker path perms
 decide_by told table t asker Lock = lock_by asker
 decide_by told table t asker (Fork new) = fork_by asker new
@@ -358,7 +358,7 @@ asker_of p = record {
   promises = λ sets. refusal_of (may_any p sets);
   path = λ side t ending text last. resolution_of_text t p.dir ending text last;
   cover = λ side t object perms. cover_fault (cover t p object) perms;
-  beyond = pledge_fault p;
+  beyond = λ whose promises execpromises. pledge_fault whose p promises execpromises;
   locked = fault_if p.locked EPERM;
   place = λ place perms. unveil_errno (unveil_fault p place perms);
 }
@@ -434,11 +434,11 @@ decide_fork asker new = fork_by asker new
 abbrev pub decide_uses : Requester → List ℕ → Decision
 decide_uses asker sets = uses_by asker sets
 
-abbrev pub pledging : Requester → Option ℕ → Option ℕ → Decision
-pledging asker promises execpromises = pledging_by refusals asker promises execpromises
+abbrev pub pledging : Requester → Rules → Option ℕ → Option ℕ → Decision
+pledging asker whose promises execpromises = pledging_by refusals asker whose promises execpromises
 
-abbrev pub decide_pledge : Requester → Given → Given → Decision
-decide_pledge asker promises execpromises = pledge_by refusals asker promises execpromises
+abbrev pub decide_pledge : Requester → Rules → Given → Given → Decision
+decide_pledge asker whose promises execpromises = pledge_by refusals asker whose promises execpromises
 
 -- what a process's request changes, or why it is refused, by what the process keeps
 abbrev pub decide : CallTable → Tree → ProcessState → Action → Decision

@@ -56,7 +56,8 @@ pub(crate) fn act<T: FileTree>(
         Action::Link(old, new) => link(tree, table, process, old.bytes(), new.bytes()),
         Action::Unveil(path, perms) => unveil(tree, process, path.bytes(), *perms),
         Action::Pledge(promises, execpromises) => {
-            answer(tree, process, &decide_pledge(promises, execpromises))
+            let granted = decide_pledge(table.rules(), promises, execpromises);
+            answer(tree, process, &granted)
         }
         Action::Lock => {
             let granted = decide_lock(process);

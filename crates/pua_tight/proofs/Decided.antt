@@ -16,7 +16,9 @@ use Rattle.pua_calls.specs.Calls.{CallTable, PairRule, rule_of, last_of, ending_
 use Rattle.pua_calls.specs.Promises.{holds, proc, unveil, error}
 use Rattle.pua_calls.specs.declared.call.Call.{Call}
 use Rattle.pua_calls.specs.declared.call.Call.TheVariants as call
-use Rattle.pua_policy.specs.States.{ProcessState, Unveiled, Pledged, working_dir, may_any, place_fault, has_error, veil_at}
+use Rattle.pua_calls.specs.declared.rules.Rules.{Rules}
+use Rattle.pua_calls.specs.declared.rules.Rules.TheVariants.{Standard, Openbsd}
+use Rattle.pua_policy.specs.States.{ProcessState, Unveiled, Pledged, working_dir, may_any, place_fault, error_frees_exec, has_error, veil_at}
 use Rattle.pua_policy.specs.States.{is_within, unveil_fault, most_places, held_set}
 use Rattle.pua_policy.specs.Misfits.{misfit}
 use Rattle.pua_policy.specs.Verdict.{or_fault, object_of, place_of, refusal_of}
@@ -43,7 +45,7 @@ pub record Easier (a b : Requester) : Type 0 where
   pub promises : (sets : List ℕ) → a.promises sets ≡ None → b.promises sets ≡ None
   pub path : (side : Side) (t : Tree) (end : Ending) (text : List ℕ) (last : Last) → a.path side t end text last ≡ b.path side t end text last
   pub cover : (side : Side) (t : Tree) (object : Found) (perms : ℕ) → a.cover side t object perms ≡ None → b.cover side t object perms ≡ None
-  pub beyond : (p e : Option ℕ) → a.beyond p e ≡ None → b.beyond p e ≡ None
+  pub beyond : (whose : Rules) (p e : Option ℕ) → a.beyond whose p e ≡ None → b.beyond whose p e ≡ None
   pub locked : a.locked ≡ None → b.locked ≡ None
   pub place : (place : Place) (perms : ℕ) → a.place place perms ≡ None → b.place place perms ≡ None
 
@@ -144,10 +146,10 @@ module _ (table : CallTable) (t : Tree) (a b : Requester) (easier : Easier a b) 
   granted_more (Link old new) = pair_more table.link ending.Dot old new (λ x y. link_by refusals x y (node_named x))
   granted_more (Pledge p e) = past_failed c (fault_if (is_unknown p || is_unknown e) (refusals.unknown_promise (cond (is_unknown p) false true)))
       (fault_if (is_unknown p || is_unknown e) (refusals.unknown_promise (cond (is_unknown p) false true)))
-      (pledging_by refusals a (given_set p) (given_set e)) (pledging_by refusals b (given_set p) (given_set e)) (λ e. e)
-      (past_failed c (a.beyond (given_set p) (given_set e)) (b.beyond (given_set p) (given_set e))
+      (pledging_by refusals a table.whose (given_set p) (given_set e)) (pledging_by refusals b table.whose (given_set p) (given_set e)) (λ e. e)
+      (past_failed c (a.beyond table.whose (given_set p) (given_set e)) (b.beyond table.whose (given_set p) (given_set e))
       (Ok (AddEvent (Pledged (given_set p) (given_set e)))) (Ok (AddEvent (Pledged (given_set p) (given_set e))))
-      (easier.beyond (given_set p) (given_set e)) (λ e. e))
+      (easier.beyond table.whose (given_set p) (given_set e)) (λ e. e))
   granted_more (Unveil path perms) = past_refused c (a.promises (unveil ∷ [])) (b.promises (unveil ∷ []))
       (unless_failed refusals.failed a.locked (veil_by refusals t a path perms))
       (unless_failed refusals.failed b.locked (veil_by refusals t b path perms)) (easier.promises (unveil ∷ []))
@@ -163,7 +165,7 @@ free dir = record {
   promises = λ sets. None;
   path = λ side t end text last. resolution_of_text t dir end text last;
   cover = λ side t object perms. None;
-  beyond = λ p e. None;
+  beyond = λ whose p e. None;
   locked = None;
   place = λ place perms. None;
 }
@@ -173,7 +175,7 @@ freer h = record {
   promises = λ sets e. refl;
   path = λ side t end text last. refl;
   cover = λ side t object perms e. refl;
-  beyond = λ p e is. refl;
+  beyond = λ whose p e is. refl;
   locked = λ e. refl;
   place = λ place perms e. refl;
 }
@@ -203,12 +205,21 @@ placed (within {a = a} {b = b} less) n m perms same e =
     held false e = cc
 
 module _ (h k : ProcessState) (w : StateWithin h k) where
-  abbrev pub may_give : ProcessState → Option ℕ → Option ℕ → Bool
-  may_give g p e = has_error g || (is_within p g.promises && is_within e g.execpromises)
+  abbrev pub may_give : Rules → ProcessState → Option ℕ → Option ℕ → Bool
+  may_give whose g p e =
+      (has_error g || is_within p g.promises) && (error_frees_exec whose (has_error g) || is_within e g.execpromises)
 
-  pub gives_more : (p e : Option ℕ) → may_give h p e ≡ true → may_give k p e ≡ true
-  gives_more p e = or_more (has_error h) _ (has_error k) _ (holds_through (held_set k) (held_set h) error (held_within w))
-      (and_more _ _ _ _ (asked_within p w.promises) (asked_within e w.execpromises))
+  error_more : has_error h ≡ true → has_error k ≡ true
+  error_more = holds_through (held_set k) (held_set h) error (held_within w)
+
+  frees_more : (whose : Rules) → error_frees_exec whose (has_error h) ≡ true → error_frees_exec whose (has_error k) ≡ true
+  frees_more Standard = error_more
+  frees_more Openbsd = λ e. e
+
+  pub gives_more : (whose : Rules) (p e : Option ℕ) → may_give whose h p e ≡ true → may_give whose k p e ≡ true
+  gives_more whose p e = and_more _ _ _ _ (or_more (has_error h) _ (has_error k) _ error_more (asked_within p w.promises))
+      (or_more (error_frees_exec whose (has_error h)) _ (error_frees_exec whose (has_error k)) _ (frees_more whose)
+      (asked_within e w.execpromises))
 
   place_less : (place : Place) (perms : ℕ) → unveil_errno (unveil_fault h place perms) ≡ None → unveil_errno (unveil_fault k place perms) ≡ None
   place_less place perms = two_bools
@@ -221,7 +232,7 @@ module _ (h k : ProcessState) (w : StateWithin h k) where
     promises = λ sets e. ap refusal_of (may_within h k w sets (may_from (may_any h sets) e));
     path = λ side t end text last. ap (λ d. resolution_of_text t d end text last) w.dir;
     cover = λ side t object perms. fault_within (cover_within w.veils t object) perms;
-    beyond = λ p e is. ap (λ x. cond x None (Some EPERM)) (gives_more p e (none_if (may_give h p e) is));
+    beyond = λ whose p e is. ap (λ x. cond x None (Some EPERM)) (gives_more whose p e (none_if (may_give whose h p e) is));
     locked = λ e. ap (λ x. fault_if x EPERM) (sym w.locked) ∙ e;
     place = place_less;
   }
@@ -249,8 +260,8 @@ module _ (table : CallTable) (t : Tree) (h k : ProcessState) (w : StateWithin h 
       by_ok (AddEvent (Unveiled (place_of object) a)) (AddEvent (Unveiled (place_of object) b)) c d (unveils less) e f
   veil_within path a b less (Err errno) e f = cc
 
-  pledge_within : {p q x y : Given} → GivenWithin p q → GivenWithin x y → pledge_by refusals (free (working_dir h)) p x ≡ Ok c →
-      pledge_by refusals (free (working_dir k)) q y ≡ Ok d → ChangeWithin c d
+  pledge_within : {p q x y : Given} → GivenWithin p q → GivenWithin x y → pledge_by refusals (free (working_dir h)) table.whose p x ≡ Ok c →
+      pledge_by refusals (free (working_dir k)) table.whose q y ≡ Ok d → ChangeWithin c d
   pledge_within given_none given_none e f = by_ok _ _ c d (pledges unset unset) e f
   pledge_within (given_less less) given_none e f = by_ok _ _ c d (pledges (within less) unset) e f
   pledge_within given_none (given_less less) e f = by_ok _ _ c d (pledges unset (within less)) e f

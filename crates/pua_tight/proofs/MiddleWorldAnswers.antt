@@ -16,7 +16,7 @@ use Rattle.pua_calls.specs.Promises.{holds, proc, unveil, error}
 use Rattle.pua_calls.specs.declared.call.Call.TheVariants as call
 use Rattle.std.specs.List.{list_any}
 use Rattle.pua_policy.specs.States.{ProcessState, Unveiled, Pledged, Locked, Ended, may_any, place_fault, has_error}
-use Rattle.pua_policy.specs.States.{pledge_fault, is_within, unveil_fault, veil_at, most_places, held_set}
+use Rattle.pua_policy.specs.States.{error_frees_exec, pledge_fault, is_within, unveil_fault, veil_at, most_places, held_set}
 use Rattle.pua_policy.specs.Verdict.{place_of, refusal_of, cover_fault}
 use Rattle.pua_policy.specs.declared.place.Place.{Place}
 use Rattle.pua_policy.specs.declared.answer.May.TheVariants as may
@@ -236,37 +236,45 @@ module _ (table : CallTable) (t : Tree) (l m s : ProcessState) (w : StateThree l
       same_check (unknown q f) (unknown p e) (unknown p e)
       (ap (λ x. fault_if (x || is_unknown f) EINVAL) (unknown_same first) ∙ ap (λ x. fault_if (is_unknown p || x) EINVAL) (unknown_same second)) refl
       (at l q f) (at m p e) (at s p e)
-      (last_check (pledge_fault l (given_set q) (given_set f)) (pledge_fault m (given_set p) (given_set e))
-      (pledge_fault s (given_set p) (given_set e)) (misses_by (λ x. cond x None (Some EPERM)) refl (gives l q f) (gives m p e) (gives s p e) given_by_both)
-      ((easier m s later).beyond (given_set p) (given_set e)) (Ok (AddEvent (Pledged (given_set q) (given_set f))))
+      (last_check (pledge_fault table.whose l (given_set q) (given_set f)) (pledge_fault table.whose m (given_set p) (given_set e))
+      (pledge_fault table.whose s (given_set p) (given_set e)) (misses_by (λ x. cond x None (Some EPERM)) refl (gives l q f) (gives m p e) (gives s p e) given_by_both)
+      ((easier m s later).beyond table.whose (given_set p) (given_set e)) (Ok (AddEvent (Pledged (given_set q) (given_set f))))
       (Ok (AddEvent (Pledged (given_set p) (given_set e)))))
     where
       unknown : Given → Given → Option Errno
       unknown x y = fault_if (is_unknown x || is_unknown y) EINVAL
 
       gives : ProcessState → Given → Given → Bool
-      gives z x y = has_error z || (is_within (given_set x) z.promises && is_within (given_set y) z.execpromises)
+      gives z x y = (has_error z || is_within (given_set x) z.promises)
+          && (error_frees_exec table.whose (has_error z) || is_within (given_set y) z.execpromises)
 
       at : ProcessState → Given → Given → Decision
-      at z x y = check (pledge_fault z (given_set x) (given_set y)) (Ok (AddEvent (Pledged (given_set x) (given_set y))))
+      at z x y = check (pledge_fault table.whose z (given_set x) (given_set y)) (Ok (AddEvent (Pledged (given_set x) (given_set y))))
+
+      or_false : (a b : Bool) → (a || b) ≡ true → a ≡ false → b ≡ true
+      or_false true b e f = absurd (true≢false f)
+      or_false false b e f = e
+
+      -- one argument, which `error` may let ask for more
+      half : (lets : Bool → Bool) (a b c : Bool) → (a ≡ true → c ≡ true → b ≡ true) → (lets (has_error s) || a) ≡ true →
+          (lets (has_error l) || c) ≡ true → (lets (has_error m) || b) ≡ true
+      half lets a b c both is it = by (lets (has_error m)) refl
+        where
+          by : (x : Bool) → lets (has_error m) ≡ x → (lets (has_error m) || b) ≡ true
+          by true f = ap (λ x. x || b) f
+          by false off = ap (λ x. x || b) off
+              ∙ both (or_false (lets (has_error s)) a is (ap lets (sym error_inner) ∙ off))
+              (or_false (lets (has_error l)) c it (ap lets (error_outer w ∙ sym error_inner) ∙ off))
 
       given_by_both : gives s p e ≡ true → gives l q f ≡ true → gives m p e ≡ true
-      given_by_both is it = by (has_error m) refl
-        where
-          or_false : (a b : Bool) → (a || b) ≡ true → a ≡ false → b ≡ true
-          or_false true b e f = absurd (true≢false f)
-          or_false false b e f = e
-
-          by : (x : Bool) → has_error m ≡ x → gives m p e ≡ true
-          by true f = ap (λ b. b || (is_within (given_set p) m.promises && is_within (given_set e) m.execpromises)) f
-          by false off =
-              let a = and_parts (is_within (given_set p) s.promises) (is_within (given_set e) s.execpromises)
-              (or_false (has_error s) _ is (sym error_inner ∙ off)) in
-              let b = and_parts (is_within (given_set q) l.promises) (is_within (given_set f) l.execpromises)
-              (or_false (has_error l) _ it (error_outer w ∙ sym error_inner ∙ off)) in
-              ap (λ b. b || (is_within (given_set p) m.promises && is_within (given_set e) m.execpromises)) off
-              ∙ and_from (is_within (given_set p) m.promises) (is_within (given_set e) m.execpromises)
-              (within_three first w.promises a.0 b.0) (within_three second w.execpromises a.1 b.1)
+      given_by_both is it =
+          let a = and_parts (has_error s || is_within (given_set p) s.promises) _ is in
+          let b = and_parts (has_error l || is_within (given_set q) l.promises) _ it in
+          and_from (has_error m || is_within (given_set p) m.promises) _
+          (half (λ x. x) (is_within (given_set p) s.promises) (is_within (given_set p) m.promises) (is_within (given_set q) l.promises)
+          (within_three first w.promises) a.0 b.0)
+          (half (error_frees_exec table.whose) (is_within (given_set e) s.execpromises) (is_within (given_set e) m.execpromises)
+          (is_within (given_set f) l.execpromises) (within_three second w.execpromises) a.1 b.1)
 
   granted_agree : (c : Change) → Agree (Ok c) (Ok c) (Ok c)
   granted_agree c e = refl

@@ -160,8 +160,8 @@ module _ (table : CallTable) (t : Tree) (g h k : ProcessState) (v : StateWithin 
       veiled : ProcessState → Found → Decision
       veiled z x = unless_failed refusals.failed (unveil_errno (unveil_fault z (place_of x) perms)) (Ok (AddEvent (Unveiled (place_of x) perms)))
 
-  beyond_back : (p e : Option ℕ) (s : Errno) → pledge_fault h p e ≡ Some s → pledge_fault g p e ≡ Some s
-  beyond_back p e = back_by (λ x. cond x None (Some EPERM)) refl _ _ (gives_more g h v p e)
+  beyond_back : (p e : Option ℕ) (s : Errno) → pledge_fault table.whose h p e ≡ Some s → pledge_fault table.whose g p e ≡ Some s
+  beyond_back p e = back_by (λ x. cond x None (Some EPERM)) refl _ _ (gives_more g h v table.whose p e)
 
   pub between : (action : Action) → Agree (decide table t g action) (decide table t h action) (decide table t k action)
   between (OnPath call path) = promised_one (rule_of table call).alternatives
@@ -194,16 +194,16 @@ module _ (table : CallTable) (t : Tree) (g h k : ProcessState) (v : StateWithin 
       at : ProcessState → Decision
       at z = objects_by refusals table.link t (asker_of z) ending.Dot old new (λ x y. link_by refusals x y (node_named x))
   between (Pledge p e) = same_check unknown unknown unknown refl refl (at g) (at h) (at k)
-      (last_check (pledge_fault g (given_set p) (given_set e)) (pledge_fault h (given_set p) (given_set e))
-      (pledge_fault k (given_set p) (given_set e)) (λ s is. inr (beyond_back (given_set p) (given_set e) s is))
-      ((easier h k w).beyond (given_set p) (given_set e)) (Ok (AddEvent (Pledged (given_set p) (given_set e))))
+      (last_check (pledge_fault table.whose g (given_set p) (given_set e)) (pledge_fault table.whose h (given_set p) (given_set e))
+      (pledge_fault table.whose k (given_set p) (given_set e)) (λ s is. inr (beyond_back (given_set p) (given_set e) s is))
+      ((easier h k w).beyond table.whose (given_set p) (given_set e)) (Ok (AddEvent (Pledged (given_set p) (given_set e))))
       (Ok (AddEvent (Pledged (given_set p) (given_set e)))))
     where
       unknown : Option Errno
       unknown = fault_if (is_unknown p || is_unknown e) EINVAL
 
       at : ProcessState → Decision
-      at z = unless_failed refusals.failed (pledge_fault z (given_set p) (given_set e))
+      at z = unless_failed refusals.failed (pledge_fault table.whose z (given_set p) (given_set e))
           (Ok (AddEvent (Pledged (given_set p) (given_set e))))
   between (Unveil path perms) = promised_one (unveil ∷ []) (at g) (at h) (at k)
       (same_check (fault_if g.locked EPERM) (fault_if h.locked EPERM) (fault_if k.locked EPERM)

@@ -12,7 +12,8 @@ use Rattle.pua_path.specs.declared.found.Last.TheVariants.{Followed}
 use Rattle.pua_path.specs.declared.text.Ending.TheVariants as ending
 use Rattle.pua_calls.specs.Promises.{holds, lacking, unveil}
 use Rattle.pua_calls.specs.Calls.{CallTable}
-use Rattle.pua_policy.specs.States.{ProcessState, Event, Unveiled, may_any, is_within, has_error, veil_at, working_dir}
+use Rattle.pua_calls.specs.declared.rules.Rules.{Rules}
+use Rattle.pua_policy.specs.States.{ProcessState, Event, Unveiled, may_any, is_within, error_frees_exec, has_error, veil_at, working_dir}
 use Rattle.pua_policy.specs.States.{unveil_fault, place_fault, most_places}
 use Rattle.pua_policy.specs.Verdict.{refusal_of, place_of}
 use Rattle.pua_policy.specs.declared.place.Place.{Place}
@@ -162,12 +163,16 @@ module _ (w : World) (h : ProcessState) where
   tested false true c d more e = absurd (false≢true (more refl))
   tested x false c d more e = no_failure EPERM e
 
-  abbrev may_give : Given → Given → Bool
-  may_give p e = has_error h || (is_within (given_set p) h.promises && is_within (given_set e) h.execpromises)
+  abbrev may_give : Rules → Given → Given → Bool
+  may_give whose p e =
+      (has_error h || is_within (given_set p) h.promises)
+      && (error_frees_exec whose (has_error h) || is_within (given_set e) h.execpromises)
 
-  gives : {p q e f : Given} → GivenWithin p q → GivenWithin e f → may_give q f ≡ true → may_give p e ≡ true
-  gives first second is = or_more (has_error h) _ (has_error h) _ (λ has. has)
-      (and_more _ _ _ _ (within_less first h.promises) (within_less second h.execpromises)) is
+  gives : (whose : Rules) {p q e f : Given} → GivenWithin p q → GivenWithin e f → may_give whose q f ≡ true → may_give whose p e ≡ true
+  gives whose first second is = and_more _ _ _ _
+      (or_more (has_error h) _ (has_error h) _ (λ has. has) (within_less first h.promises))
+      (or_more (error_frees_exec whose (has_error h)) _ (error_frees_exec whose (has_error h)) _ (λ frees. frees)
+      (within_less second h.execpromises)) is
 
   place_gives : (place : Place) (a b : ℕ) → holds b a ≡ true → (o : Option ℕ) (l : Bool) (n : ℕ) →
       answered w h (unless_failed refusals.failed (unveil_errno (cond l (Some NotPermitted) (place_fault o n b))) (Ok (AddEvent (Unveiled place b))))
@@ -213,13 +218,13 @@ module _ (w : World) (h : ProcessState) where
       pledges given_unknown second e = no_failure _ e
       pledges given_none given_unknown e = no_failure _ e
       pledges (given_less less) given_unknown e = no_failure _ e
-      pledges given_none given_none e = tested (may_give Null Null) (may_give Null Null) _ _ (λ is. is) e
+      pledges given_none given_none e = tested (may_give table.whose Null Null) (may_give table.whose Null Null) _ _ (λ is. is) e
       pledges given_none (given_less {a = a} {b = b} less) e =
-          tested (may_give Null (Good a)) (may_give Null (Good b)) _ _ (gives given_none (given_less less)) e
+          tested (may_give table.whose Null (Good a)) (may_give table.whose Null (Good b)) _ _ (gives table.whose given_none (given_less less)) e
       pledges (given_less {a = a} {b = b} less) given_none e =
-          tested (may_give (Good a) Null) (may_give (Good b) Null) _ _ (gives (given_less less) given_none) e
+          tested (may_give table.whose (Good a) Null) (may_give table.whose (Good b) Null) _ _ (gives table.whose (given_less less) given_none) e
       pledges (given_less {a = a} {b = b} less) (given_less {a = c} {b = d} other) e =
-          tested (may_give (Good a) (Good c)) (may_give (Good b) (Good d)) _ _ (gives (given_less less) (given_less other)) e
+          tested (may_give table.whose (Good a) (Good c)) (may_give table.whose (Good b) (Good d)) _ _ (gives table.whose (given_less less) (given_less other)) e
   decided_less table (less_unveiled {path = path} {a = a} {b = b} less) e =
       veil_gives path a b less (refusal_of (may_any h (unveil ∷ []))) (fault_if h.locked EPERM)
       (resolution_of_text w.tree (working_dir h) ending.Dot path Followed) e

@@ -24,7 +24,8 @@ use Rattle.pua_path.specs.Traces.{text_errno, object_or_errno}
 use Rattle.pua_path.proofs.ForCallers.{text_traces_answer}
 use Rattle.pua_calls.specs.Promises.{proc}
 use Rattle.pua_calls.specs.Calls.{last_of, ending_of}
-use Rattle.pua_policy.specs.States.{pledged_set, held_for_exec, has_error, is_within, veils}
+use Rattle.pua_policy.specs.States.{error_frees_exec, pledged_set, held_for_exec, has_error, is_within, veils}
+use Rattle.pua_calls.specs.declared.rules.Rules.{Rules}
 use Rattle.pua_policy.specs.States.{place_fault, most_places, unveil_fault, pledge_fault, may_any}
 use Rattle.pua_policy.specs.Verdict.{place_of, object_fault, object_named, cover, cover_fault, found_fault}
 use Rattle.pua_policy.specs.Verdict.{allowed_unless, if_promised, refusal_of, refusal_verdict, verdict_of}
@@ -246,17 +247,22 @@ link_told a b (Some x) = failed_told _ _ _ (Ok (tying x (spot_named b)))
     (when_told (is_some (node_named b)) (Unfit New b Exists) (misfit_errno Exists) refl)) refl
 
 -- a pledge
-pledge_told : (h : ProcessState) (p x : Option ℕ) → Told (pledge_beyond h p x) ≡ Failing (pledge_fault h p x)
-pledge_told h p x = by (has_error h) (is_within p (pledged_set h)) (is_within x (held_for_exec h))
+pledge_told : (whose : Rules) (h : ProcessState) (p x : Option ℕ) →
+    Told (pledge_beyond whose h p x) ≡ Failing (pledge_fault whose h p x)
+pledge_told whose h p x =
+    by (has_error h) (error_frees_exec whose (has_error h)) (is_within p (pledged_set h)) (is_within x (held_for_exec h))
   where
-    by : (w u v : Bool) →
-        Told (if w then None else or_fault (fault_if (not u) (AsksPromises false (beyond p (pledged_set h))))
-        (fault_if (not v) (AsksPromises true (beyond x (held_for_exec h)))))
-        ≡ Failing (if w || (u && v) then None else Some EPERM)
-    by true u v = refl
-    by false false v = refl
-    by false true false = refl
-    by false true true = refl
+    by : (w f u v : Bool) →
+        Told (or_fault (if w then None else fault_if (not u) (AsksPromises false (beyond p (pledged_set h))))
+        (if f then None else fault_if (not v) (AsksPromises true (beyond x (held_for_exec h)))))
+        ≡ Failing (if (w || u) && (f || v) then None else Some EPERM)
+    by true true u v = refl
+    by true false u true = refl
+    by true false u false = refl
+    by false f false v = refl
+    by false true true v = refl
+    by false false true true = refl
+    by false false true false = refl
 
 -- an unveil
 place_told : (place : Place) (o : Option ℕ) (places perms : ℕ) →
@@ -301,7 +307,7 @@ reasons_give_decisions table t h (Rename old new) =
 reasons_give_decisions table t h (Link old new) = pair_told t h table.link ending.Dot old new _ _ (λ a b. link_told a b (node_named a))
 reasons_give_decisions table t h (Pledge p x) =
     failed_told _ _ _ _ (when_told (is_unknown p || is_unknown x) (UnknownPromise (not (is_unknown p))) EINVAL refl)
-    (failed_told _ _ _ _ (pledge_told h (given_set p) (given_set x)) refl)
+    (failed_told _ _ _ _ (pledge_told table.whose h (given_set p) (given_set x)) refl)
 reasons_give_decisions table t h (Unveil path perms) =
     refused_told _ _ _ _ (promises_told h (unveil ∷ [])) (failed_told _ _ _ _ (when_told (is_locked h) IsLocked EPERM refl)
     (veil_told t h path perms))

@@ -16,7 +16,7 @@ use Rattle.pua_path.specs.declared.errno.Errno.TheVariants.{ENOSPC}
 use Rattle.pua_path.specs.declared.text.Ending.TheVariants as ending
 use Rattle.pua_path.specs.declared.found.Way.TheVariants as way
 use Rattle.pua_calls.specs.Promises.{proc}
-use Rattle.pua_policy.specs.States.{pledged_set, held_for_exec, has_error, is_within, veils}
+use Rattle.pua_policy.specs.States.{error_frees_exec, pledged_set, held_for_exec, has_error, is_within, veils}
 use Rattle.pua_policy.specs.States.{most_places}
 use Rattle.pua_policy.specs.Verdict.{place_of}
 use Rattle.pua_calls.specs.declared.call.Call.TheVariants as call
@@ -29,7 +29,7 @@ use Rattle.pua_script.specs.declared.request.Given.{Given}
 use Rattle.pua_script.specs.declared.request.Action.{Action}
 use Rattle.pua_why.specs.Reasons.{Ends, LacksPromises, BadTarget, BadPath, Uncovered, Inside, UnknownPromise}
 use Rattle.pua_why.specs.Reasons.{AsksPromises, UnknownLetter, AsksLetters, NoPlaceLeft, NoRoom}
-use Rattle.pua_why.specs.Reasons.{beyond, asks_beyond, unveil_beyond}
+use Rattle.pua_why.specs.Reasons.{beyond, asks_beyond, pledge_beyond, unless, unveil_beyond}
 use Rattle.pua_why.specs.Laws.{CallFaultHolds}
 use Rattle.pua_why.specs.Truths.{PromiseFaultHolds, SymlinkFaultHolds, side_outcome, PairFaultHolds, PledgeFaultHolds, UnveilFaultHolds}
 use Rattle.pua_why.specs.Truths.{CheckFaultHolds, CheckFaultsHold, RoomFaultHolds, RequestFaultHolds, RequestFaultsHold, FullTreesAreFull}
@@ -185,33 +185,35 @@ module _ (pair : PairRule) (t : Tree) (h : ProcessState) (end : Ending) (a b : L
       (λ e. each old new o n e) e) e) e) e) e
 
 -- a pledge
-asks_true : (h : ProcessState) (p x : Given) (of_exec : Bool) (request given : Option ℕ) (bad : Fault) →
-    (is_within request given ≡ false → PledgeFaultHolds h p x (AsksPromises of_exec (beyond request given))) →
-    asks_beyond of_exec request given ≡ Some bad → PledgeFaultHolds h p x bad
-asks_true h p x of_exec request given bad is e =
-    when_true (not (is_within request given)) (AsksPromises of_exec (beyond request given)) bad (PledgeFaultHolds h p x)
-    (λ v. is (not-true (is_within request given) v)) e
+asks_true : (Holds : Fault → Type 0) (of_exec : Bool) (request given : Option ℕ) (lets : Bool) (bad : Fault) →
+    (lets ≡ false → is_within request given ≡ false → Holds (AsksPromises of_exec (beyond request given))) →
+    unless lets (asks_beyond of_exec request given) ≡ Some bad → Holds bad
+asks_true Holds of_exec request given true bad is e = cc
+asks_true Holds of_exec request given false bad is e =
+    when_true (not (is_within request given)) (AsksPromises of_exec (beyond request given)) bad Holds
+    (λ v. is refl (not-true (is_within request given) v)) e
 
 pledge_true : (table : CallTable) (t : Tree) (h : ProcessState) (p x : Given) (fault : Fault) →
-    change_or_fault table t h (Pledge p x) ≡ Err fault → PledgeFaultHolds h p x fault
+    change_or_fault table t h (Pledge p x) ≡ Err fault → PledgeFaultHolds table.whose h p x fault
 pledge_true table t h p x fault e =
-    failed_true _ _ fault (PledgeFaultHolds h p x)
-    (λ bad e. when_true (is_unknown p || is_unknown x) (UnknownPromise (not (is_unknown p))) bad (PledgeFaultHolds h p x)
+    failed_true _ _ fault Holds
+    (λ bad e. when_true (is_unknown p || is_unknown x) (UnknownPromise (not (is_unknown p))) bad Holds
     (λ v. unknown (is_unknown p) refl v) e)
-    (λ e. failed_true _ _ fault (PledgeFaultHolds h p x) (λ bad e. more bad (has_error h) refl e) (λ granted. cc) e) e
+    (λ e. failed_true _ _ fault Holds more (λ granted. cc) e) e
   where
-    unknown : (v : Bool) → is_unknown p ≡ v → v || is_unknown x ≡ true → PledgeFaultHolds h p x (UnknownPromise (not v))
+    abbrev Holds : Fault → Type 0
+    Holds = PledgeFaultHolds table.whose h p x
+
+    unknown : (v : Bool) → is_unknown p ≡ v → v || is_unknown x ≡ true → Holds (UnknownPromise (not v))
     unknown true is e = is
     unknown false is e = e
 
-    more : (bad : Fault) (v : Bool) → has_error h ≡ v →
-        (if v then None else or_fault (asks_beyond false (given_set p) (pledged_set h)) (asks_beyond true (given_set x) (held_for_exec h)))
-        ≡ Some bad → PledgeFaultHolds h p x bad
-    more bad true v e = cc
-    more bad false v e =
-        either_true _ _ bad (PledgeFaultHolds h p x)
-        (asks_true h p x false (given_set p) (pledged_set h) bad (λ lacks. (v, lacks, refl)))
-        (asks_true h p x true (given_set x) (held_for_exec h) bad (λ lacks. (v, lacks, refl))) e
+    more : (bad : Fault) → pledge_beyond table.whose h (given_set p) (given_set x) ≡ Some bad → Holds bad
+    more bad e =
+        either_true _ _ bad Holds
+        (asks_true Holds false (given_set p) (pledged_set h) (has_error h) bad (λ own lacks. (own, lacks, refl)))
+        (asks_true Holds true (given_set x) (held_for_exec h) (error_frees_exec table.whose (has_error h)) bad
+        (λ frees lacks. (frees, lacks, refl))) e
 
 -- an unveil
 module _ (t : Tree) (h : ProcessState) (path : List ℕ) where

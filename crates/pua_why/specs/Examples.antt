@@ -143,6 +143,9 @@ pub record WhyRows : Type 0 where
       codes "1 ok" ∷ codes "2 killed no rpath since line 1" ∷ []
   pub kernel_slash : why_by Openbsd ordered_tree (codes "1 rename /f/ /y" ∷ codes "1 rename /d/f /y/" ∷ []) ≡
       codes "1 ENOTDIR old: /f is no directory" ∷ codes "2 ENOTDIR old: /d/f is no directory" ∷ []
+  pub kernel_exec_promises : why_by Openbsd root_alone (codes "1 pledge stdio,error stdio" ∷ codes "1 pledge stdio,rpath,error stdio"
+      ∷ codes "1 pledge stdio stdio,rpath" ∷ []) ≡
+      codes "1 ok" ∷ codes "2 ok" ∷ codes "3 EPERM no rpath in execpromises since line 1" ∷ []
   pub by_kernel_new : why_by Openbsd ordered_tree (codes "1 pledge stdio,rpath -" ∷ codes "1 link /f /g" ∷ []) ≡
       codes "1 ok" ∷ codes "2 killed no cpath since line 1" ∷ []
   pub kernel_pair : chain_by Openbsd ordered_tree [] (codes "1 rename /d/f /d/h") ≡
@@ -257,6 +260,7 @@ why_rows = record {
   another_veil = refl;
   by_kernel = refl;
   kernel_slash = refl;
+  kernel_exec_promises = refl;
   by_kernel_new = refl;
   kernel_pair = refl;
   kernel_link = refl;

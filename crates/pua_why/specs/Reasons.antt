@@ -7,9 +7,10 @@ use Rattle.pua_path.specs.declared.found.Found.{Found}
 use Rattle.pua_path.specs.Traces.{text_errno, text_fault, path_errno, trace_of_text}
 use Rattle.pua_path.specs.declared.traced.PathTextFault.{PathTextFault}
 use Rattle.pua_path.specs.declared.traced.PathFault.{PathFault}
-use Rattle.pua_calls.specs.Promises.{holds, error}
+use Rattle.pua_calls.specs.Promises.{holds}
+use Rattle.pua_calls.specs.declared.rules.Rules.{Rules}
 use Rattle.pua_calls.specs.Calls.{CallTable}
-use Rattle.pua_policy.specs.States.{ProcessState, held_set, is_within, is_ended, perms_kept, most_places}
+use Rattle.pua_policy.specs.States.{ProcessState, has_error, error_frees_exec, is_within, is_ended, perms_kept, most_places}
 use Rattle.pua_policy.specs.Verdict.{or_fault}
 use Rattle.pua_policy.specs.declared.place.Place.{Place}
 use Rattle.pua_policy.specs.declared.answer.Refusal.{Refusal}
@@ -94,11 +95,15 @@ beyond request given = lacking (unwrap_or given 0) (unwrap_or request 0)
 abbrev pub asks_beyond : Bool → Option ℕ → Option ℕ → Option Fault
 asks_beyond of_exec request given = fault_if (not (is_within request given)) (AsksPromises of_exec (beyond request given))
 
--- a pledge that asks for more: its promises first
-abbrev pub pledge_beyond : ProcessState → Option ℕ → Option ℕ → Option Fault
-pledge_beyond p promises execpromises =
-    if holds (held_set p) error then None
-    else or_fault (asks_beyond false promises p.promises) (asks_beyond true execpromises p.execpromises)
+-- a fault that nothing lets pass
+abbrev pub unless : Bool → Option Fault → Option Fault
+unless lets fault = if lets then None else fault
+
+-- a pledge that asks for more than `error` lets it: its promises first
+abbrev pub pledge_beyond : Rules → ProcessState → Option ℕ → Option ℕ → Option Fault
+pledge_beyond whose p promises execpromises =
+    or_fault (unless (has_error p) (asks_beyond false promises p.promises))
+    (unless (error_frees_exec whose (has_error p)) (asks_beyond true execpromises p.execpromises))
 
 -- permissions at a place, by what is kept there and by the number of places
 abbrev pub place_beyond : Place → Option ℕ → ℕ → ℕ → Option Fault
@@ -125,7 +130,7 @@ faults_of p = record {
   promises = λ sets. unpromised_fault (promising p sets);
   path = λ side t ending text last. told_path side (trace_of_text t p.dir ending text last).outcome;
   cover = λ side t object perms. uncovered_fault side object perms (covering t p object);
-  beyond = pledge_beyond p;
+  beyond = λ whose promises execpromises. pledge_beyond whose p promises execpromises;
   locked = fault_if p.locked IsLocked;
   place = unveil_beyond p;
 }

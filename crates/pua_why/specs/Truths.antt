@@ -16,7 +16,8 @@ use Rattle.pua_path.specs.declared.traced.PathFault.{PathFault}
 use Rattle.pua_calls.specs.Promises.{holds, proc, unveil}
 use Rattle.pua_policy.specs.ReasonLaws.{LackSome}
 use Rattle.pua_calls.specs.Calls.{CallTable, PairRule}
-use Rattle.pua_policy.specs.States.{ProcessState, pledged_set, held_for_exec, has_error, is_within, is_ended, is_locked, perms_kept, veils}
+use Rattle.pua_calls.specs.declared.rules.Rules.{Rules}
+use Rattle.pua_policy.specs.States.{ProcessState, error_frees_exec, pledged_set, held_for_exec, has_error, is_within, is_ended, is_locked, perms_kept, veils}
 use Rattle.pua_policy.specs.States.{working_dir, most_places}
 use Rattle.pua_calls.specs.declared.call.Call.TheVariants as call
 use Rattle.pua_script.specs.Limits.{most_processes}
@@ -94,15 +95,15 @@ PairFaultHolds pair t h ending old new (Inside a b) =
     (side_outcome pair t h ending old new Old ≡ Ok a) × (side_outcome pair t h ending old new New ≡ Ok b) × IsInside t a b
 PairFaultHolds pair t h ending old new _ = ⊥
 
-abbrev pub PledgeFaultHolds : ProcessState → Given → Given → Fault → Type 0
-PledgeFaultHolds h promises execpromises (UnknownPromise false) = is_unknown promises ≡ true
-PledgeFaultHolds h promises execpromises (UnknownPromise true) = is_unknown execpromises ≡ true
-PledgeFaultHolds h promises execpromises (AsksPromises false lacks) =
+abbrev pub PledgeFaultHolds : Rules → ProcessState → Given → Given → Fault → Type 0
+PledgeFaultHolds whose h promises execpromises (UnknownPromise false) = is_unknown promises ≡ true
+PledgeFaultHolds whose h promises execpromises (UnknownPromise true) = is_unknown execpromises ≡ true
+PledgeFaultHolds whose h promises execpromises (AsksPromises false lacks) =
     (has_error h ≡ false) × (is_within (given_set promises) (pledged_set h) ≡ false) × (lacks ≡ beyond (given_set promises) (pledged_set h))
-PledgeFaultHolds h promises execpromises (AsksPromises true lacks) =
-    (has_error h ≡ false) × (is_within (given_set execpromises) (held_for_exec h) ≡ false) ×
+PledgeFaultHolds whose h promises execpromises (AsksPromises true lacks) =
+    (error_frees_exec whose (has_error h) ≡ false) × (is_within (given_set execpromises) (held_for_exec h) ≡ false) ×
     (lacks ≡ beyond (given_set execpromises) (held_for_exec h))
-PledgeFaultHolds h promises execpromises _ = ⊥
+PledgeFaultHolds whose h promises execpromises _ = ⊥
 
 abbrev pub UnveilFaultHolds : Tree → ProcessState → List ℕ → Option ℕ → Fault → Type 0
 UnveilFaultHolds t h path letters IsLocked = is_locked h ≡ true
@@ -119,7 +120,7 @@ CheckFaultHolds table t h (OnPath call path) fault = CallFaultHolds t table h ca
 CheckFaultHolds table t h (Symlink target path) fault = SymlinkFaultHolds table t h target path fault
 CheckFaultHolds table t h (Rename old new) fault = PairFaultHolds table.rename t h ending.Dropped old new fault
 CheckFaultHolds table t h (Link old new) fault = PairFaultHolds table.link t h ending.Dot old new fault
-CheckFaultHolds table t h (Pledge promises execpromises) fault = PledgeFaultHolds h promises execpromises fault
+CheckFaultHolds table t h (Pledge promises execpromises) fault = PledgeFaultHolds table.whose h promises execpromises fault
 CheckFaultHolds table t h (Unveil path letters) fault = UnveilFaultHolds t h path letters fault
 CheckFaultHolds table t h Lock fault = PromiseFaultHolds h (unveil ∷ []) fault
 CheckFaultHolds table t h (Fork new) fault = PromiseFaultHolds h (proc ∷ []) fault

@@ -152,7 +152,7 @@ fn fault_of<'s, T: FileTree>(
             Ok(fault)
         }
         Action::Pledge(promises, execpromises) => {
-            Ok(pledge_fault(process, promises, execpromises))
+            Ok(pledge_fault(table.rules(), process, promises, execpromises))
         }
         Action::Unveil(path, perms) => {
             unveil_fault(alloc, tree, process, path.bytes(), *perms, &mut links)
