@@ -37,8 +37,8 @@ use Rattle.pua_why.proofs.Steps.{same_fault, refused_true, failed_true, named_tr
 use Rattle.pua_script.proofs.ForCallers.{requests_lack}
 use Rattle.pua_why.proofs.Decisions.{reasons_give_decisions}
 use Rattle.pua_why.proofs.Faults.{object_true, call_faults_hold}
-use Rattle.std.proofs.lemmas.Bool.{not-true}
-use Rattle.std.proofs.Common.{◌&&◌, false≢true}
+use Rattle.std.proofs.lemmas.Bool.{false≢true, not-true}
+use Rattle.std.proofs.Common.{◌&&◌}
 
 -- a symlink: a fault of a call on its path, or of its target
 by_target : (table : CallTable) (t : Tree) (h : ProcessState) (target path : List ℕ) (fault : Fault) →
@@ -201,7 +201,7 @@ pledge_true table t h p x fault e =
     (λ v. unknown (is_unknown p) refl v) e)
     (λ e. failed_true _ _ fault Holds more (λ granted. cc) e) e
   where
-    abbrev Holds : Fault → Type 0
+    Holds : Fault → Type 0
     Holds = PledgeFaultHolds table.whose h p x
 
     unknown : (v : Bool) → is_unknown p ≡ v → v || is_unknown x ≡ true → Holds (UnknownPromise (not v))
