@@ -1,7 +1,7 @@
 //! Where things can come that are moved or made, by the veils of a process.
 
 ghost use Rattle.std.specs.Prelude.{◌≡◌, ◌<◌, ◌≤◌, ◌++◌, ◌∷◌, [], ℕ, Some, None, true, not, ◌==◌};
-ghost use Rattle.std.specs.Prelude.{IfOk, OnOk, filter_map, map, get_or, length, option_to_list};
+ghost use Rattle.std.specs.Prelude.{IfOk, filter_map, map, get_or, length};
 ghost use Rattle.std.specs.Prelude.{if◌then◌else◌};
 ghost use Rattle.std.specs.List.{list_any};
 ghost use Rattle.pua_tree.specs.Tree.{above, is_dir as lives_as_dir, look as node_at_name};
@@ -72,8 +72,8 @@ pub(crate) fn find_destinations<T: FileTree>(
     }
 }
 
-/// The directories that have `c` by a veil, or in which a name has. The place of one that stands
-/// least deep is kept with them, which is asked first: whatever place that is, answers are the same.
+/// The directories that have `c` by a veil, or in which a name has. The place of the one that is
+/// asked first is kept with them: whatever place that is, answers are the same.
 #[derive(Drop)]
 struct Opened {
     dirs: Vec<NodeId>,
@@ -101,25 +101,14 @@ fn gathered<T: FileTree>(
         ≡ filter_map (held_dir_of (T.content tree.now) process.now) (map
         (λ place. place.now) places.now)) }
 {
-    let mut dirs = Vec::new(alloc);
-    let mut names = Vec::new(alloc);
-    let mut held = Vec::new(alloc);
-    let mut opened = Vec::new(alloc);
-    for place in places {
-        keep(&mut dirs, dir_destination(tree, process, place))?;
-        keep(&mut names, name_destination(tree, process, place))?;
-        keep(&mut held, held_dir(tree, process, place))?;
-        keep(&mut opened, opened_dir(process, place))?;
-    }
+    let mut dirs = dir_destinations(alloc, tree, process, places)?;
     if !process.is_veiled() {
         dirs.push(Cover::All)?;
     }
-    let first = shallowest(tree, &opened);
-    let opened = Opened {
-        dirs: opened,
-        first,
-    };
+    let held = held_dirs(alloc, tree, process, places)?;
+    let opened = all_opened(alloc, tree, process, places)?;
     let entrances = entrances(alloc, tree, process, &held, &opened, places)?;
+    let names = name_destinations(alloc, tree, process, places)?;
     Ok(Destinations {
         dirs,
         entrances,
@@ -128,14 +117,86 @@ fn gathered<T: FileTree>(
     })
 }
 
-/// Keeps what was found, if something was.
-fn keep<X: Drop>(found: &mut Vec<X>, one: Option<X>) -> Result<(), AllocError>
-    ensures { OnOk result (found.new.items ≡ found.old.items ++ option_to_list one) }
+/// The covers of directories that have `c` by a veil of their own.
+fn dir_destinations<T: FileTree>(
+    alloc: Global,
+    tree: &T,
+    process: &Process,
+    places: &[&Place],
+) -> Result<Vec<Cover>, AllocError>
+    ensures { IfOk result (λ found. found.items
+        ≡ filter_map (dir_destination_of (T.content tree.now) process.now) (map
+        (λ place. place.now) places.now)) }
 {
-    if let Some(one) = one {
-        found.push(one)?;
-    }
-    Ok(())
+    places
+        .iter()
+        .filter_map(|place| dir_destination(tree, process, place))
+        .collect(alloc)
+}
+
+/// The covers of names that have `c` by a veil of their own and can come to be free.
+fn name_destinations<T: FileTree>(
+    alloc: Global,
+    tree: &T,
+    process: &Process,
+    places: &[&Place],
+) -> Result<Vec<Cover>, AllocError>
+    ensures { IfOk result (λ found. found.items
+        ≡ filter_map (name_destination_of (T.content tree.now) process.now) (map
+        (λ place. place.now) places.now)) }
+{
+    places
+        .iter()
+        .filter_map(|place| name_destination(tree, process, place))
+        .collect(alloc)
+}
+
+/// The directories that have `c` by a veil, or in which a name has. One that stands least deep is
+/// asked first.
+fn all_opened<T: FileTree>(
+    alloc: Global,
+    tree: &T,
+    process: &Process,
+    places: &[&Place],
+) -> Result<Opened, AllocError>
+    ensures { IfOk result (λ found. found.dirs.items
+        ≡ filter_map (opened_dir_of process.now) (map (λ place. place.now) places.now)) }
+{
+    let dirs = opened_dirs(alloc, process, places)?;
+    let first = shallowest(tree, &dirs);
+    Ok(Opened { dirs, first })
+}
+
+/// The directories that have `c` by a veil, or in which a name has.
+fn opened_dirs(
+    alloc: Global,
+    process: &Process,
+    places: &[&Place],
+) -> Result<Vec<NodeId>, AllocError>
+    ensures { IfOk result (λ found. found.items
+        ≡ filter_map (opened_dir_of process.now) (map (λ place. place.now) places.now)) }
+{
+    places
+        .iter()
+        .filter_map(|place| opened_dir(process, place))
+        .collect(alloc)
+}
+
+/// The directories in which something stands that has no `c` by a veil of its own.
+fn held_dirs<T: FileTree>(
+    alloc: Global,
+    tree: &T,
+    process: &Process,
+    places: &[&Place],
+) -> Result<Vec<NodeId>, AllocError>
+    ensures { IfOk result (λ found. found.items
+        ≡ filter_map (held_dir_of (T.content tree.now) process.now) (map
+        (λ place. place.now) places.now)) }
+{
+    places
+        .iter()
+        .filter_map(|place| held_dir(tree, process, place))
+        .collect(alloc)
 }
 
 /// The covers under which a directory can come by a veil.
