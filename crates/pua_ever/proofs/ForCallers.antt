@@ -11,7 +11,8 @@ pub use Rattle.pua_ever.proofs.Refused.{unrefused_table, unrefused_process}
 -- whether some line has exec, by the rows, and that none starts anything where none has
 pub use Rattle.pua_ever.proofs.RowsLast.{exec_told}
 pub use Rattle.pua_ever.proofs.Through.{no_line}
--- rows are on who holds both sets too
+-- what holds of what stands there holds of what a row is about; rows are on who holds both sets too
+pub use Rattle.pua_ever.proofs.ComingRows.{by_standing}
 pub use Rattle.pua_ever.proofs.RowsLast.{rows_by_both}
 -- the list that holds longest, by who holds both sets
 pub use Rattle.pua_ever.proofs.Chosen.{lasting_unbounded, lasting_alone, lasting_through, starts_open, starts_unlisted}

@@ -58,6 +58,8 @@ pub mod Origin
 pub mod Opened
 pub mod DestinationCovers
 pub mod Picked
+pub mod ComingPlaces
+pub mod ComingRows
 pub mod Under
 pub mod Refused
 pub mod Lined

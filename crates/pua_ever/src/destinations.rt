@@ -75,7 +75,7 @@ pub(crate) fn find_destinations<T: FileTree>(
 /// The directories that have `c` by a veil, or in which a name has. The place of the one that is
 /// asked first is kept with them: whatever place that is, answers are the same.
 #[derive(Drop)]
-struct Opened {
+pub(crate) struct Opened {
     dirs: Vec<NodeId>,
     first: usize,
 }
@@ -153,7 +153,7 @@ fn name_destinations<T: FileTree>(
 
 /// The directories that have `c` by a veil, or in which a name has. One that stands least deep is
 /// asked first.
-fn all_opened<T: FileTree>(
+pub(crate) fn all_opened<T: FileTree>(
     alloc: Global,
     tree: &T,
     process: &Process,
@@ -219,7 +219,7 @@ fn entrances<T: FileTree>(
 }
 
 /// What a place's own veil leaves, if it has `c`.
-fn destination(process: &Process, place: &Place) -> Option<Cover>
+pub(crate) fn destination(process: &Process, place: &Place) -> Option<Cover>
     ensures { result ≡ destination_of process.now place.now }
 {
     match process.kept(place) {
@@ -316,7 +316,12 @@ fn entrance<T: FileTree>(
 
 /// Whether another directory can come in the place of one that has `c`: nothing in it stays for
 /// ever, and something has `c` that isn't in it.
-fn can_give_way<T: FileTree>(tree: &T, held: &[NodeId], opened: &Opened, dir: NodeId) -> bool
+pub(crate) fn can_give_way<T: FileTree>(
+    tree: &T,
+    held: &[NodeId],
+    opened: &Opened,
+    dir: NodeId,
+) -> bool
     ensures { result ≡ gives_way_to (T.content tree.now) held.now opened.now.dirs.items dir }
 {
     !held.contains(&dir) && is_any_outside(tree, opened, dir)
@@ -370,7 +375,7 @@ fn depth<T: FileTree>(tree: &T, dir: NodeId) -> usize
 }
 
 /// Whether a name in a directory can come to be free: nothing stands there, or what does has `c`.
-fn is_free<T: FileTree>(tree: &T, process: &Process, dir: NodeId, name: &Name) -> bool
+pub(crate) fn is_free<T: FileTree>(tree: &T, process: &Process, dir: NodeId, name: &Name) -> bool
     ensures { result ≡ can_be_free (T.content tree.now) process.now (dir, name.now) }
 {
     match tree.look(dir, name) {
@@ -454,7 +459,7 @@ fn is_outside<T: FileTree>(tree: &T, dir: NodeId, other: NodeId) -> bool
 }
 
 /// Whether a number is that of a living directory.
-fn is_dir<T: FileTree>(tree: &T, id: NodeId) -> bool
+pub(crate) fn is_dir<T: FileTree>(tree: &T, id: NodeId) -> bool
     ensures { result ≡ lives_as_dir (T.content tree.now) id }
 {
     matches!(tree.kind(id), Some(Kind::Dir))

@@ -1,5 +1,6 @@
 //! Laws and worked examples, each the contract of a function that does nothing.
 
+ghost use Rattle.pua_ever.specs.ComingExamples.{ComingRows};
 ghost use Rattle.pua_ever.specs.Examples.{EverRows, MovedRows, StartedRows};
 ghost use Rattle.pua_ever.specs.JointTable.{TableLaw};
 ghost use Rattle.pua_ever.specs.JointlyExamples.{JointlyRows};
@@ -63,6 +64,12 @@ pub fn ever_examples()
 #[tactic(auto, using(crate::specs::Examples::moved_rows))]
 pub fn moving_examples()
     ensures { MovedRows }
+{}
+
+/// Examples of the veils under which things come to stand.
+#[tactic(auto, using(crate::specs::ComingExamples::coming_rows))]
+pub fn coming_examples()
+    ensures { ComingRows }
 {}
 
 /// Examples of what can be started that was no program.

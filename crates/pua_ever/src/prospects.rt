@@ -295,7 +295,7 @@ impl Prospects {
 
 /// Whether a directory can be moved to where it is covered otherwise: it has no veil of its own,
 /// which would go with it.
-fn moves_dir(process: &Process, table: &CallTable, dir: NodeId, cover: &Cover) -> bool
+pub(crate) fn moves_dir(process: &Process, table: &CallTable, dir: NodeId, cover: &Cover) -> bool
     ensures { result ≡ (is_none (perms_kept process.now (Place.Dir dir))
         && moves table.now process.now cover.now) }
 {
