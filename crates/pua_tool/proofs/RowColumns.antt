@@ -139,14 +139,6 @@ item_there t (subject.Name dir name) = by (look t dir name.now) refl
     by None none = ap is_none none
     by (Some node) some = refl
 
-module _ (t : Tree) (h : ProcessState) where
-  -- what holds of what stands there holds of what a row is about
-  pub by_standing : (about : Thing) (object : seen.Object) (cover : Cover) (P : Thing → Type 0) (o : Option Subject) →
-      ((subject : Subject) → o ≡ Some subject → IsStandingOn t h object cover subject → P (Stands subject)) →
-      IfSome o (IsStandingOn t h object cover) → option_map Stands o ≡ Some about → P about
-  by_standing about object cover P None each on is = absurd (None≢Some about is)
-  by_standing about object cover P (Some subject) each on is = subst P (same_Some (Stands subject) about is) (each subject refl on)
-
 module _ (t : Tree) (table : CallTable) (h : ProcessState) where
   taken : (o : Option ℕ) → is_some o ≡ true → is_none o ≡ false
   taken None is = cc
