@@ -4,6 +4,7 @@ pub mod ObjectTexts
 pub mod EverTexts
 pub mod TogetherTexts
 pub mod WhyTexts
+pub mod EverWhyTexts
 pub mod HowTexts
 pub mod EverHowTexts
 pub mod ListTexts
