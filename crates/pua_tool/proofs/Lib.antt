@@ -17,6 +17,7 @@ pub mod Reasoned
 pub mod HowTexts
 pub mod NowThere
 pub mod RowColumns
+pub mod EverColumns
 pub mod Counts
 pub mod EverHowTexts
 pub mod ActingNext

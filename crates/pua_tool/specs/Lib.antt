@@ -40,3 +40,4 @@ pub mod Pieces
 pub mod TwoWorlds
 pub mod Questions
 pub mod RowColumns
+pub mod EverColumns

@@ -8,6 +8,7 @@ mod audit;
 mod cli;
 mod columns;
 mod ever;
+mod ever_columns;
 mod ever_fault;
 mod ever_how;
 mod fault;
