@@ -11,6 +11,7 @@ mod ever;
 mod ever_columns;
 mod ever_fault;
 mod ever_how;
+mod ever_why;
 mod fault;
 mod front;
 mod how;
