@@ -1,10 +1,11 @@
-use Rattle.pua_tool.proofs.Common.{◌≡◌, ◌++◌, ◌∙◌, ap, arith, if_ok, subst, sym}
+use Rattle.pua_tool.proofs.Common.{◌≡◌, ◌++◌, ◌∙◌, ap, arith, subst, sym}
 use Rattle.std.proofs.Common.{◌<◌, ◌≤◌, length}
 use Rattle.std.proofs.lemmas.List.{take_all}
 use Rattle.std.proofs.lemmas.Slice.Zip.{AllZip-long}
 use Rattle.std.specs.Prelude.{string_bytes}
 use Rattle.pua_calls.specs.CallSets.{calls_in}
 use Rattle.pua_ever.specs.Comings.{places_under}
+use Rattle.pua_why.proofs.ForCallers.{pushed_so}
 use Rattle.pua_texts.specs.WhyLines.{world_left}
 use Rattle.pua_tool.specs.EverColumns.{IsKept}
 use Rattle.pua_tool.specs.EverWhyTexts.{told_of}
@@ -39,8 +40,8 @@ returns-then-len-before c = λ p number holder vs all.
 
 pub returns : goal.returns
 returns c =
-    if_ok c.push_str.result
-    (λ done given. λ p number holder vs all.
+    pushed_so c.push_str.result (string_bytes c.push_str.new.self) _ (string_bytes c.loop-veil.text) c.push_str.ensures.bytes
+    (λ given p number holder vs all.
     let past : length c.args.veils.now ≤ c.loop-veil.veil-index = omega (arith, c.loop-veil-test.false) in
     let left : length vs ≤ c.loop-veil.veil-index = omega (arith, past, AllZip-long (IsKept p number holder) vs c.args.veils.now all) in
     let told = told_of p number (places_under (world_left p).tree p.table holder c.args.under.now) (calls_in c.args.calls) in
@@ -49,4 +50,4 @@ returns c =
     ∙ ap (λ us. string_bytes c.args.text.now ++ told us) (take_all c.loop-veil.veil-index vs left) in
     let same : length (string_bytes c.loop-veil.text) ≤ length (string_bytes c.args.text.now) =
     omega (arith, c.if-len-before.false, c.len-before.ensures, c.len.ensures) in
-    given ∙ none_told (string_bytes c.args.text.now) (string_bytes c.loop-veil.text) (told vs) is same) c.push_str.ensures.bytes
+    given ∙ none_told (string_bytes c.args.text.now) (string_bytes c.loop-veil.text) (told vs) is same)
