@@ -303,6 +303,9 @@ impl Tree {
 
     /// What a path of a request names: a slash at its end is dropped where the call says so.
     fn named<'a>(&'a self, cwd: u32, path: &'a [u8], is_dropped: bool, follow: bool) -> Result<Found<'a>, Errno> {
+        if let Some(front) = before_long(path) {
+            self.named(cwd, front, false, true)?;
+        }
         path_fault(path)?;
         let from = if path[0] == b'/' { ROOT } else { cwd };
         if self.node(from).links == 0 {
@@ -312,6 +315,21 @@ impl Tree {
         let text = if is_dropped { &path[..end] } else { path };
         Ok(self.resolve(from, text, follow)?.0)
     }
+}
+
+/// What stands before a component that is too long, if OpenBSD's rules judge that first.
+fn before_long(path: &[u8]) -> Option<&[u8]> {
+    if !rules().is_openbsd || path.len() > PATH_LIMIT {
+        return None;
+    }
+    let mut start = 0;
+    for piece in path.split(|byte| *byte == b'/') {
+        if piece.len() > NAME_LIMIT {
+            return Some(if start == 0 { b"." } else { &path[..start] });
+        }
+        start += piece.len() + 1;
+    }
+    None
 }
 
 fn path_fault(path: &[u8]) -> Result<(), Errno> {

@@ -21,8 +21,7 @@ our @RULES = (
     ['rename-above', 'linux',   'rename onto a directory above the old name is ENOTEMPTY, whatever is moved'],
     ['connect',      'profile', 'connect to what is no socket that listens is ECONNREFUSED'],
     ['dead-cwd',     'profile', 'from a working directory that is removed `.` and `..` go on'],
-    ['late-name',    'profile', 'a component that is too long is judged where it stands'],
-    ['rename-early', 'profile', 'rename refuses `.`, `..` and `/` before it looks up the last names'],
+    ['rename-early', 'profile', 'rename refuses `.`, `..` and `/`, and looks up both directories, before the last names'],
     ['made-slash',   'profile', 'a slash behind a name that is made or unlinked: the link there is not followed'],
     ['rmdir-dotdot', 'profile', 'rmdir of `..` is ENOTEMPTY'],
     ['target',       'profile', 'of the target of a link that is made only the whole length is judged'],
@@ -69,8 +68,7 @@ sub _parent {
 sub _fault_of {
     my ($linux, $text) = @_;
     return 'ENOENT' if $text eq '';
-    return 'ENAMETOOLONG' if length $text > ($linux->{by}{pathmax} ? 4095 : 1023);
-    return !$linux->{by}{'late-name'} && grep({ length > 255 } split m{/}, $text) ? 'ENAMETOOLONG' : '';
+    return length $text > ($linux->{by}{pathmax} ? 4095 : 1023) ? 'ENAMETOOLONG' : '';
 }
 
 # The parts of a text. A slash behind the last one adds `.`, if it isn't dropped; or, where something is to be created
@@ -178,6 +176,7 @@ sub _rename {
     my @found;
     for my $path (map { unspelled($_) } @paths) {
         my ($errno, $found) = $linux->resolve($process->{dir}, $path, 0, 1);
+        $errno ||= $found->{fault} if !$by->{'rename-early'};
         return $errno if $errno;
         push @found, $found;
     }
