@@ -24,6 +24,7 @@ use Rattle.pua_policy.specs.Misfits.{misfit, misfit_errno}
 use Rattle.pua_policy.specs.Verdict.{Object}
 use Rattle.pua_calls.specs.declared.fits.Misfit.{Misfit}
 use Rattle.pua_calls.specs.declared.fits.Misfit.TheVariants.{Missing, Exists, IsDirectory, IsNoFile, IsNoDirectory, IsNoLink}
+use Rattle.pua_calls.specs.declared.rules.Rules.{Rules}
 use Rattle.pua_calls.specs.declared.fits.Misfit.TheVariants.{IsNoProgram, IsNotEmpty, ByDot, ByDotDot, ByNothing, IsNoSocket, InUse}
 use Rattle.pua_policy.specs.declared.answer.Cover.TheVariants as covers
 use Rattle.pua_policy.specs.declared.answer.UnveilFault.{UnveilFault}
@@ -196,8 +197,8 @@ misfit_apart (Some ByNothing) = λ e. cc
 misfit_apart (Some IsNoSocket) = λ e. cc
 misfit_apart (Some InUse) = λ e. cc
 
-object_apart : (t : Tree) (c : Call) (o : Object) → Apart (object_fault t c o)
-object_apart t c o = misfit_apart (misfit t c o)
+object_apart : (whose : Rules) (t : Tree) (c : Call) (o : Object) → Apart (object_fault whose t c o)
+object_apart whose t c o = misfit_apart (misfit whose t c o)
 
 veil_apart : (o : Option UnveilFault) → Apart (unveil_errno o)
 veil_apart None = λ e. cc
@@ -236,7 +237,7 @@ pub object_has_room : (table : CallTable) (t : Tree) (h : ProcessState) (c : Cal
     HasRoom (decide_object table t (asker_of h) c path (λ x. Ok (f x)))
 object_has_room table t h c path f = named_apart (path_named table.whose t (working_dir h) (ending_of c) path (last_of c)) _
     (named_any table.whose t (working_dir h) (ending_of c) path (last_of c)) λ x.
-    checked_apart _ _ (or_apart _ _ (cover_apart (cover t h x) (rule_of table c).perms) (object_apart t c (object_of t x)))
+    checked_apart _ _ (or_apart _ _ (cover_apart (cover t h x) (rule_of table c).perms) (object_apart table.whose t c (object_of t x)))
     (granted_apart (f x))
 
 pub pair_has_room : (whose : Rules) (pair : PairRule) (t : Tree) (h : ProcessState) (end : Ending) (old_path new_path : List ℕ) (f : Found → Found → Decision) →

@@ -75,7 +75,7 @@ module _ (t : Tree) (h : ProcessState) where
       let at = from_named named (λ x. unless_fault (found_fault t table h c x) (Ok (g x))) change e in
       let free = from_checked (found_fault t table h c at.0) (Ok (g at.0)) change at.2 in
       let a = cover_fault (cover t h at.0) (rule_of table c).perms in
-      let b = object_fault t c (object_of t at.0) in
+      let b = object_fault table.whose t c (object_of t at.0) in
       (at.0, record { promised = may; found = named_ok table.whose t (working_dir h) path (object_named t h c path) at.0 at.1; covered = first_none a b free.0; fitting = second_none a b free.0 }, is_ok _ _ free.1)
 
   -- what both paths named

@@ -231,7 +231,7 @@ abbrev pub object_by : {E R : Type 0} → Telling E R → CallTable → Tree →
 object_by told table t asker call path further =
     on_named told.failed (asker.path table.whose Sole t (ending_of call) path (last_of call)) λ object.
     unless_failed told.failed (or_fault (asker.cover Sole t object (rule_of table call).perms)
-    (option_map (told.misfit Sole object) (misfit t call (object_of t object)))) (further object)
+    (option_map (told.misfit Sole object) (misfit table.whose t call (object_of t object)))) (further object)
 
 abbrev pub call_by : {E R : Type 0} → Telling E R → CallTable → Tree → Asker E R → Call → List ℕ → Outcome R
 call_by told table t asker call path =

@@ -62,14 +62,14 @@ module _ (t : Tree) (l m s : ProcessState) (c : Covered t l m s) where
       Agree (object_by refusals table t (asker_of l) call path (λ x. Ok (f x))) (object_by refusals table t (asker_of m) call path (λ x. Ok (f x)))
       (object_by refusals table t (asker_of s) call path (λ x. Ok (f x)))
   object_agrees table call path f = at_path table.whose (ending_of call) path (last_of call) (checked l) (checked m) (checked s)
-      (λ x. misses_or (fault l x perms) (fault m x perms) (fault s x perms) (option_map (refusals.misfit Sole x) (misfit t call (object_of t x)))
+      (λ x. misses_or (fault l x perms) (fault m x perms) (fault s x perms) (option_map (refusals.misfit Sole x) (misfit table.whose t call (object_of t x)))
       (c.misses x perms) (passes x perms) (Ok (f x)))
     where
       perms : ℕ
       perms = (rule_of table call).perms
 
       checked : ProcessState → Found → Decision
-      checked z x = check (or_fault (fault z x perms) (option_map (refusals.misfit Sole x) (misfit t call (object_of t x)))) (Ok (f x))
+      checked z x = check (or_fault (fault z x perms) (option_map (refusals.misfit Sole x) (misfit table.whose t call (object_of t x)))) (Ok (f x))
 
   pub pair_agrees : (whose : Rules) (pair : PairRule) (end : Ending) (old new : List ℕ) (f : Found → Found → Decision) →
       Agree (objects_by refusals whose pair t (asker_of l) end old new f) (objects_by refusals whose pair t (asker_of m) end old new f)

@@ -77,7 +77,7 @@ module _ (c : Change) where
 module _ (table : CallTable) (t : Tree) (a b : Requester) (easier : Easier a b) (c : Change) where
   abbrev checked : Requester → Call → (Found → Decision) → Found → Decision
   checked asker call f object = unless_failed refusals.failed (or_fault (asker.cover Sole t object (rule_of table call).perms)
-      (option_map (refusals.misfit Sole object) (misfit t call (object_of t object)))) (f object)
+      (option_map (refusals.misfit Sole object) (misfit table.whose t call (object_of t object)))) (f object)
 
   object_more : (call : Call) (path : List ℕ) (f : Found → Decision) →
       object_by refusals table t a call path f ≡ Ok c → object_by refusals table t b call path f ≡ Ok c
@@ -85,9 +85,9 @@ module _ (table : CallTable) (t : Tree) (a b : Requester) (easier : Easier a b) 
       (b.path table.whose Sole t (ending_of call) path (last_of call)) (checked a call f) (checked b call f)
       (easier.path table.whose Sole t (ending_of call) path (last_of call))
       (λ x. past_failed c (or_fault (a.cover Sole t x (rule_of table call).perms)
-      (option_map (refusals.misfit Sole x) (misfit t call (object_of t x))))
-      (or_fault (b.cover Sole t x (rule_of table call).perms) (option_map (refusals.misfit Sole x) (misfit t call (object_of t x))))
-      (f x) (f x) (or_less _ _ (option_map (refusals.misfit Sole x) (misfit t call (object_of t x)))
+      (option_map (refusals.misfit Sole x) (misfit table.whose t call (object_of t x))))
+      (or_fault (b.cover Sole t x (rule_of table call).perms) (option_map (refusals.misfit Sole x) (misfit table.whose t call (object_of t x))))
+      (f x) (f x) (or_less _ _ (option_map (refusals.misfit Sole x) (misfit table.whose t call (object_of t x)))
       (easier.cover Sole t x (rule_of table call).perms)) (λ e. e))
 
   call_more : (call : Call) (path : List ℕ) → call_by refusals table t a call path ≡ Ok c → call_by refusals table t b call path ≡ Ok c

@@ -230,12 +230,12 @@ pub object_plain : (table : CallTable) (t : Tree) (h : ProcessState) (c : Call) 
     rare (object_by refusals table t (asker_of h) c path (λ x. Ok (f x))) ≡ false
 object_plain table t h c path f = named_plain (path_named table.whose t (working_dir h) (ending_of c) path (last_of c))
     (λ x. unless_failed refusals.failed (or_fault (cover_fault (cover t h x) (rule_of table c).perms)
-    (option_map misfit_errno (misfit t c (object_of t x)))) (Ok (f x)))
+    (option_map misfit_errno (misfit table.whose t c (object_of t x)))) (Ok (f x)))
     (named_any table.whose t (working_dir h) (ending_of c) path (last_of c))
-    (λ x. checked_plain (or_fault (cover_fault (cover t h x) (rule_of table c).perms) (option_map misfit_errno (misfit t c (object_of t x))))
+    (λ x. checked_plain (or_fault (cover_fault (cover t h x) (rule_of table c).perms) (option_map misfit_errno (misfit table.whose t c (object_of t x))))
     (Ok (f x))
-    (or_plain (cover_fault (cover t h x) (rule_of table c).perms) (option_map misfit_errno (misfit t c (object_of t x)))
-    (cover_plain (cover t h x) (rule_of table c).perms) (misfit_plain (misfit t c (object_of t x)))) refl)
+    (or_plain (cover_fault (cover t h x) (rule_of table c).perms) (option_map misfit_errno (misfit table.whose t c (object_of t x)))
+    (cover_plain (cover t h x) (rule_of table c).perms) (misfit_plain (misfit table.whose t c (object_of t x)))) refl)
 
 pub objects_plain : (whose : Rules) (pair : PairRule) (t : Tree) (h : ProcessState) (end : Ending) (old new : List ℕ) (f : Found → Found → Decision) →
     ((x y : Found) → rare (f x y) ≡ false) → rare (objects_by refusals whose pair t (asker_of h) end old new f) ≡ false

@@ -96,7 +96,7 @@ grants_are_told t table h call text change e =
     by (promising h (rule_of table call).alternatives) refl (call_trace t h call text).outcome refl e
   where
     wrong : Found → Option Fault
-    wrong object = option_map (Unfit Sole object) (misfit t call (object_of t object))
+    wrong object = option_map (Unfit Sole object) (misfit table.whose t call (object_of t object))
 
     by : (p : Promising) → promising h (rule_of table call).alternatives ≡ p → (o : Result Found PathFault) →
         (call_trace t h call text).outcome ≡ o →

@@ -162,9 +162,9 @@ module _ (t : Tree) (h : ProcessState) where
   cover_told side object perms = uncovered_told side object perms (covering t h object) ∙
       ap (λ c. Failing (cover_fault c perms)) (coverings_cover t h object)
 
-  object_told : (c : Call) (object : Found) →
-      Told (option_map (Unfit Sole object) (misfit t c (object_of t object))) ≡ Failing (object_fault t c (object_of t object))
-  object_told c object = wrong_told object (misfit t c (object_of t object))
+  object_told : (table : CallTable) (c : Call) (object : Found) →
+      Told (option_map (Unfit Sole object) (misfit table.whose t c (object_of t object))) ≡ Failing (object_fault table.whose t c (object_of t object))
+  object_told table c object = wrong_told object (misfit table.whose t c (object_of t object))
 
   -- what a path names by a table's rules, or why it names nothing
   front_told : (fault : PathFault) (o : Result Found PathFault) (r : Result Found Errno) → object_or_errno o ≡ r →
@@ -208,7 +208,7 @@ module _ (t : Tree) (h : ProcessState) where
       (path_named table.whose t (working_dir h) (ending_of c) path (last_of c)) _ _
       (path_told table.whose (ending_of c) path (last_of c)) λ x.
       failed_told _ (found_fault t table h c x) (Ok (f x)) (Ok (f x)) (or_told _ _ _ _ (cover_told Sole x (rule_of table c).perms)
-      (object_told c x)) refl
+      (object_told table c x)) refl
 
   -- two paths
   pair_told : (whose : Rules) (rules : PairRule) (end : Ending) (old new : List ℕ) (f : Found → Found → Outcome Fault) (g : Found → Found → Decision) →

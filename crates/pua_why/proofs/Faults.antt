@@ -25,13 +25,13 @@ module _ (t : Tree) (table : CallTable) (h : ProcessState) (c : Call) (text : Li
   abbrev Is : Fault → Type 0
   Is = CallFaultHolds t table h c text
 
-  wrong_true : (object : Found) (wrong : Option Misfit) (bad : Fault) → misfit t c (object_of t object) ≡ wrong →
+  wrong_true : (object : Found) (wrong : Option Misfit) (bad : Fault) → misfit table.whose t c (object_of t object) ≡ wrong →
       (call_trace t h c text).outcome ≡ Ok object →
       option_map (Unfit Sole object) wrong ≡ Some bad → Is bad
   wrong_true object None bad m o e = cc
   wrong_true object (Some wrong) bad m o e =
       let same : Unfit Sole object wrong ≡ bad = cc in
-      subst Is same (o, m, subst (λ x. IfSome x (MisfitHolds t (object_of t object))) m (misfits_hold t c (object_of t object)))
+      subst Is same (o, m, subst (λ x. IfSome x (MisfitHolds t (object_of t object))) m (misfits_hold table.whose t c (object_of t object)))
 
   -- once its promises are held
   pub object_true : (f : Found → Change) (fault : Fault) →
@@ -43,7 +43,7 @@ module _ (t : Tree) (table : CallTable) (h : ProcessState) (c : Call) (text : Li
       (λ bad e. either_true _ _ bad Is
       (uncovered_true Sole object (rule_of table c).perms (covering t h object) bad Is (λ none. (o, none))
       (λ place given over lacks. (object, o, over, lacks, refl)))
-      (wrong_true object (misfit t c (object_of t object)) bad refl o) e)
+      (wrong_true object (misfit table.whose t c (object_of t object)) bad refl o) e)
       (λ granted. cc) e) e
 
 pub call_faults_hold : CallFaultsHold

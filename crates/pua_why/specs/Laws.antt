@@ -127,7 +127,7 @@ CallFaultHolds t table h call text (LacksLetters Sole place given lacks) =
     (object : Found) × ((call_trace t h call text).outcome ≡ Ok object) × (covering t h object ≡ By place given)
     × (holds given (rule_of table call).perms ≡ false) × (lacks ≡ lacking given (rule_of table call).perms)
 CallFaultHolds t table h call text (Unfit Sole object wrong) =
-    ((call_trace t h call text).outcome ≡ Ok object) × (misfit t call (object_of t object) ≡ Some wrong) ×
+    ((call_trace t h call text).outcome ≡ Ok object) × (misfit table.whose t call (object_of t object) ≡ Some wrong) ×
     MisfitHolds t (object_of t object) wrong
 CallFaultHolds t table h call text _ = ⊥
 

@@ -214,7 +214,7 @@ pub(crate) fn object_fault<'s, T: FileTree>(
     if fault.is_some() {
         return fault;
     }
-    let wrong = misfit(&mut probe, call, &found)?;
+    let wrong = misfit(&mut probe, table.rules(), call, &found)?;
     Some(Fault::Unfit(Side::Sole, found, wrong))
 }
 
@@ -238,7 +238,7 @@ pub(crate) fn fit_fault<'s, T: FileTree>(
         Ok(found) => found,
         Err(fault) => return Some(Fault::BadPath(Side::Sole, fault)),
     };
-    let wrong = misfit(&mut probe, call, &found)?;
+    let wrong = misfit(&mut probe, table.rules(), call, &found)?;
     Some(Fault::Unfit(Side::Sole, found, wrong))
 }
 
