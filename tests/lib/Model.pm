@@ -226,8 +226,9 @@ sub _misfit {
     my $errno = $MISFITS{$call}{ $model->_kind($found) } || '';
     return $errno unless $errno eq 'way';
     return 'EBUSY' if $found->{way} eq '';
-    return 'EINVAL' if $found->{way} ne 'name';
-    return $model->_is_empty($found->{dir}) ? '' : 'ENOTEMPTY';
+    return 'EINVAL' if $found->{way} eq '.' || $found->{way} eq '..' && !$model->{openbsd};
+    return 'ENOTEMPTY' if !$model->_is_empty($found->{dir});
+    return $found->{way} eq '..' ? 'EINVAL' : '';
 }
 
 # Why a call is refused what was found: for its veil, or since it does not suit. Nothing where it isn't.

@@ -76,7 +76,7 @@ module _ (t : Tree) (well : WellFormed t) (table : CallTable) (sound : NoCallNee
   allowed_too c (At object) e = verdicts_within both h within table sound t c (Ok object) e
   allowed_too c (Others dir) e =
       allowed_if (may_any h (rule_of table c).alternatives) (may_any both (rule_of table c).alternatives)
-      (allowed_unless (or_fault (cover_fault (cover_in t both dir) (rule_of table c).perms) (object_fault t c IsMissing)))
+      (allowed_unless (or_fault (cover_fault (cover_in t both dir) (rule_of table c).perms) (object_fault table.whose t c IsMissing)))
       (may_yes both h within (rule_of table c).alternatives (sound.calls c)) e
 
   -- and its promises are held

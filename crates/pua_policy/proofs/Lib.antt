@@ -16,4 +16,5 @@ pub mod Veiled
 pub mod Coverings
 pub mod NearestVeil
 pub mod Misfits
+pub mod Suiting
 pub mod ForCallers

@@ -24,7 +24,7 @@ use Rattle.pua_policy.specs.declared.object.Object.TheVariants as see
 use Rattle.pua_policy.specs.declared.place.Place.TheVariants.{Dir, Slot}
 use Rattle.pua_policy.specs.declared.reason.Covering.TheVariants.{InView, NoneOver, By}
 use Rattle.pua_calls.specs.declared.fits.Misfit.TheVariants.{Exists, IsDirectory, IsNoFile, IsNoDirectory, IsNoLink, IsNoProgram}
-use Rattle.pua_calls.specs.declared.fits.Misfit.TheVariants.{IsNotEmpty, IsNoSocket, InUse}
+use Rattle.pua_calls.specs.declared.fits.Misfit.TheVariants.{IsNotEmpty, ByDotDot, IsNoSocket, InUse}
 use Rattle.pua_policy.specs.declared.answer.UnveilFault.TheVariants.{NotPermitted}
 use Rattle.pua_policy.specs.declared.answer.Cover.TheVariants.{Only}
 use Rattle.pua_policy.specs.declared.answer.May.TheVariants as may
@@ -114,24 +114,28 @@ verdict_rows = record {
 
 -- the last check, call by call and object by object
 pub record LastCheckRows : Type 0 where
-  pub directory : map (λ call. object_fault example_tree call (IsDir 1 (way.Named 0 (codes "etc")))) calls
+  pub directory : map (λ call. object_fault Standard example_tree call (IsDir 1 (way.Named 0 (codes "etc")))) calls
       ≡ None ∷ None ∷ Some EINVAL ∷ None ∷ Some EISDIR ∷ Some EISDIR ∷ Some EISDIR ∷ Some EEXIST ∷ Some ENOTEMPTY ∷ Some EPERM ∷ Some EEXIST
       ∷ None ∷ None ∷ Some EACCES ∷ Some ENOTSOCK ∷ Some EADDRINUSE ∷ Some EEXIST ∷ None ∷ Some EISDIR ∷ None ∷ None ∷ []
-  pub file : map (λ call. object_fault example_tree call IsFile) calls
+  pub file : map (λ call. object_fault Standard example_tree call IsFile) calls
       ≡ None ∷ None ∷ Some EINVAL ∷ None ∷ None ∷ None ∷ None ∷ Some EEXIST ∷ Some ENOTDIR ∷ None ∷ Some EEXIST ∷ None ∷ Some ENOTDIR
       ∷ Some EACCES ∷ None ∷ Some EADDRINUSE ∷ Some EEXIST ∷ None ∷ None ∷ None ∷ None ∷ []
-  pub program : map (λ call. object_fault example_tree call IsProg) calls
+  pub program : map (λ call. object_fault Standard example_tree call IsProg) calls
       ≡ None ∷ None ∷ Some EINVAL ∷ None ∷ None ∷ None ∷ None ∷ Some EEXIST ∷ Some ENOTDIR ∷ None ∷ Some EEXIST ∷ None ∷ Some ENOTDIR ∷ None
       ∷ Some ENOTSOCK ∷ Some EADDRINUSE ∷ Some EEXIST ∷ None ∷ None ∷ None ∷ None ∷ []
-  pub link : map (λ call. object_fault example_tree call IsLink) (filter keeps_link calls)
+  pub link : map (λ call. object_fault Standard example_tree call IsLink) (filter keeps_link calls)
       ≡ None ∷ None ∷ Some EEXIST ∷ Some ENOTDIR ∷ None ∷ Some EEXIST ∷ Some EADDRINUSE ∷ Some EEXIST ∷ []
-  pub missing_name : map (λ call. object_fault example_tree call IsMissing) calls
+  pub missing_name : map (λ call. object_fault Standard example_tree call IsMissing) calls
       ≡ Some ENOENT ∷ Some ENOENT ∷ Some ENOENT ∷ Some ENOENT ∷ Some ENOENT ∷ Some ENOENT ∷ None ∷ None ∷ Some ENOENT ∷ Some ENOENT ∷ None
       ∷ Some ENOENT ∷ Some ENOENT ∷ Some ENOENT ∷ Some ENOENT ∷ None ∷ None ∷ Some ENOENT ∷ None ∷ Some ENOENT ∷ Some ENOENT ∷ []
-  pub by_dot : rmdir_fault example_tree 1 way.Dot ≡ Some EINVAL
-  pub by_dots : rmdir_fault example_tree 1 way.DotDot ≡ Some EINVAL
-  pub at_top : rmdir_fault example_tree 0 way.Top ≡ Some EBUSY
-  pub empty_directory : rmdir_fault empty_tree 0 (way.Named 0 (codes "d")) ≡ None
+  pub by_dot : rmdir_fault Standard example_tree 1 way.Dot ≡ Some EINVAL
+  pub by_dots : rmdir_fault Standard example_tree 1 way.DotDot ≡ Some EINVAL
+  -- OpenBSD's rules look at the directory that `..` names; only the root can be empty
+  pub openbsd_by_dots : rmdir_fault Openbsd example_tree 1 way.DotDot ≡ Some ENOTEMPTY
+  pub openbsd_above_nothing : rmdir_fault Openbsd empty_tree 0 way.DotDot ≡ Some EINVAL
+  pub openbsd_by_dot : rmdir_fault Openbsd example_tree 1 way.Dot ≡ Some EINVAL
+  pub at_top : rmdir_fault Standard example_tree 0 way.Top ≡ Some EBUSY
+  pub empty_directory : rmdir_fault Standard empty_tree 0 (way.Named 0 (codes "d")) ≡ None
 
 pub last_check_rows : LastCheckRows
 last_check_rows = record {
@@ -142,6 +146,9 @@ last_check_rows = record {
   missing_name = refl;
   by_dot = refl;
   by_dots = refl;
+  openbsd_by_dots = refl;
+  openbsd_above_nothing = refl;
+  openbsd_by_dot = refl;
   at_top = refl;
   empty_directory = refl;
 }
@@ -182,11 +189,11 @@ pub record ReasonRows : Type 0 where
   pub nearer_veil : covering example_tree (state_of three_veils) (found.Slot 3 (codes "sh") (Some 7)) ≡ By (Dir 3) 0
   pub root_veil : covering example_tree (state_of three_veils) (found.Slot 1 (codes "x") None) ≡ By (Dir 0) reading
   pub none_over : covering example_tree (state_of (Unveiled (Dir 3) reading ∷ new_history)) (found.Whole 1 (way.Named 0 (codes "etc"))) ≡ NoneOver
-  pub directory : map (λ call. misfit example_tree call (IsDir 1 (way.Named 0 (codes "etc")))) calls
+  pub directory : map (λ call. misfit Standard example_tree call (IsDir 1 (way.Named 0 (codes "etc")))) calls
       ≡ None ∷ None ∷ Some IsNoLink ∷ None ∷ Some IsDirectory ∷ Some IsDirectory ∷ Some IsDirectory ∷ Some Exists ∷ Some IsNotEmpty
       ∷ Some IsNoFile ∷ Some Exists ∷ None ∷ None ∷ Some IsNoProgram ∷ Some IsNoSocket ∷ Some InUse
       ∷ Some Exists ∷ None ∷ Some IsDirectory ∷ None ∷ None ∷ []
-  pub file : map (λ call. misfit example_tree call IsFile) (Rmdir ∷ Unlink ∷ Exec ∷ Bind ∷ Mknod ∷ Chown ∷ CreateBoth ∷ Fchmod ∷ Fchown ∷ [])
+  pub file : map (λ call. misfit Standard example_tree call IsFile) (Rmdir ∷ Unlink ∷ Exec ∷ Bind ∷ Mknod ∷ Chown ∷ CreateBoth ∷ Fchmod ∷ Fchown ∷ [])
       ≡ Some IsNoDirectory ∷ None ∷ Some IsNoProgram ∷ Some InUse ∷ Some Exists ∷ None ∷ None ∷ None ∷ None ∷ []
 
 pub reason_rows : ReasonRows
@@ -215,6 +222,11 @@ both_for_exec = Pledged None (Some (rpath + cpath)) ∷ new_history
 pub record RuleRows : Type 0 where
   pub chmod : verdict_on example_tree openbsd_table (state_of fattr_alone) Chmod (codes "/etc") ≡ Death
   pub standard_chmod : verdict_on example_tree standard_table (state_of fattr_alone) Chmod (codes "/etc") ≡ Allowed
+  -- what is not empty is named, and the errno says so
+  pub parent_misfit : misfit Openbsd example_tree Rmdir (IsDir 1 way.DotDot) ≡ Some IsNotEmpty
+  pub standard_parent_misfit : misfit Standard example_tree Rmdir (IsDir 1 way.DotDot) ≡ Some ByDotDot
+  pub parent : verdict_on example_tree openbsd_table (state_of new_history) Rmdir (codes "/etc/..") ≡ Failed ENOTEMPTY
+  pub standard_parent : verdict_on example_tree standard_table (state_of new_history) Rmdir (codes "/etc/..") ≡ Failed EINVAL
   -- execpromises stay after an exec, for the next one
   pub exec_promises : pledged_set (after_exec (execpromises_by Openbsd) both_for_exec) ≡ Some (rpath + cpath)
   pub exec_stay : held_for_exec (after_exec (execpromises_by Openbsd) both_for_exec) ≡ Some (rpath + cpath)
@@ -226,6 +238,10 @@ pub rule_rows : RuleRows
 rule_rows = record {
   chmod = refl;
   standard_chmod = refl;
+  parent_misfit = refl;
+  standard_parent_misfit = refl;
+  parent = refl;
+  standard_parent = refl;
   exec_promises = refl;
   exec_stay = refl;
   standard_exec_promises = refl;

@@ -29,7 +29,7 @@ pub record OnOne (table : CallTable) (t : Tree) (h : ProcessState) (call : Call)
   pub promised : may_any h (rule_of table call).alternatives ≡ may.Yes
   pub found : object_named t h call path ≡ Ok object
   pub covered : cover_fault (cover t h object) (rule_of table call).perms ≡ None
-  pub fitting : object_fault t call (object_of t object) ≡ None
+  pub fitting : object_fault table.whose t call (object_of t object) ≡ None
 
 -- two paths: the promises and the letters of both names, and the node that the old one named
 pub record OnTwo (pair : PairRule) (t : Tree) (h : ProcessState) (ending : Ending) (old_path new_path : List ℕ) (old new : Found) (x : ℕ) : Type

@@ -3,7 +3,6 @@ use Rattle.std.specs.Prelude.{ℕ, List, Bool, Option, Some, None, Result, Ok, E
 use Rattle.pua_tree.specs.Tree.{Node, Tree, Spot}
 use Rattle.pua_tree.specs.declared.node.Kind.TheVariants as kind
 use Rattle.pua_path.specs.Fits.{FoundFits, StandsAsNamed}
-use Rattle.pua_path.specs.Resolution.{resolution_of_text}
 use Rattle.pua_path.specs.declared.text.Ending.{Ending}
 use Rattle.pua_path.specs.declared.found.Found.{Found}
 use Rattle.pua_calls.specs.Calls.{PairRule, effect_of}
@@ -16,7 +15,8 @@ use Rattle.pua_policy.specs.Verdict.{place_of}
 use Rattle.pua_policy.specs.declared.answer.Refusal.{Refusal}
 use Rattle.pua_script.specs.Decide.{NoChange, AddNode, CutRow, ShiftRow, TieRow, BeginProgram, AddEvent, Requester, Change, Decision, pledging}
 use Rattle.pua_script.specs.Decide.{veiling}
-use Rattle.pua_script.specs.Decide.{plain_node, link_node, made_in, making, cutting, if_named, unless_fault, covers_by, asker_of}
+use Rattle.pua_script.specs.Decide.{plain_node, link_node, made_in, making, cutting, if_named, unless_fault, covers_by, asker_of, path_named}
+use Rattle.pua_calls.specs.declared.rules.Rules.{Rules}
 use Rattle.pua_script.specs.declared.granted.Granted.{Granted}
 use Rattle.pua_script.specs.declared.granted.Granted.TheVariants as granted
 use Rattle.pua_script.specs.declared.granted.NewNode.{NewNode}
@@ -78,10 +78,10 @@ tied (Ok (Some tie)) = Ok (TieRow (tie.dir, tie.name.bytes.now) tie.node)
 tied (Err refusal) = Err refusal
 
 -- further checks of what both paths of a request name, where both are covered with what their names need
-abbrev pub if_covered : PairRule → Tree → ProcessState → Ending → List ℕ → List ℕ → (Found → Found → Decision) → Decision
-if_covered need t p ending old new further =
-    if_named (resolution_of_text t p.dir ending old need.old.last) λ from.
-    if_named (resolution_of_text t p.dir ending new need.new.last) λ to.
+abbrev pub if_covered : Rules → PairRule → Tree → ProcessState → Ending → List ℕ → List ℕ → (Found → Found → Decision) → Decision
+if_covered whose need t p ending old new further =
+    if_named (path_named whose t p.dir ending old need.old.last) λ from.
+    if_named (path_named whose t p.dir ending new need.new.last) λ to.
     unless_fault (covers_by need t (asker_of p) from to) (further from to)
 
 -- further checks of what was judged

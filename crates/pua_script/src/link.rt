@@ -9,7 +9,7 @@ ghost use Rattle.pua_script.specs.Judged.{decision_by, if_covered, tied};
 
 use crate::granted::Granted;
 use crate::pair::{is_whole, judge_pair, node_named, spot_named};
-use pua_calls::PairNeed;
+use pua_calls::{CallTable, PairNeed};
 use pua_path::{Ending, Errno, LentFound};
 use pua_policy::{Process, Refusal};
 use pua_tree::{FileTree, LentName, Name, NodeId};
@@ -26,16 +26,18 @@ pub(crate) struct Tie<'a> {
 /// unless something is wrong with what both paths named; None where nothing is to get one.
 pub(crate) fn judge_link<'t, T: FileTree>(
     tree: &'t T,
+    table: &CallTable,
     process: &Process,
     need: &PairNeed,
     old: &'t [u8],
     new: &'t [u8],
 ) -> Result<Option<Tie<'t>>, Refusal>
-    ensures { tied result ≡ if_covered need.now (T.content tree.now) process.now Dot old.now new.now
+    ensures { tied result ≡ if_covered table.now.whose need.now (T.content tree.now) process.now Dot
+        old.now new.now
         (λ from to. decide_link from to (node_named from)) }
 {
     let ending = Ending::Dot;
-    match judge_pair(tree, process, need, ending, old, new) {
+    match judge_pair(tree, table, process, need, ending, old, new) {
         Ok(pair) => decide_tie(&pair.from, &pair.to),
         Err(errno) => Err(Refusal::Failed(errno)),
     }

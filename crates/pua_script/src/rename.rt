@@ -14,7 +14,7 @@ ghost use Rattle.pua_script.specs.Judged.{decision_by, if_covered, shifted};
 
 use crate::granted::Granted;
 use crate::pair::{Pair, is_whole, judge_pair, node_named, spot_named};
-use pua_calls::{PairNeed, Rules};
+use pua_calls::{CallTable, PairNeed, Rules};
 use pua_path::{Ending, Errno, LentFound, LentWay};
 use pua_policy::{Process, Refusal};
 use pua_tree::{FileTree, Kind, LentName, Name, NodeId};
@@ -53,17 +53,18 @@ fn ends_in_slash(text: &[u8]) -> bool
 /// whether a directory is asked for, so that what is none is `ENOTDIR`.
 pub(crate) fn judge_rename<'t, T: FileTree>(
     tree: &'t T,
+    table: &CallTable,
     process: &Process,
     need: &PairNeed,
     asks: bool,
     old: &'t [u8],
     new: &'t [u8],
 ) -> Result<Option<Shift<'t>>, Refusal>
-    ensures { shifted result ≡ if_covered need.now (T.content tree.now) process.now Dropped
-        old.now new.now
+    ensures { shifted result ≡ if_covered table.now.whose need.now (T.content tree.now) process.now
+        Dropped old.now new.now
         (λ from to. decide_rename (T.content tree.now) asks from to (node_named from)) }
 {
-    match judge_pair(tree, process, need, Ending::Dropped, old, new) {
+    match judge_pair(tree, table, process, need, Ending::Dropped, old, new) {
         Ok(pair) => decide_shift(tree, asks, &pair),
         Err(errno) => Err(Refusal::Failed(errno)),
     }

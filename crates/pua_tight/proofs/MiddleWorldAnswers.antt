@@ -203,32 +203,32 @@ module _ (table : CallTable) (t : Tree) (l m s : ProcessState) (w : StateThree l
   unveil_agrees path a b less = promises (unveil ∷ []) (omega arith) (at l b) (at m a) (at s a)
       (same_check (fault_if l.locked EPERM) (fault_if m.locked EPERM) (fault_if s.locked EPERM)
       (ap (λ x. fault_if x EPERM) w.locked) (ap (λ x. fault_if x EPERM) later.locked)
-      (veil_by refusals t (asker_of l) path (Some b)) (veil_by refusals t (asker_of m) path (Some a)) (veil_by refusals t (asker_of s) path (Some a))
-      (at_path t l m s covered ending.Dot path Followed (veiled l b) (veiled m a) (veiled s a)
+      (veil_by refusals table.whose t (asker_of l) path (Some b)) (veil_by refusals table.whose t (asker_of m) path (Some a)) (veil_by refusals table.whose t (asker_of s) path (Some a))
+      (at_path t l m s covered table.whose ending.Dot path Followed (veiled l b) (veiled m a) (veiled s a)
       (λ x. last_check (unveil_errno (unveil_fault l (place_of x) b)) (unveil_errno (unveil_fault m (place_of x) a))
       (unveil_errno (unveil_fault s (place_of x) a)) (place_misses (place_of x) a b less) ((easier m s later).place (place_of x) a)
       (Ok (AddEvent (Unveiled (place_of x) b))) (Ok (AddEvent (Unveiled (place_of x) a))))))
-      (plain_late (at m a) (at s a) (checked_plain (fault_if s.locked EPERM) (veil_by refusals t (asker_of s) path (Some a))
-      (locked_plain s.locked) (veiling_plain t s path (Some a))))
+      (plain_late (at m a) (at s a) (checked_plain (fault_if s.locked EPERM) (veil_by refusals table.whose t (asker_of s) path (Some a))
+      (locked_plain s.locked) (veiling_plain table.whose t s path (Some a))))
     where
       veiled : ProcessState → ℕ → Found → Decision
       veiled z n x = check (unveil_errno (unveil_fault z (place_of x) n)) (Ok (AddEvent (Unveiled (place_of x) n)))
 
       at : ProcessState → ℕ → Decision
-      at z n = check (fault_if z.locked EPERM) (veil_by refusals t (asker_of z) path (Some n))
+      at z n = check (fault_if z.locked EPERM) (veil_by refusals table.whose t (asker_of z) path (Some n))
 
   unveil_unknown : (path : List ℕ) →
       Agree (decide table t l (Unveil path None)) (decide table t m (Unveil path None)) (decide table t s (Unveil path None))
   unveil_unknown path = promises (unveil ∷ []) (omega arith) (at l) (at m) (at s)
       (same_check (fault_if l.locked EPERM) (fault_if m.locked EPERM) (fault_if s.locked EPERM)
       (ap (λ x. fault_if x EPERM) w.locked) (ap (λ x. fault_if x EPERM) later.locked)
-      (veil_by refusals t (asker_of l) path None) (veil_by refusals t (asker_of m) path None) (veil_by refusals t (asker_of s) path None)
+      (veil_by refusals table.whose t (asker_of l) path None) (veil_by refusals table.whose t (asker_of m) path None) (veil_by refusals table.whose t (asker_of s) path None)
       (λ e. refl))
-      (plain_late (at m) (at s) (checked_plain (fault_if s.locked EPERM) (veil_by refusals t (asker_of s) path None)
-      (locked_plain s.locked) (veiling_plain t s path None)))
+      (plain_late (at m) (at s) (checked_plain (fault_if s.locked EPERM) (veil_by refusals table.whose t (asker_of s) path None)
+      (locked_plain s.locked) (veiling_plain table.whose t s path None)))
     where
       at : ProcessState → Decision
-      at z = check (fault_if z.locked EPERM) (veil_by refusals t (asker_of z) path None)
+      at z = check (fault_if z.locked EPERM) (veil_by refusals table.whose t (asker_of z) path None)
 
   pledge_agrees : {p q e f : Given} → GivenWithin p q → GivenWithin e f →
       Agree (decide table t l (Pledge q f)) (decide table t m (Pledge p e)) (decide table t s (Pledge p e))
@@ -297,18 +297,18 @@ module _ (table : CallTable) (t : Tree) (l m s : ProcessState) (w : StateThree l
       linked : ProcessState → Decision
       linked z = check (path_fault target) (at z)
   same_agrees (Rename old new) one = two_promises table.rename.old.needs.alternatives table.rename.new.needs.alternatives one.0 one.1
-      (at l) (at m) (at s) (pair_agrees t l m s covered table.rename ending.Dropped old new (λ x y. rename_by refusals t (asks_directory table.whose old new) x y (node_named x)))
-      (objects_plain table.rename t s ending.Dropped old new (λ x y. rename_by refusals t (asks_directory table.whose old new) x y (node_named x))
+      (at l) (at m) (at s) (pair_agrees t l m s covered table.whose table.rename ending.Dropped old new (λ x y. rename_by refusals t (asks_directory table.whose old new) x y (node_named x)))
+      (objects_plain table.whose table.rename t s ending.Dropped old new (λ x y. rename_by refusals t (asks_directory table.whose old new) x y (node_named x))
       (λ x y. rename_plain t (asks_directory table.whose old new) x y (node_named x)))
     where
       at : ProcessState → Decision
-      at z = objects_by refusals table.rename t (asker_of z) ending.Dropped old new (λ x y. rename_by refusals t (asks_directory table.whose old new) x y (node_named x))
+      at z = objects_by refusals table.whose table.rename t (asker_of z) ending.Dropped old new (λ x y. rename_by refusals t (asks_directory table.whose old new) x y (node_named x))
   same_agrees (Link old new) one = two_promises table.link.old.needs.alternatives table.link.new.needs.alternatives one.0 one.1
-      (at l) (at m) (at s) (pair_agrees t l m s covered table.link ending.Dot old new (λ x y. link_by refusals x y (node_named x)))
-      (objects_plain table.link t s ending.Dot old new (λ x y. link_by refusals x y (node_named x)) (λ x y. link_plain x y (node_named x)))
+      (at l) (at m) (at s) (pair_agrees t l m s covered table.whose table.link ending.Dot old new (λ x y. link_by refusals x y (node_named x)))
+      (objects_plain table.whose table.link t s ending.Dot old new (λ x y. link_by refusals x y (node_named x)) (λ x y. link_plain x y (node_named x)))
     where
       at : ProcessState → Decision
-      at z = objects_by refusals table.link t (asker_of z) ending.Dot old new (λ x y. link_by refusals x y (node_named x))
+      at z = objects_by refusals table.whose table.link t (asker_of z) ending.Dot old new (λ x y. link_by refusals x y (node_named x))
   same_agrees (Pledge p e) one = pledge_agrees (given_self p) (given_self e)
   same_agrees (Unveil path None) one = unveil_unknown path
   same_agrees (Unveil path (Some a)) one = unveil_agrees path a a (holds_self a)

@@ -150,9 +150,9 @@ module _ (table : CallTable) (t : Tree) (g h k : ProcessState) (v : StateWithin 
           back_by (λ x. unveil_errno (cond x None (Some NotPermitted))) refl (holds a perms) (holds b perms) (holds_through b a perms less) s e
 
   veil_agrees : (path : List ℕ) (perms : Option ℕ) →
-      Agree (veil_by refusals t (asker_of g) path perms) (veil_by refusals t (asker_of h) path perms) (veil_by refusals t (asker_of k) path perms)
+      Agree (veil_by refusals table.whose t (asker_of g) path perms) (veil_by refusals table.whose t (asker_of h) path perms) (veil_by refusals table.whose t (asker_of k) path perms)
   veil_agrees path None = λ e. refl
-  veil_agrees path (Some perms) = at_path t g h k covered ending.Dot path Followed (veiled g) (veiled h) (veiled k)
+  veil_agrees path (Some perms) = at_path t g h k covered table.whose ending.Dot path Followed (veiled g) (veiled h) (veiled k)
       (λ x. last_check (unveil_errno (unveil_fault g (place_of x) perms)) (unveil_errno (unveil_fault h (place_of x) perms))
       (unveil_errno (unveil_fault k (place_of x) perms)) (λ s is. inr (place_back (place_of x) perms s is))
       ((easier h k w).place (place_of x) perms) (Ok (AddEvent (Unveiled (place_of x) perms))) (Ok (AddEvent (Unveiled (place_of x) perms))))
@@ -181,18 +181,18 @@ module _ (table : CallTable) (t : Tree) (g h k : ProcessState) (v : StateWithin 
       linked : ProcessState → Decision
       linked z = unless_failed refusals.failed (path_fault target) (object_at z)
   between (Rename old new) = promised_two table.rename.old.needs.alternatives table.rename.new.needs.alternatives (at g) (at h) (at k)
-      (pair_agrees t g h k covered table.rename ending.Dropped old new (λ x y. rename_by refusals t (asks_directory table.whose old new) x y (node_named x)))
-      (objects_plain table.rename t k ending.Dropped old new (λ x y. rename_by refusals t (asks_directory table.whose old new) x y (node_named x))
+      (pair_agrees t g h k covered table.whose table.rename ending.Dropped old new (λ x y. rename_by refusals t (asks_directory table.whose old new) x y (node_named x)))
+      (objects_plain table.whose table.rename t k ending.Dropped old new (λ x y. rename_by refusals t (asks_directory table.whose old new) x y (node_named x))
       (λ x y. rename_plain t (asks_directory table.whose old new) x y (node_named x)))
     where
       at : ProcessState → Decision
-      at z = objects_by refusals table.rename t (asker_of z) ending.Dropped old new (λ x y. rename_by refusals t (asks_directory table.whose old new) x y (node_named x))
+      at z = objects_by refusals table.whose table.rename t (asker_of z) ending.Dropped old new (λ x y. rename_by refusals t (asks_directory table.whose old new) x y (node_named x))
   between (Link old new) = promised_two table.link.old.needs.alternatives table.link.new.needs.alternatives (at g) (at h) (at k)
-      (pair_agrees t g h k covered table.link ending.Dot old new (λ x y. link_by refusals x y (node_named x)))
-      (objects_plain table.link t k ending.Dot old new (λ x y. link_by refusals x y (node_named x)) (λ x y. link_plain x y (node_named x)))
+      (pair_agrees t g h k covered table.whose table.link ending.Dot old new (λ x y. link_by refusals x y (node_named x)))
+      (objects_plain table.whose table.link t k ending.Dot old new (λ x y. link_by refusals x y (node_named x)) (λ x y. link_plain x y (node_named x)))
     where
       at : ProcessState → Decision
-      at z = objects_by refusals table.link t (asker_of z) ending.Dot old new (λ x y. link_by refusals x y (node_named x))
+      at z = objects_by refusals table.whose table.link t (asker_of z) ending.Dot old new (λ x y. link_by refusals x y (node_named x))
   between (Pledge p e) = same_check unknown unknown unknown refl refl (at g) (at h) (at k)
       (last_check (pledge_fault table.whose g (given_set p) (given_set e)) (pledge_fault table.whose h (given_set p) (given_set e))
       (pledge_fault table.whose k (given_set p) (given_set e)) (λ s is. inr (beyond_back (given_set p) (given_set e) s is))
@@ -208,13 +208,13 @@ module _ (table : CallTable) (t : Tree) (g h k : ProcessState) (v : StateWithin 
   between (Unveil path perms) = promised_one (unveil ∷ []) (at g) (at h) (at k)
       (same_check (fault_if g.locked EPERM) (fault_if h.locked EPERM) (fault_if k.locked EPERM)
       (ap (λ x. fault_if x EPERM) v.locked) (ap (λ x. fault_if x EPERM) w.locked)
-      (veil_by refusals t (asker_of g) path perms) (veil_by refusals t (asker_of h) path perms) (veil_by refusals t (asker_of k) path perms)
+      (veil_by refusals table.whose t (asker_of g) path perms) (veil_by refusals table.whose t (asker_of h) path perms) (veil_by refusals table.whose t (asker_of k) path perms)
       (veil_agrees path perms))
-      (plain_late (checked_plain (fault_if k.locked EPERM) (veil_by refusals t (asker_of k) path perms) (locked_plain k.locked)
-      (veiling_plain t k path perms)))
+      (plain_late (checked_plain (fault_if k.locked EPERM) (veil_by refusals table.whose t (asker_of k) path perms) (locked_plain k.locked)
+      (veiling_plain table.whose t k path perms)))
     where
       at : ProcessState → Decision
-      at z = unless_failed refusals.failed (fault_if z.locked EPERM) (veil_by refusals t (asker_of z) path perms)
+      at z = unless_failed refusals.failed (fault_if z.locked EPERM) (veil_by refusals table.whose t (asker_of z) path perms)
   between Lock = promised_one (unveil ∷ []) (Ok (AddEvent Locked)) (Ok (AddEvent Locked)) (Ok (AddEvent Locked))
       (λ e. refl) (plain_late refl)
   between (Fork new) = promised_one (proc ∷ []) (Ok (CopyAs new)) (Ok (CopyAs new)) (Ok (CopyAs new))

@@ -88,15 +88,15 @@ decide_full table t h (Symlink target path) = promise_full (may_any h (rule_of t
     (not_full _ (checked_plain (path_fault target) _ (path_plain target) (object_plain table t h call.Symlink path (adding (link_node target)))))
 decide_full table t h (Rename old new) = promise_full (may_any h table.rename.old.needs.alternatives) _
     (promise_full (may_any h table.rename.new.needs.alternatives) _
-    (not_full _ (objects_plain table.rename t h ending.Dropped old new (λ x y. rename_by refusals t (asks_directory table.whose old new) x y (node_named x))
+    (not_full _ (objects_plain table.whose table.rename t h ending.Dropped old new (λ x y. rename_by refusals t (asks_directory table.whose old new) x y (node_named x))
     (λ x y. rename_plain t (asks_directory table.whose old new) x y (node_named x)))))
 decide_full table t h (Link old new) = promise_full (may_any h table.link.old.needs.alternatives) _
     (promise_full (may_any h table.link.new.needs.alternatives) _
-    (not_full _ (objects_plain table.link t h ending.Dot old new (λ x y. link_by refusals x y (node_named x)) (λ x y. link_plain x y (node_named x)))))
+    (not_full _ (objects_plain table.whose table.link t h ending.Dot old new (λ x y. link_by refusals x y (node_named x)) (λ x y. link_plain x y (node_named x)))))
 decide_full table t h (Pledge p e) = not_full _ (checked_plain (fault_if (is_unknown p || is_unknown e) EINVAL) _
     (unknown_plain (is_unknown p || is_unknown e)) (beyond_plain _ _))
 decide_full table t h (Unveil path perms) = promise_full (may_any h (unveil ∷ [])) _
-    (not_full _ (checked_plain (fault_if h.locked EPERM) _ (locked_plain h.locked) (veiling_plain t h path perms)))
+    (not_full _ (checked_plain (fault_if h.locked EPERM) _ (locked_plain h.locked) (veiling_plain table.whose t h path perms)))
 decide_full table t h Lock = promise_full (may_any h (unveil ∷ [])) _ refl
 decide_full table t h (Fork new) = promise_full (may_any h (proc ∷ [])) _ refl
 decide_full table t h Exit = refl

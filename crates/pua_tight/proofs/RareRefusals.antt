@@ -39,7 +39,9 @@ use Rattle.pua_policy.specs.declared.answer.UnveilFault.TheVariants as unveil_fa
 use Rattle.pua_policy.specs.declared.answer.Refusal.TheVariants.{Failed, Killed}
 use Rattle.pua_script.specs.Decide.{Change, NoChange, Decision, asker_of, refusals, unless_failed, on_named, object_by, objects_by, veil_by}
 use Rattle.pua_script.specs.Decide.{dots_fault, top_fault, kinds_fault, inside_fault, ways_fault, fault_if, is_whole, rename_by, link_by, shifting}
-use Rattle.pua_script.specs.Decide.{unveil_errno}
+use Rattle.pua_script.specs.Decide.{unveil_errno, before_long, errno_behind, front_errno, named_in, path_named}
+use Rattle.pua_calls.specs.declared.rules.Rules.{Rules}
+use Rattle.pua_calls.specs.declared.rules.Rules.TheVariants.{Standard, Openbsd}
 
 abbrev pub is_rare : Errno → Bool
 is_rare ENOSPC = true
@@ -160,6 +162,24 @@ named t from end text mode = by (path_fault text) refl (path_plain text)
         (named_from _ (resolve_plain most_links t mode (start_of text from) way.Top (parts_of end text))))
     by (Some errno) e plain = rw e (ap rare_fault (sym e) ∙ plain)
 
+named_any : (whose : Rules) (t : Tree) (from : ℕ) (end : Ending) (text : List ℕ) (mode : Last) →
+    rare_name (path_named whose t from end text mode) ≡ false
+named_any whose t from end text mode = by whose (resolution_of_text t from end text mode) (named t from end text mode)
+  where
+    front : (errno : Errno) (r : Result Found Errno) → is_rare errno ≡ false → rare_name r ≡ false → is_rare (front_errno errno r) ≡ false
+    front errno (Ok x) plain rest = plain
+    front errno (Err fault) plain rest = rest
+
+    behind : (errno : Errno) (o : Option (List ℕ)) → is_rare errno ≡ false → is_rare (errno_behind t from errno o) ≡ false
+    behind errno None plain = plain
+    behind errno (Some before) plain =
+        front errno (resolution_of_text t from ending.Dot before Followed) plain (named t from ending.Dot before Followed)
+
+    by : (whose : Rules) (r : Result Found Errno) → rare_name r ≡ false → rare_name (named_in whose t from text r) ≡ false
+    by whose (Ok x) plain = refl
+    by Standard (Err errno) plain = plain
+    by Openbsd (Err errno) plain = behind errno (before_long text) plain
+
 cover_plain : (c : Cover) (perms : ℕ) → rare_fault (cover_fault c perms) ≡ false
 cover_plain covers.All perms = refl
 cover_plain covers.Nothing perms = refl
@@ -208,20 +228,20 @@ unknown_plain b = if_plain b EINVAL refl
 
 pub object_plain : (table : CallTable) (t : Tree) (h : ProcessState) (c : Call) (path : List ℕ) (f : Found → Change) →
     rare (object_by refusals table t (asker_of h) c path (λ x. Ok (f x))) ≡ false
-object_plain table t h c path f = named_plain (resolution_of_text t (working_dir h) (ending_of c) path (last_of c))
+object_plain table t h c path f = named_plain (path_named table.whose t (working_dir h) (ending_of c) path (last_of c))
     (λ x. unless_failed refusals.failed (or_fault (cover_fault (cover t h x) (rule_of table c).perms)
-    (option_map misfit_errno (misfit t c (object_of t x)))) (Ok (f x)))
-    (named t (working_dir h) (ending_of c) path (last_of c))
-    (λ x. checked_plain (or_fault (cover_fault (cover t h x) (rule_of table c).perms) (option_map misfit_errno (misfit t c (object_of t x))))
+    (option_map misfit_errno (misfit table.whose t c (object_of t x)))) (Ok (f x)))
+    (named_any table.whose t (working_dir h) (ending_of c) path (last_of c))
+    (λ x. checked_plain (or_fault (cover_fault (cover t h x) (rule_of table c).perms) (option_map misfit_errno (misfit table.whose t c (object_of t x))))
     (Ok (f x))
-    (or_plain (cover_fault (cover t h x) (rule_of table c).perms) (option_map misfit_errno (misfit t c (object_of t x)))
-    (cover_plain (cover t h x) (rule_of table c).perms) (misfit_plain (misfit t c (object_of t x)))) refl)
+    (or_plain (cover_fault (cover t h x) (rule_of table c).perms) (option_map misfit_errno (misfit table.whose t c (object_of t x)))
+    (cover_plain (cover t h x) (rule_of table c).perms) (misfit_plain (misfit table.whose t c (object_of t x)))) refl)
 
-pub objects_plain : (pair : PairRule) (t : Tree) (h : ProcessState) (end : Ending) (old new : List ℕ) (f : Found → Found → Decision) →
-    ((x y : Found) → rare (f x y) ≡ false) → rare (objects_by refusals pair t (asker_of h) end old new f) ≡ false
-objects_plain pair t h end old new f plain = named_plain (resolution_of_text t (working_dir h) end old pair.old.last) _
-    (named t (working_dir h) end old pair.old.last)
-    (λ x. named_plain (resolution_of_text t (working_dir h) end new pair.new.last) _ (named t (working_dir h) end new pair.new.last)
+pub objects_plain : (whose : Rules) (pair : PairRule) (t : Tree) (h : ProcessState) (end : Ending) (old new : List ℕ) (f : Found → Found → Decision) →
+    ((x y : Found) → rare (f x y) ≡ false) → rare (objects_by refusals whose pair t (asker_of h) end old new f) ≡ false
+objects_plain whose pair t h end old new f plain = named_plain (path_named whose t (working_dir h) end old pair.old.last) _
+    (named_any whose t (working_dir h) end old pair.old.last)
+    (λ x. named_plain (path_named whose t (working_dir h) end new pair.new.last) _ (named_any whose t (working_dir h) end new pair.new.last)
     (λ y. checked_plain (or_fault (cover_fault (cover t h x) pair.old.needs.perms) (cover_fault (cover t h y) pair.new.needs.perms)) (f x y)
     (or_plain (cover_fault (cover t h x) pair.old.needs.perms) (cover_fault (cover t h y) pair.new.needs.perms)
     (cover_plain (cover t h x) pair.old.needs.perms) (cover_plain (cover t h y) pair.new.needs.perms)) (plain x y)))
@@ -248,8 +268,8 @@ link_plain old new (Some x) =
     (or_plain (fault_if (is_whole old) EPERM) (fault_if (is_some (node_named new)) EEXIST) (if_plain (is_whole old) EPERM refl)
     (if_plain (is_some (node_named new)) EEXIST refl)) refl
 
-pub veiling_plain : (t : Tree) (h : ProcessState) (path : List ℕ) (perms : Option ℕ) → rare (veil_by refusals t (asker_of h) path perms) ≡ false
-veiling_plain t h path None = refl
-veiling_plain t h path (Some perms) = named_plain (resolution_of_text t (working_dir h) ending.Dot path Followed) _
-    (named t (working_dir h) ending.Dot path Followed)
+pub veiling_plain : (whose : Rules) (t : Tree) (h : ProcessState) (path : List ℕ) (perms : Option ℕ) → rare (veil_by refusals whose t (asker_of h) path perms) ≡ false
+veiling_plain whose t h path None = refl
+veiling_plain whose t h path (Some perms) = named_plain (path_named whose t (working_dir h) ending.Dot path Followed) _
+    (named_any whose t (working_dir h) ending.Dot path Followed)
     (λ x. checked_plain (unveil_errno (unveil_fault h (place_of x) perms)) _ (veil_plain (unveil_fault h (place_of x) perms)) refl)

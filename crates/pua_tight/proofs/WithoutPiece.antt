@@ -4,7 +4,6 @@ use Rattle.std.proofs.lemmas.Bool.{false≢true, eqb-true, eq-eqb}
 use Rattle.std.proofs.lemmas.Nat.Bits.{bit_at_and, bit_at_xor, bit_at-lt, same_from_bits}
 use Rattle.std.specs.Int.{bit_at}
 use Rattle.std.specs.Prelude.{Option, Some, None, Result, Ok, Err, bit_and, nat_le}
-use Rattle.pua_path.specs.Resolution.{resolution_of_text}
 use Rattle.pua_path.specs.declared.errno.Errno.{Errno}
 use Rattle.pua_path.specs.declared.errno.Errno.TheVariants.{EPERM}
 use Rattle.pua_path.specs.declared.found.Found.{Found}
@@ -21,7 +20,7 @@ use Rattle.pua_policy.specs.declared.answer.Refusal.{Refusal}
 use Rattle.pua_policy.specs.declared.answer.UnveilFault.TheVariants.{NotPermitted, TooManyPlaces}
 use Rattle.pua_script.specs.Requests.{Asked}
 use Rattle.pua_script.specs.Family.{is_okay}
-use Rattle.pua_script.specs.Decide.{AddEvent, Decision, decide, refusals, unless_refused, unless_failed, on_named, fault_if, given_set, unveil_errno}
+use Rattle.pua_script.specs.Decide.{AddEvent, Decision, decide, refusals, unless_refused, unless_failed, on_named, fault_if, given_set, unveil_errno, path_named}
 use Rattle.pua_script.specs.Replay.{World, kept_at, come_of, answer_to, do_decided, answer_and_world, apply}
 use Rattle.pua_script.specs.declared.answer.Answer.{Answer}
 use Rattle.pua_script.specs.declared.answer.Answer.TheVariants as answer
@@ -227,7 +226,7 @@ module _ (w : World) (h : ProcessState) where
           tested (may_give table.whose (Good a) (Good c)) (may_give table.whose (Good b) (Good d)) _ _ (gives table.whose (given_less less) (given_less other)) e
   decided_less table (less_unveiled {path = path} {a = a} {b = b} less) e =
       veil_gives path a b less (refusal_of (may_any h (unveil ∷ []))) (fault_if h.locked EPERM)
-      (resolution_of_text w.tree (working_dir h) ending.Dot path Followed) e
+      (path_named table.whose w.tree (working_dir h) ending.Dot path Followed) e
 
 pub okay_less : (table : CallTable) (w : World) (x y : Asked) → AskWithin x y → (apply table w y).0 ≡ answer.Okay → (apply table w x).0 ≡ answer.Okay
 okay_less table w x y lies =

@@ -33,6 +33,9 @@ use Rattle.pua_why.specs.Reasons.{beyond, asks_beyond, pledge_beyond, unless, un
 use Rattle.pua_why.specs.Laws.{CallFaultHolds}
 use Rattle.pua_why.specs.Truths.{PromiseFaultHolds, SymlinkFaultHolds, side_outcome, PairFaultHolds, PledgeFaultHolds, UnveilFaultHolds}
 use Rattle.pua_why.specs.Truths.{CheckFaultHolds, CheckFaultsHold, RoomFaultHolds, RequestFaultHolds, RequestFaultsHold, FullTreesAreFull}
+use Rattle.pua_calls.specs.declared.rules.Rules.{Rules}
+use Rattle.pua_why.specs.Reasons.{outcome_in}
+use Rattle.pua_why.proofs.Faults.{outcome_ok}
 use Rattle.pua_why.proofs.Steps.{same_fault, refused_true, failed_true, named_true, either_true, when_true, unpromised_true, uncovered_true}
 use Rattle.pua_script.proofs.ForCallers.{requests_lack}
 use Rattle.pua_why.proofs.Decisions.{reasons_give_decisions}
@@ -79,9 +82,9 @@ symlink_true table t h target path fault e =
     (λ e. by_target table t h target path fault (object_true t table h call.Symlink path (adding (link_node target)) fault e)) e) e
 
 -- two paths
-module _ (pair : PairRule) (t : Tree) (h : ProcessState) (end : Ending) (a b : List ℕ) where
+module _ (whose : Rules) (pair : PairRule) (t : Tree) (h : ProcessState) (end : Ending) (a b : List ℕ) where
   abbrev Pair : Fault → Type 0
-  Pair = PairFaultHolds pair t h end a b
+  Pair = PairFaultHolds whose pair t h end a b
 
   abbrev Led : Side → Found → Type 0
   Led side object = side_outcome pair t h end a b side ≡ Ok object
@@ -170,15 +173,19 @@ module _ (pair : PairRule) (t : Tree) (h : ProcessState) (end : Ending) (a b : L
 
   pair_true : (further : Found → Found → Outcome Fault) (fault : Fault) →
       ((old new : Found) → Led Old old → Led New new → further old new ≡ Err fault → Pair fault) →
-      pair_by faults pair t (faults_of h) end a b further ≡ Err fault → Pair fault
+      pair_by faults whose pair t (faults_of h) end a b further ≡ Err fault → Pair fault
   pair_true further fault each e =
       refused_true _ _ fault Pair
       (λ bad e. unpromised_true h pair.old.needs.alternatives bad Pair (λ ended. ended) (λ error lacks is. inl is) e)
       (λ e. refused_true _ _ fault Pair
       (λ bad e. unpromised_true h pair.new.needs.alternatives bad Pair (λ ended. ended) (λ error lacks is. inr is) e)
-      (λ e. named_true Old (name_trace pair.old t h end a).outcome _ fault Pair (λ bad o. o)
-      (λ old o e. named_true New (name_trace pair.new t h end b).outcome _ fault Pair (λ bad n. n)
-      (λ new n e. failed_true _ _ fault Pair
+      (λ e. named_true Old (outcome_in whose t (working_dir h) a (name_trace pair.old t h end a).outcome) _ fault Pair (λ bad o. o)
+      (λ old led_old e. named_true New (outcome_in whose t (working_dir h) b (name_trace pair.new t h end b).outcome) _ fault Pair
+      (λ bad n. n)
+      (λ new led_new e.
+      let o = outcome_ok whose t (working_dir h) a (name_trace pair.old t h end a).outcome old led_old in
+      let n = outcome_ok whose t (working_dir h) b (name_trace pair.new t h end b).outcome new led_new in
+      failed_true _ _ fault Pair
       (λ bad e. either_true _ _ bad Pair
       (cover_true Old old bad pair.old.needs.perms o (λ place given over lacks. (old, o, over, lacks, refl)))
       (cover_true New new bad pair.new.needs.perms n (λ place given over lacks. (new, n, over, lacks, refl))) e)
@@ -216,9 +223,9 @@ pledge_true table t h p x fault e =
         (λ frees lacks. (frees, lacks, refl))) e
 
 -- an unveil
-module _ (t : Tree) (h : ProcessState) (path : List ℕ) where
+module _ (whose : Rules) (t : Tree) (h : ProcessState) (path : List ℕ) where
   abbrev Veil : Option ℕ → Fault → Type 0
-  Veil letters = UnveilFaultHolds t h path letters
+  Veil letters = UnveilFaultHolds whose t h path letters
 
   place_true : (place : Place) (o : Option ℕ) (perms : ℕ) (bad : Fault) → perms_kept h place ≡ o →
       place_beyond place o (length (veils h)) perms ≡ Some bad → Veil (Some perms) bad
@@ -244,19 +251,20 @@ module _ (t : Tree) (h : ProcessState) (path : List ℕ) where
       by true v e = let same : IsLocked ≡ bad = cc in subst (Veil (Some perms)) same v
       by false v e = place_true place (perms_kept h place) perms bad refl e
 
-  veil_true : (letters : Option ℕ) (fault : Fault) → veil_by faults t (faults_of h) path letters ≡ Err fault → Veil letters fault
+  veil_true : (letters : Option ℕ) (fault : Fault) → veil_by faults whose t (faults_of h) path letters ≡ Err fault → Veil letters fault
   veil_true None fault e = subst (Veil None) (same_fault UnknownLetter fault e) refl
   veil_true (Some perms) fault e =
-      named_true Sole (trace_of_text t (working_dir h) ending.Dot path Followed).outcome _ fault (Veil (Some perms)) (λ bad o. o)
+      named_true Sole (outcome_in whose t (working_dir h) path (trace_of_text t (working_dir h) ending.Dot path Followed).outcome) _ fault
+      (Veil (Some perms)) (λ bad o. o)
       (λ object o e. failed_true _ _ fault (Veil (Some perms)) (λ bad e. beyond_true (place_of object) perms bad e) (λ granted. cc) e) e
 
 unveil_true : (table : CallTable) (t : Tree) (h : ProcessState) (path : List ℕ) (letters : Option ℕ) (fault : Fault) →
-    change_or_fault table t h (Unveil path letters) ≡ Err fault → UnveilFaultHolds t h path letters fault
+    change_or_fault table t h (Unveil path letters) ≡ Err fault → UnveilFaultHolds table.whose t h path letters fault
 unveil_true table t h path letters fault e =
-    refused_true _ _ fault (UnveilFaultHolds t h path letters)
-    (λ bad e. unpromised_true h (unveil ∷ []) bad (UnveilFaultHolds t h path letters) (λ ended. ended) (λ error lacks is. is) e)
-    (λ e. failed_true _ _ fault (UnveilFaultHolds t h path letters)
-    (λ bad e. when_true (is_locked h) IsLocked bad (UnveilFaultHolds t h path letters) (λ v. v) e) (λ e. veil_true t h path letters fault e)
+    refused_true _ _ fault (UnveilFaultHolds table.whose t h path letters)
+    (λ bad e. unpromised_true h (unveil ∷ []) bad (UnveilFaultHolds table.whose t h path letters) (λ ended. ended) (λ error lacks is. is) e)
+    (λ e. failed_true _ _ fault (UnveilFaultHolds table.whose t h path letters)
+    (λ bad e. when_true (is_locked h) IsLocked bad (UnveilFaultHolds table.whose t h path letters) (λ v. v) e) (λ e. veil_true table.whose t h path letters fault e)
     e) e
 
 -- promises alone
@@ -270,10 +278,10 @@ pub check_faults_hold : CheckFaultsHold
 check_faults_hold table t h (OnPath c path) fault e = call_faults_hold t table h c path fault e
 check_faults_hold table t h (Symlink target path) fault e = symlink_true table t h target path fault e
 check_faults_hold table t h (Rename old new) fault e =
-    pair_true table.rename t h ending.Dropped old new _ fault (λ a b o n e. rename_true table.rename t h ending.Dropped old new
+    pair_true table.whose table.rename t h ending.Dropped old new _ fault (λ a b o n e. rename_true table.whose table.rename t h ending.Dropped old new
     (asks_directory table.whose old new) a b (node_named a) fault refl o n e) e
 check_faults_hold table t h (Link old new) fault e =
-    pair_true table.link t h ending.Dot old new _ fault (λ a b o n e. link_true table.link t h ending.Dot old new a b (node_named a) fault
+    pair_true table.whose table.link t h ending.Dot old new _ fault (λ a b o n e. link_true table.whose table.link t h ending.Dot old new a b (node_named a) fault
     refl o n e) e
 check_faults_hold table t h (Pledge p x) fault e = pledge_true table t h p x fault e
 check_faults_hold table t h (Unveil path letters) fault e = unveil_true table t h path letters fault e

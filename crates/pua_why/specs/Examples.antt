@@ -68,6 +68,9 @@ pub record WhyRows : Type 0 where
       ∷ codes "1 symlink = /l" ∷ []) ≡
       codes "1 EINVAL path ends in .." ∷ codes "2 ENOTEMPTY /etc is not empty" ∷ codes "3 ENOTDIR /etc/passwd is no directory"
       ∷ codes "4 ENOENT /nope is missing" ∷ codes "5 ENOENT target is empty" ∷ []
+  -- OpenBSD's rules look at the directory that `..` names
+  pub openbsd_misfits : why_by Openbsd example (codes "1 rmdir /etc/.." ∷ codes "1 rmdir /etc/." ∷ codes "1 rename /etc/.. /x" ∷ []) ≡
+      codes "1 ENOTEMPTY / is not empty" ∷ codes "2 EINVAL path ends in ." ∷ codes "3 EINVAL old: path ends in .." ∷ []
   pub locks : why_of example (codes "1 unveil /etc r" ∷ codes "1 unveil /etc rw" ∷ codes "1 unveil /etc q" ∷ codes "1 unveil - -"
       ∷ codes "1 unveil /tmp r" ∷ []) ≡
       codes "1 ok" ∷ codes "2 EPERM no w in veil r on /etc since line 1" ∷ codes "3 EINVAL unknown letter" ∷ codes "4 ok"
@@ -234,6 +237,7 @@ why_rows = record {
   misfits = refl;
   more_misfits = refl;
   last_misfits = refl;
+  openbsd_misfits = refl;
   locks = refl;
   pledges = refl;
   forks = refl;

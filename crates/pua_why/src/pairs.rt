@@ -13,7 +13,7 @@ ghost use Rattle.pua_why.specs.Checked.{refused_by};
 ghost use Rattle.pua_why.specs.Reasons.{Fault as Meant, faults, faults_of};
 ghost use Rattle.pua_why.specs.Seen.{fault_seen, on_found, side_seen};
 
-use crate::checks::{cover_fault, promises_fault, traced};
+use crate::checks::{cover_fault, named_by, promises_fault};
 use crate::told::{Fault, Side};
 use pua_calls::{CallTable, PairNeed};
 use pua_path::{Counted, Ending, Found, Links, Probe, Way};
@@ -38,14 +38,15 @@ pub(crate) fn rename_fault<'s, T: FileTree>(
     links: &mut Links,
 ) -> Option<Fault<'s>>
     ensures { option_map fault_seen result
-        ≡ refused_by (pair_by faults table.now.rename (T.content tree.now) (faults_of process.now)
-        endings.Dropped old.now new.now
+        ≡ refused_by (pair_by faults table.now.whose table.now.rename (T.content tree.now)
+        (faults_of process.now) endings.Dropped old.now new.now
         (λ a b. rename_by faults (T.content tree.now)
         (asks_directory table.now.whose old.now new.now) a b (node_named a))) }
 {
     let asks = asks_directory(table.rules(), old, new);
     match judged(
         tree,
+        table,
         table.rename(),
         process,
         Ending::Dropped,
@@ -68,10 +69,20 @@ pub(crate) fn link_fault<'s, T: FileTree>(
     links: &mut Links,
 ) -> Option<Fault<'s>>
     ensures { option_map fault_seen result
-        ≡ refused_by (pair_by faults table.now.link (T.content tree.now) (faults_of process.now)
-        endings.Dot old.now new.now (λ a b. link_by faults a b (node_named a))) }
+        ≡ refused_by (pair_by faults table.now.whose table.now.link (T.content tree.now)
+        (faults_of process.now) endings.Dot old.now new.now
+        (λ a b. link_by faults a b (node_named a))) }
 {
-    match judged(tree, table.link(), process, Ending::Dot, old, new, links) {
+    match judged(
+        tree,
+        table,
+        table.link(),
+        process,
+        Ending::Dot,
+        old,
+        new,
+        links,
+    ) {
         Ok(pair) => tie_fault(&pair),
         Err(fault) => Some(fault),
     }
@@ -81,6 +92,7 @@ pub(crate) fn link_fault<'s, T: FileTree>(
 /// name first each time.
 fn judged<'s, T: FileTree>(
     tree: &T,
+    table: &CallTable,
     need: &'s PairNeed,
     process: &Process,
     ending: Ending,
@@ -89,8 +101,8 @@ fn judged<'s, T: FileTree>(
     links: &mut Links,
 ) -> Result<Pair, Fault<'s>>
     ensures exact { (further : founds.Found → founds.Found → Outcome Meant) →
-        pair_by faults need.now (T.content tree.now) (faults_of process.now) ending old.now new.now
-        further
+        pair_by faults table.now.whose need.now (T.content tree.now) (faults_of process.now) ending
+        old.now new.now further
         ≡ on_found result (λ pair. further pair.old pair.new) }
     ensures named { IfOk result (λ pair. StandsAsNamed (T.content tree.now) pair.new) }
 {
@@ -100,12 +112,13 @@ fn judged<'s, T: FileTree>(
     if let Some(fault) = promises_fault(process, need.new_name().alternatives()) {
         return Err(fault);
     }
-    objects(tree, need, process, ending, old, new, links)
+    objects(tree, table, need, process, ending, old, new, links)
 }
 
 /// What both paths name, or the fault of the paths, and of the veils.
 fn objects<'s, T: FileTree>(
     tree: &T,
+    table: &CallTable,
     need: &PairNeed,
     process: &Process,
     ending: Ending,
@@ -114,18 +127,34 @@ fn objects<'s, T: FileTree>(
     links: &mut Links,
 ) -> Result<Pair, Fault<'s>>
     ensures exact { (further : founds.Found → founds.Found → Outcome Meant) →
-        objects_by faults need.now (T.content tree.now) (faults_of process.now) ending old.now
-        new.now further
+        objects_by faults table.now.whose need.now (T.content tree.now) (faults_of process.now)
+        ending old.now new.now further
         ≡ on_found result (λ pair. further pair.old pair.new) }
     ensures named { IfOk result (λ pair. StandsAsNamed (T.content tree.now) pair.new) }
 {
     let mut probe = Counted::new(tree);
     let dir = process.dir();
-    let old = match traced(&mut probe, dir, old, ending, need.old_name().last(), links) {
+    let old = match named_by(
+        &mut probe,
+        table,
+        dir,
+        old,
+        ending,
+        need.old_name().last(),
+        links,
+    ) {
         Ok(found) => found,
         Err(fault) => return Err(Fault::BadPath(Side::Old, fault)),
     };
-    let new = match traced(&mut probe, dir, new, ending, need.new_name().last(), links) {
+    let new = match named_by(
+        &mut probe,
+        table,
+        dir,
+        new,
+        ending,
+        need.new_name().last(),
+        links,
+    ) {
         Ok(found) => found,
         Err(fault) => return Err(Fault::BadPath(Side::New, fault)),
     };

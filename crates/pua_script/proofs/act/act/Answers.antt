@@ -43,4 +43,4 @@ returns-in-Uses-clause-exact g c =
     c.answer-in-Uses.result c.answer-in-Uses.ensures.exact
 
 pub returns-in-Unveil-clause-exact : goal.returns-in-Unveil-clause-exact
-returns-in-Unveil-clause-exact g c = rw (c.in-Unveil.is, ← c.bytes-in-Unveil.ensures) (c.unveil.ensures.exact c.args.table.now)
+returns-in-Unveil-clause-exact g c = rw (c.in-Unveil.is, ← c.bytes-in-Unveil.ensures) c.unveil.ensures.exact

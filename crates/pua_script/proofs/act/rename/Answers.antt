@@ -8,14 +8,14 @@ use Rattle.pua_script.proofs.act.rename.Goals as goal
 
 -- what is decided of a rename, where a directory is asked for or not
 abbrev renaming : CallTable → Tree → ProcessState → List ℕ → List ℕ → Bool → Decision
-renaming table t p old new asks = decide_pair table.rename t (asker_of p) Dropped old new (λ a b. decide_rename t asks a b (node_named a))
+renaming table t p old new asks = decide_pair table.whose table.rename t (asker_of p) Dropped old new (λ a b. decide_rename t asks a b (node_named a))
 
 pub returns-in-Err-clause-exact : goal.returns-in-Err-clause-exact
 returns-in-Err-clause-exact g c =
     let t = g.T.FileTree.content c.args.tree.now in
     let p = c.args.process.now in
     acts c.args.table.now t p (Rename c.args.old.now c.args.new.now) (Err c.in-Err.refusal)
-    (pair_refused c.args.table.now.rename _ c.rename-need.ensures t p Dropped c.args.old.now c.args.new.now
+    (pair_refused c.args.table.now.whose c.args.table.now.rename _ c.rename-need.ensures t p Dropped c.args.old.now c.args.new.now
     (λ a b. decide_rename t (asks_directory c.args.table.now.whose c.args.old.now c.args.new.now) a b (node_named a)) _ c.promised_pair.ensures c.in-Err.refusal c.in-Err.is)
     _ _ c.answer.result c.answer.ensures.exact
 
@@ -25,7 +25,7 @@ returns-in-Ok-None-clause-exact g c =
     let p = c.args.process.now in
     let asks = c.asks_directory-asks.ensures ∙ ap (λ whose. asks_directory whose c.args.old.now c.args.new.now) c.rules.ensures in
     acts c.args.table.now t p (Rename c.args.old.now c.args.new.now) (Ok granted.NoChange)
-    (pair_held c.args.table.now.rename _ c.rename-need.ensures t p Dropped c.args.old.now c.args.new.now
+    (pair_held c.args.table.now.whose c.args.table.now.rename _ c.rename-need.ensures t p Dropped c.args.old.now c.args.new.now
     (λ a b. decide_rename t c.asks_directory-asks.result a b (node_named a)) _ c.promised_pair.ensures _ c.in-Ok.is _
     (rw c.in-Ok-None.field-0-is at c.in-Ok-None.ensures)
     ∙ ap (renaming c.args.table.now t p c.args.old.now c.args.new.now) asks)
@@ -37,7 +37,7 @@ returns-in-Err-judge_rename-clause-exact g c =
     let p = c.args.process.now in
     let asks = c.asks_directory-asks.ensures ∙ ap (λ whose. asks_directory whose c.args.old.now c.args.new.now) c.rules.ensures in
     acts c.args.table.now t p (Rename c.args.old.now c.args.new.now) (Err c.in-Err-judge_rename.refusal)
-    (pair_held c.args.table.now.rename _ c.rename-need.ensures t p Dropped c.args.old.now c.args.new.now
+    (pair_held c.args.table.now.whose c.args.table.now.rename _ c.rename-need.ensures t p Dropped c.args.old.now c.args.new.now
     (λ a b. decide_rename t c.asks_directory-asks.result a b (node_named a)) _ c.promised_pair.ensures _ c.in-Ok.is _
     (ap shifted (sym c.in-Err-judge_rename.is) ∙ c.judge_rename.ensures)
     ∙ ap (renaming c.args.table.now t p c.args.old.now c.args.new.now) asks)
@@ -49,7 +49,7 @@ returns-clause-exact g c =
     let p = c.args.process.now in
     let asks = c.asks_directory-asks.ensures ∙ ap (λ whose. asks_directory whose c.args.old.now c.args.new.now) c.rules.ensures in
     acts c.args.table.now t p (Rename c.args.old.now c.args.new.now) (Ok c.moving-granted.result)
-    (pair_held c.args.table.now.rename _ c.rename-need.ensures t p Dropped c.args.old.now c.args.new.now
+    (pair_held c.args.table.now.whose c.args.table.now.rename _ c.rename-need.ensures t p Dropped c.args.old.now c.args.new.now
     (λ a b. decide_rename t c.asks_directory-asks.result a b (node_named a)) _ c.promised_pair.ensures _ c.in-Ok.is _
     (c.moving-granted.ensures (asker_of p) ∙ (λ i. Ok (ShiftRow (c.in-Ok-Some.shift.from, c.name-name.ensures i) (c.in-Ok-Some.shift.to, c.name-new_name.ensures i)))
     ∙ rw c.in-Ok-Some.field-0-is at c.in-Ok-Some.ensures)
