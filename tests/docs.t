@@ -16,7 +16,8 @@
 #   has at most 180 lines, ARCHITECTURE at most 6,000 words.
 # - docs/PROVED.md has at most 2,800 words and names each law; tools/reference.pl prints each public
 #   function that tests/data/refused names.
-# - The table of calls without a path in man/pua.1 is that of tools/trace.pl.
+# - The table of calls without a path in man/pua.1 is that of tools/trace.pl, and the table of openings
+#   in docs/DEFINITIONS.md that of the tools and tests.
 # - Help, usage lines, the manual pages and README have the same options, of the program and of each
 #   tool.
 #
@@ -84,6 +85,7 @@ SKIP: {
     test_proved();
 }
 test_asked();
+test_openings();
 test_options();
 test_tools();
 done_testing();
@@ -245,6 +247,23 @@ sub test_asked {
     require "$TOP/tools/lib/Pua/Calls.pm";
     no warnings 'once';
     is_deeply(\%shown, { %Pua::Calls::ASKS }, 'man/pua.1 has the calls without a path');
+    return;
+}
+
+# Tests that docs/DEFINITIONS.md has the openings of each promise, in their order, as the tools and the
+# models of the tests go by them.
+sub test_openings {
+    my ($table) = content('docs/DEFINITIONS.md') =~ /^\| Promise \| Path \| Calls \| Veils \|.*\n\|.*\n((?:\|.*\n)*)/m;
+    my %shown;
+    for (split /\n/, defined $table ? $table : '') {
+        my (undef, $promise, $paths, $calls, $veils) = split / *\| */;
+        $calls =~ s/, /,/g;
+        $calls .= ' veils' if $veils eq 'asked';
+        push @{ $shown{$promise} }, map { "$_ $calls" } $paths =~ /`([^`]+)`/g;
+    }
+    require "$TOP/tools/lib/Pua/Calls.pm";
+    no warnings 'once';
+    is_deeply(\%shown, { %Pua::Calls::OPENINGS }, 'docs/DEFINITIONS.md has the openings');
     return;
 }
 
@@ -453,7 +472,7 @@ sub test_claim {
             $why += $count if $crate eq 'pua_why';
         }
     }
-    my @said = $page =~ /: (\d+) files, some ([\d,]+) lines.*\n.*?; (\d+) of them/;
+    my @said = (join ' ', split ' ', $page) =~ /: (\d+) files, some ([\d,]+) lines.*?The row of `pua_why`, (\d+) lines/;
     s/,// for @said;
     is($files, $said[0], 'ARCHITECTURE: the files of the claim');
     cmp_ok(abs($lines - $said[1]), '<=', 50, "ARCHITECTURE: the lines of the claim, $lines");

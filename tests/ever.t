@@ -62,6 +62,7 @@ for my $number (1 .. $WORLDS) {
     ok(!is_told($world, beyond_now($world)), "world $number: what can be touched now is in the list for ever");
     is(exec_word($world), exec_wanted($world), "world $number: whether what is started is bounded");
     ok(!is_told($world, not_modelled($world)), "world $number: the list for ever is that of the model");
+    ok(!is_told($world, not_reasoned($world)), "world $number: what lets its calls through is that of the model");
     ok(!is_told($world, beyond_ever($world)), "world $number: it has what can be touched in $PLAYS futures");
     ok(!$world->{stray}, "world $number: no exec succeeds where it has none");
 }
@@ -294,6 +295,29 @@ sub not_modelled {
         $fault = differs(ever_of($world, $process), EverModel::lasting($world->{model}, $process)) if !defined $fault;
     }
     return $fault;
+}
+
+# The list for ever of process 1, or of the child, with what lets its calls through, and that of the model, if they
+# differ; without the lines of the script, which are in no model.
+sub not_reasoned {
+    my ($world) = @_;
+    for my $process (1, $CHILD) {
+        my $list = lists_of(asked($world, 'objects', '--ever', '--why', '--process', $process))->{lists}{$process};
+        my @veils = map { /\Aveil (.*)\z/s ? $1 : () } @{ ever_of($world, $process)->{state} };
+        my @lines = map { $_->{text} } @{ $list->{lines} };
+        s/ ([rwxc]+|=) [0-9]+(?= |\z)/ $1/g for @lines;
+        my @wanted = map { with_reasons($world->{model}, $process, $_, @veils) } EverModel::lasting($world->{model}, $process, 1);
+        return join "\n", "process $process:", @lines, 'and by the model:', @wanted if "@lines" ne "@wanted";
+    }
+    return;
+}
+
+# A line of the model with what lets its calls through, by the veils of a state.
+sub with_reasons {
+    my ($model, $process, $line, @veils) = @_;
+    my ($promises, @told) = EverModel::reasons($model, $process, $line);
+    my ($kind, $path, $calls) = split / /, $line;
+    return join ' ', $kind, $path, $calls, $promises eq '' ? '=' : $promises, @told ? @veils[@told] : '- - -';
 }
 
 sub differs {

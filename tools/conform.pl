@@ -33,7 +33,7 @@
 # as in pua.
 #
 # Status 0: it was performed, whatever the answers are. Status 1: a file can't be read, or isn't of
-# the right form, or this process isn't root. Status 2: the words are no use of it.
+# the right form, or this process isn't root. Status 2: the words do not fit.
 use strict;
 use warnings;
 

@@ -42,13 +42,13 @@ my @both = ($tree, $script);
 for my $words ([], [$tree], [@both, $tree], ['--what', @both], ['--trials'], ['--trials', 'a', 'b'], ['-?'],
     ['--helper', '', @both]) {
     my ($status, $out, $err) = conform(@$words);
-    is($status, 2, "no use of it: @$words");
-    like($err, qr/usage: conform\.pl .*--trials DIR\n\z/, "no use of it: @$words: the usage");
+    is($status, 2, "wrong words: @$words");
+    like($err, qr/usage: conform\.pl .*--trials DIR\n\z/, "wrong words: @$words: the usage");
 }
 {
     my ($status, $out, $err) = conform('--help');
     is($status, 0, '--help');
-    like($out, qr/\APerforms a script of pua\(1\).*^Status 0: .*use of it\.\n\z/ms, '--help prints the head');
+    like($out, qr/\APerforms a script of pua\(1\).*^Status 0: .*do not fit\.\n\z/ms, '--help prints the head');
 }
 if ($> == 0) { $user = 65534 }
 {

@@ -29,7 +29,7 @@
 # A list is read a line at a time, and takes no more memory where it is longer, but for its regions.
 #
 # Status 0: it was printed. Status 1: a file can't be read, or is no list of objects; then nothing
-# was printed. Status 2: the words are no use of it.
+# was printed. Status 2: the words do not fit.
 use strict;
 use warnings;
 

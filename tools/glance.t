@@ -420,8 +420,8 @@ END
     my $usage = "usage: glance.pl [-d] [-m MANIFEST] [-o HELD] [LIST]...\n";
     for my $words ([''], ['-m', ''], ['-o', '', 'list'], ['-q'], ['-m']) {
         my ($status, $out, $err) = glance(@$words);
-        is("$status$out", '2', "no use of it: @$words");
-        like($err, qr/\Q$usage\E\z/, "no use of it: @$words: the report");
+        is("$status$out", '2', "wrong words: @$words");
+        like($err, qr/\Q$usage\E\z/, "wrong words: @$words: the report");
     }
     SKIP: {
         skip 'there is no /dev/full here', 1 unless -c '/dev/full';

@@ -34,7 +34,7 @@
 #
 # Status 0: it was printed; with -c, nothing has changed. Status 1: with -c, something has. Status
 # 2: a file can't be read, KEPT wasn't made by this tool, PROGRAM isn't there or refuses its files
-# (it says why), or the words are no use of it; then nothing was printed.
+# (it says why), or the words do not fit; then nothing was printed.
 use strict;
 use warnings;
 

@@ -371,13 +371,13 @@ for my $case (['-l', '-l ', @ends], ['-n', '-n ', grep { !/\Aever / } @all],
     is($err, "pua: cannot read a table\nkeep.pl: $PUA objects ended with 3\n", '-c: it is said');
 }
 
-# What is no use of it, and what goes wrong.
+# Wrong words, and what goes wrong.
 for my $words ([], ['front.listing'], [@front, 'front.script'], ['-?'], ['-r', 'linux', @front],
     ['-r', '', @front], ['-c', '', @front], ['-c', 'front.kept', '-l', @front], ['-p', '', @front],
     ['-c', 'front.kept', '-r', 'openbsd', @front], ['', 'front.script']) {
     my ($status, $out, $err) = ran($KEEP, { perl => [] }, @$words);
-    is("$status $out", '2 ', "no use of it: @$words");
-    like($err, qr/^usage: keep\.pl \[-ln\] .* TREE SCRIPT\n\z/m, "no use of it: @$words: usage");
+    is("$status $out", '2 ', "wrong words: @$words");
+    like($err, qr/^usage: keep\.pl \[-ln\] .* TREE SCRIPT\n\z/m, "wrong words: @$words: usage");
 }
 sub fails {
     my ($what, $words, $said) = @_;

@@ -55,7 +55,7 @@
 # Status 0: the listing was printed. Status 1: a file, a directory, a link, the script or PATHS
 # can't be read, the script isn't one, a line of PATHS is no path, there are more than 1,000,000
 # names (how many, and in which directories most of them are, is reported), or a link's target is
-# longer than pua reads; then nothing was printed. Status 2: the words are no use of it.
+# longer than pua reads; then nothing was printed. Status 2: the words do not fit.
 use strict;
 use warnings;
 use Cwd qw(getcwd);

@@ -24,7 +24,7 @@
 # as something that can't be touched.
 #
 # Status 0: the page was written. Status 1: a file can't be read, TREE is no listing, or OBJECTS
-# or EVER is no list of objects; then nothing was written. Status 2: the words are no use of it.
+# or EVER is no list of objects; then nothing was written. Status 2: the words do not fit.
 use strict;
 use warnings;
 no warnings 'recursion';    # a tree may be 4,000 directories deep

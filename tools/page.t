@@ -287,7 +287,7 @@ my @site = ('1 dir 0 www', '2 dir 1 site', '3 file 2 index', '4 file 1 key', '5 
     }
     for my $words ([], [$tree, $list, $list, $list], [$tree, ''], ['-m', '', $tree], ['-d', '', $tree], ['-d', 'x', $tree], ['-d', '-1', $tree]) {
         my $usage = "usage: page.pl [-d DEPTH] [-m MANIFEST] TREE [OBJECTS [EVER]]\n";
-        is_deeply([page(@$words)], [2, '', $usage], 'words that are no use of it: ' . @$words);
+        is_deeply([page(@$words)], [2, '', $usage], 'words that are wrong words: ' . @$words);
     }
     is(system("$^X -T $PAGE $tree < $list > piped && $^X -T $PAGE $tree $list | cmp -s - piped"), 0,
         'standard input is read');

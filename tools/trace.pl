@@ -58,7 +58,7 @@
 # (followed.t), not on the system whose kdump it reads.
 #
 # Status 0: the script was printed. Status 1: a file can't be read or written, or TRACE has no
-# record of kdump. Status 2: the words are no use of it.
+# record of kdump. Status 2: the words do not fit.
 use strict;
 use warnings;
 

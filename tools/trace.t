@@ -1114,8 +1114,8 @@ END
     put('trace', kdump('7 CALL  exit(0)'));
     for my $words (['a', 'b'], [''], ['-e', ''], ['-e'], ['-d', 'home'], ['-d', ''], ['-c', 'www'], ['-c', ''], ['-o', ''], ['-q']) {
         my ($status, $out, $err) = trace(@$words);
-        is("$status$out", '2', "no use of it: @$words");
-        like($err, qr/\Q$usage\E\z/, "no use of it: @$words: the report");
+        is("$status$out", '2', "wrong words: @$words");
+        like($err, qr/\Q$usage\E\z/, "wrong words: @$words: the report");
     }
     put('trace', kdump("7 fork() = 8\n" . '8 stat(0x1c60,0x1d60) = 0 "a"'));
     my ($status, $out, $err) = trace('-d', '/my home', '-e', 'answers');

@@ -3,10 +3,10 @@
 #
 #     perl bench/plain/night.t [PROGRAM [SEED [WORLDS]]]
 #
-# In each world both have to answer each command of the plain one alike: the run, the lists of all processes, and, of one
-# process, an audit, that audit resumed after one of its pairs, and the list for ever. The plain one makes lists for ever
-# by the standard rules alone and says nothing of execs: where the program's has a line on them it isn't compared. Then
-# the plain one has to pass tests/rows.t, as far as its commands go.
+# In each world both have to answer each command of the plain one alike: the run, whole and up to a line, which the script
+# may lack; the lists of all processes; and, of one process, its list, an audit, that audit resumed after one of its pairs,
+# and the list for ever. The plain one makes lists for ever by the standard rules alone and says nothing of execs: where the
+# program's has a line on them it isn't compared. Then the plain one has to pass tests/rows.t, as far as its commands go.
 use strict;
 use warnings;
 use FindBin qw($Bin);
@@ -31,8 +31,10 @@ for my $number (1 .. $WORLDS) {
     my $rules = $number % 2 ? 'profile' : 'openbsd';
     $worlds->by($rules);
     my $files = { listing => $worlds->listing, script => $worlds->script({}) };
-    compare($files, $_, '--rules', $rules) for ['run'], ['objects', '--process', 'all'];
+    my $lines = () = $files->{script} =~ /\n/g;
     my @of = ('--process', 1 + $worlds->number(2));
+    my @plainly = (['run'], ['run', '--at', $worlds->number($lines + 2)], ['objects', '--process', 'all'], ['objects', @of]);
+    compare($files, $_, '--rules', $rules) for @plainly;
     my @audit = ('audit', '--limit', $worlds->number(4), '--base', $worlds->pick(qw(root cwd)), @of);
     my $reach = compare($files, \@audit, '--rules', $rules);
     my @pairs = $reach =~ m{^([./]\S*) (\S+)$}mg;
@@ -43,7 +45,7 @@ for my $number (1 .. $WORLDS) {
     compare($files, ['objects', '--ever', @of]) if $rules eq 'profile';
 }
 is($count{differ}, 0, "seed $SEED: $count{commands} commands over $WORLDS worlds, $count{bytes} bytes");
-cmp_ok($count{commands}, '>', 3 * $WORLDS, 'commands that were compared');
+cmp_ok($count{commands}, '>', 5 * $WORLDS, 'commands that were compared');
 cmp_ok($count{lasting}, '>', $WORLDS / 50, "lists for ever; $count{refused} commands were refused by both");
 my $rows = `$^X '$Bin/../../tests/rows.t' --plain '$PLAIN' 2>&1`;
 is($?, 0, 'the rows of the tests') or diag(grep { /^(?:not ok|# )/ } split /^/, $rows);

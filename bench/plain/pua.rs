@@ -170,7 +170,8 @@ struct Tree {
 #[derive(Clone, Copy)]
 enum Way<'a> {
     Named(u32, &'a [u8]),
-    Dots,
+    Dot,
+    DotDot,
     Top,
 }
 
@@ -266,10 +267,10 @@ impl Tree {
             let (part, behind) = first_part(rest);
             rest = behind;
             if part == b"." {
-                way = Way::Dots;
+                way = Way::Dot;
                 continue;
             } else if part == b".." {
-                (dir, way) = (self.node(dir).parent, Way::Dots);
+                (dir, way) = (self.node(dir).parent, Way::DotDot);
                 continue;
             }
             let is_last = rest.is_empty() && later.is_empty();
@@ -303,6 +304,9 @@ impl Tree {
 
     /// What a path of a request names: a slash at its end is dropped where the call says so.
     fn named<'a>(&'a self, cwd: u32, path: &'a [u8], is_dropped: bool, follow: bool) -> Result<Found<'a>, Errno> {
+        if let Some(front) = before_long(path) {
+            self.named(cwd, front, false, true)?;
+        }
         path_fault(path)?;
         let from = if path[0] == b'/' { ROOT } else { cwd };
         if self.node(from).links == 0 {
@@ -312,6 +316,21 @@ impl Tree {
         let text = if is_dropped { &path[..end] } else { path };
         Ok(self.resolve(from, text, follow)?.0)
     }
+}
+
+/// What stands before a component that is too long, if OpenBSD's rules judge that first.
+fn before_long(path: &[u8]) -> Option<&[u8]> {
+    if !rules().is_openbsd || path.len() > PATH_LIMIT {
+        return None;
+    }
+    let mut start = 0;
+    for piece in path.split(|byte| *byte == b'/') {
+        if piece.len() > NAME_LIMIT {
+            return Some(if start == 0 { b"." } else { &path[..start] });
+        }
+        start += piece.len() + 1;
+    }
+    None
 }
 
 fn path_fault(path: &[u8]) -> Result<(), Errno> {
@@ -541,12 +560,14 @@ enum Object {
 }
 
 fn object(tree: &Tree, found: Found) -> Object {
+    let has_rows = |dir| !tree.node(dir).rows.is_empty();
     match found {
         Found::Slot(_, _, None) => Object::Missing,
         Found::Slot(_, _, Some(node)) => Object::Node(tree.node(node).kind),
-        Found::Whole(_, Way::Dots) => Object::Dir(Some("EINVAL")),
+        Found::Whole(dir, Way::DotDot) if rules().is_openbsd && has_rows(dir) => Object::Dir(Some("ENOTEMPTY")),
+        Found::Whole(_, Way::Dot | Way::DotDot) => Object::Dir(Some("EINVAL")),
         Found::Whole(_, Way::Top) => Object::Dir(Some("EBUSY")),
-        Found::Whole(dir, _) => Object::Dir((!tree.node(dir).rows.is_empty()).then_some("ENOTEMPTY")),
+        Found::Whole(dir, Way::Named(..)) => Object::Dir(has_rows(dir).then_some("ENOTEMPTY")),
     }
 }
 
@@ -672,8 +693,9 @@ impl Process {
 
     fn pledge(&mut self, promises: Option<u64>, execpromises: Option<u64>) -> Result<(), Errno> {
         let adds = |old: Option<u64>, new: Option<u64>| new.unwrap_or(0) & !old.unwrap_or(u64::MAX) != 0;
-        let is_more = adds(self.promises, promises) || adds(self.execpromises, execpromises);
-        if is_more && self.held() & ERROR == 0 {
+        let is_freed = self.held() & ERROR != 0;
+        let is_exec_freed = is_freed && !rules().is_openbsd;
+        if !is_freed && adds(self.promises, promises) || !is_exec_freed && adds(self.execpromises, execpromises) {
             return Err("EPERM");
         }
         let both = |old: Option<u64>, new: Option<u64>| old.map_or(new, |old| Some(old & new.unwrap_or(old)));
@@ -912,7 +934,8 @@ fn act(tree: &mut Tree, process: &mut Process, action: &Action) -> Result<(), Er
         }
         Action::Rename(old, new) => {
             let (from, to) = process.pair(tree, old, new, true, &rules().rename)?;
-            if let Some((from, to)) = move_of(tree, from, to)? {
+            let asks_directory = rules().is_openbsd && (old.ends_with(b"/") || new.ends_with(b"/"));
+            if let Some((from, to)) = move_of(tree, asks_directory, from, to)? {
                 tree.shift((from.0, &from.1), (to.0, &to.1));
             }
             Ok(())
@@ -1002,17 +1025,21 @@ fn change(
     Ok(())
 }
 
-/// The row that a rename moves, and its new place, if it has to move; or what is wrong with that.
-fn move_of(tree: &Tree, from: Found, to: Found) -> Result<Option<(Spot, Spot)>, Errno> {
+/// The row that a rename moves, and its new place, if it has to move; or what is wrong with that. A path with a slash at
+/// its end may ask for a directory.
+fn move_of(tree: &Tree, asks_directory: bool, from: Found, to: Found) -> Result<Option<(Spot, Spot)>, Errno> {
     let node = from.node().ok_or("ENOENT")?;
     let (Some(old), Some(new)) = (from.spot(), to.spot()) else {
-        let is_dots = |found| matches!(found, Found::Whole(_, Way::Dots));
+        let is_dots = |found| matches!(found, Found::Whole(_, Way::Dot | Way::DotDot));
         return Err(if is_dots(from) || is_dots(to) { "EINVAL" } else { "EBUSY" });
     };
+    let is_dir = matches!(from, Found::Whole(..));
+    if asks_directory && !is_dir {
+        return Err("ENOTDIR");
+    }
     if to.node() == Some(node) {
         return Ok(None);
     }
-    let is_dir = matches!(from, Found::Whole(..));
     let mut above = new.0;
     while is_dir && above != ROOT && above != node {
         above = tree.node(above).parent;
@@ -1171,7 +1198,7 @@ impl Making<'_> {
         let mut steps = Vec::with_capacity(rows.len() + 1);
         steps.extend(rows.iter().map(|(letter, id)| self.step(dir, veiled.is_some(), *letter, *id)));
         let parent = self.tree.node(dir).parent;
-        let up = self.calls(Found::Whole(parent, Way::Dots));
+        let up = self.calls(Found::Whole(parent, Way::DotDot));
         let dots = self.letters.place(b"..").into_iter();
         steps.extend(dots.map(|letter| Step { letter, to: parent, all: up, kept: up, links: 0, enter: 0 }));
         for name in veiled.into_iter().flat_map(|names| names.keys()) {
@@ -1958,7 +1985,7 @@ fn perform(command: Command, words: &Words) -> Result<(), (u8, String)> {
 /// rules of one process, which say nothing of execs.
 const USAGE: &str = "pua: usage: pua run [--table FILE] TREE SCRIPT; \
                      pua audit --limit N [--process P] [--base root|cwd] [--after CALL:PATH] [--table FILE] TREE SCRIPT [NAME...]";
-const OBJECTS_USAGE: &str = "pua: usage: pua objects [--ever [--how]|--why] [--process P,...|all] [--at N] [--rules profile|openbsd] [--table FILE] TREE SCRIPT";
+const OBJECTS_USAGE: &str = "pua: usage: pua objects [--ever] [--how|--why] [--process P,...|all] [--at N] [--rules profile|openbsd] [--table FILE] TREE SCRIPT";
 
 fn main() -> ExitCode {
     let words: Vec<String> = std::env::args().skip(1).collect();

@@ -25,12 +25,14 @@ my @NEW = (
     { kind => 'link', calls => ['symlink'], is => 'link' },
 );
 
-# The lines of the list for ever of a process that can put no veil any more.
+# The lines of the list for ever of a process that can put no veil any more; with reasons each has the covers under which
+# its thing can come, in the order of the veils that leave them, as letters and the number of the veil.
 sub lines {
-    my ($model, $number) = @_;
+    my ($model, $number, $with_reasons) = @_;
     my $process = $model->{processes}{$number};
     return if $process->{ended};
-    my $ever = bless { model => $model, process => $process }, __PACKAGE__;
+    $process = _numbered($process) if $with_reasons;
+    my $ever = bless { model => $model, process => $process, reasons => $with_reasons }, __PACKAGE__;
     $ever->{dirs} = [ sort { $a <=> $b } grep { $model->{kind}{$_} eq 'dir' } keys %{ $model->{kind} } ];
     $ever->{edits} = grep { $ever->_promises($_) } @EDITS, 'new name of rename', 'new name of link';
     $ever->{links} = $ever->_promises('old name of link') && $ever->_promises('new name of link');
@@ -39,13 +41,27 @@ sub lines {
     return ($ever->_lines_in(0), map { $ever->_new_line($_) } @NEW);
 }
 
+# A process whose veils' letters are followed by their numbers in the order of the veils.
+sub _numbered {
+    my ($process) = @_;
+    my @veils = @{ $process->{veils} };
+    return { %$process, letters => { map { $veils[$_] => "$process->{letters}{ $veils[$_] }$_" } 0 .. $#veils } };
+}
+
 # The lines of the list that holds longest: of the process alone where none has exec, or what is started isn't bounded;
 # else through execs.
 sub lasting {
+    my ($model, $number, $with_reasons) = @_;
+    my @alone = lines($model, $number, $with_reasons);
+    my $given = given($model, $number);
+    return $given ? _through($model, $number, $given, $with_reasons) : @alone;
+}
+
+# What the programs hold that a process can start, where all that it starts is bounded; nothing where none can be started.
+sub given {
     my ($model, $number) = @_;
-    my @alone = lines($model, $number);
     my $given = bound($model, $number);
-    return $given && grep({ has_exec($_) } @alone) ? _through($model, $number, $given) : @alone;
+    return $given && grep({ has_exec($_) } lines($model, $number)) ? $given : undef;
 }
 
 # The execpromises by which all that a process starts is bounded; nothing where it isn't.
@@ -73,7 +89,7 @@ sub starts_made {
 
 # The lines of a process that holds both sets, with the calls that one of the two lets through.
 sub _through {
-    my ($model, $number, $given) = @_;
+    my ($model, $number, $given, $with_reasons) = @_;
     my $process = $model->{processes}{$number};
     my $held = $process->{promises};
     my $both = $held && { map { $_ => 1 } grep { $held->{$_} || $given->{$_} } keys %$held, keys %$given };
@@ -82,16 +98,42 @@ sub _through {
         $passes{$call} = grep { lets($model, $_, $call) } $process, { promises => $given };
     }
     local $model->{processes}{$number} = { %$process, promises => $both, execpromises => undef };
-    return map { _let_through($_, \%passes) } lines($model, $number);
+    return map { _let_through($_, \%passes) } lines($model, $number, $with_reasons);
 }
 
 # What is left of a line: nothing of what is made by a call that isn't let through.
 sub _let_through {
     my ($line, $passes) = @_;
-    my ($kind, $path, $calls) = split / /, $line;
+    my ($kind, $path, $calls, @covers) = split / /, $line;
     return () if $path eq 'new' && !grep { $passes->{$_} } map { @{ $_->{calls} } } grep { $_->{kind} eq $kind } @NEW;
     my @left = grep { $passes->{$_} } split /,/, $calls;
-    return @left ? "$kind $path " . join(',', @left) : ();
+    return @left ? join ' ', $kind, $path, join(',', @left), @covers : ();
+}
+
+# What lets the calls of a line with its covers through: the promises on which they rest, in order, and the numbers of the
+# veils that let one of them through.
+sub reasons {
+    my ($model, $number, $line) = @_;
+    my (undef, undef, $calls, @covers) = split / /, $line;
+    my @holders = ($model->{processes}{$number}, map { $_ ? { promises => $_ } : () } given($model, $number));
+    my (%promises, @veils);
+    for my $call (split /,/, $calls) {
+        my ($set) = grep { _is_held($_, @holders) } @{ $model->{needs}{$call}[0] };
+        $promises{$_} = 1 for split /,/, $set;
+    }
+    for my $cover (@covers) {
+        my ($letters, $veil) = $cover =~ /\A([a-z]*)([0-9]+)\z/ or next;
+        push @veils, $veil if grep { !Model::_lacking($model->{needs}{$_}[1], $letters) } split /,/, $calls;
+    }
+    return (join(',', sort keys %promises), @veils);
+}
+
+sub _is_held {
+    my ($set, @holders) = @_;
+    for my $holder (@holders) {
+        return 1 if !grep { !Model::_holds($holder, $_) } split /,/, $set;
+    }
+    return 0;
 }
 
 # A model in which process 0 stands for these that live ("What several can touch together" in docs/DEFINITIONS.md); it
@@ -260,8 +302,12 @@ sub _line {
     my $turns = $is eq 'file' && ($path eq 'new' || grep { $has{$_} } qw(open-w open-rw create create-rw chmod fchmod));
     $has{exec} = 1 if $turns && $ever->_is_allowed('exec', 'prog', @covers);
     my @calls = grep { $has{$_} } @Model::CALLS;
-    return @calls ? "$kind $path " . join(',', @calls) : ();
+    return () if !@calls;
+    my %covers = map { $_ => 1 } $ever->{reasons} ? grep { defined } @covers : ();
+    return join ' ', $kind, $path, join(',', @calls), sort { _veil_of($a) <=> _veil_of($b) } keys %covers;
 }
+
+sub _veil_of { return $_[0] =~ /([0-9]+)\z/ ? $1 : 0 }
 
 sub _is_allowed {
     my ($ever, $call, $is, @covers) = @_;

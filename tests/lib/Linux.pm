@@ -20,12 +20,9 @@ our @RULES = (
     ['links40',      'linux',   '40 links are followed'],
     ['rename-above', 'linux',   'rename onto a directory above the old name is ENOTEMPTY, whatever is moved'],
     ['connect',      'profile', 'connect to what is no socket that listens is ECONNREFUSED'],
-    ['dead-cwd',     'profile', 'from a working directory that is removed `.` and `..` go on'],
-    ['late-name',    'profile', 'a component that is too long is judged where it stands'],
-    ['rename-early', 'profile', 'rename refuses `.`, `..` and `/` before it looks up the last names'],
+    ['dead-cwd',     'profile', 'from a working directory that is removed `.` and `..` go on; of it rmdir of `..` is ENOTEMPTY'],
+    ['rename-early', 'profile', 'rename refuses `.`, `..` and `/`, and looks up both directories, before the last names'],
     ['made-slash',   'profile', 'a slash behind a name that is made or unlinked: the link there is not followed'],
-    ['rename-slash', 'profile', 'rename of what is no directory, with a slash behind a name, is ENOTDIR'],
-    ['rmdir-dotdot', 'profile', 'rmdir of `..` is ENOTEMPTY'],
     ['target',       'profile', 'of the target of a link that is made only the whole length is judged'],
     ['target-slash', 'profile', 'create through a link whose target ends in a slash is EISDIR'],
     ['sun-path',     'fault',   'bind and connect take up to 103 bytes of path'],
@@ -70,8 +67,7 @@ sub _parent {
 sub _fault_of {
     my ($linux, $text) = @_;
     return 'ENOENT' if $text eq '';
-    return 'ENAMETOOLONG' if length $text > ($linux->{by}{pathmax} ? 4095 : 1023);
-    return !$linux->{by}{'late-name'} && grep({ length > 255 } split m{/}, $text) ? 'ENAMETOOLONG' : '';
+    return length $text > ($linux->{by}{pathmax} ? 4095 : 1023) ? 'ENAMETOOLONG' : '';
 }
 
 # The parts of a text. A slash behind the last one adds `.`, if it isn't dropped; or, where something is to be created
@@ -153,7 +149,7 @@ sub _misfit {
     my $kind = $linux->_kind($found);
     return 'ECONNREFUSED' if $call eq 'connect' && $by->{connect} && $kind ne 'missing';
     return 'EISDIR' if $call eq 'unlink' && $by->{'unlink-dir'} && $kind eq 'dir';
-    return 'ENOTEMPTY' if $call eq 'rmdir' && $by->{'rmdir-dotdot'} && $kind eq 'dir' && $found->{way} eq '..';
+    return 'ENOTEMPTY' if $call eq 'rmdir' && $by->{'dead-cwd'} && $kind eq 'dir' && $found->{way} eq '..';
     if ($by->{'made-slash'} && $found->{slash} && !exists $found->{dir}) {
         return $kind eq 'missing' ? 'ENOENT' : 'ENOTDIR' if $call eq 'unlink';
         return 'ENOENT' if $MAKES{$call} && $kind eq 'missing';
@@ -179,6 +175,7 @@ sub _rename {
     my @found;
     for my $path (map { unspelled($_) } @paths) {
         my ($errno, $found) = $linux->resolve($process->{dir}, $path, 0, 1);
+        $errno ||= $found->{fault} if !$by->{'rename-early'};
         return $errno if $errno;
         push @found, $found;
     }
@@ -193,7 +190,7 @@ sub _rename {
     return $new->{fault} if $new->{fault};
     return $refused if $refused;
     my $is_dir = $linux->_kind($old) eq 'dir';
-    return 'ENOTDIR' if $by->{'rename-slash'} && !$is_dir && ($old->{slash} || $new->{slash});
+    return 'ENOTDIR' if !$is_dir && ($old->{slash} || $new->{slash});
     my ($from, $to) = map { $linux->_row($_) } $old, $new;
     my ($node, $replaced) = map { $linux->{rows}{ $_->[0] }{ $_->[1] } } $from, $to;
     return 'ok' if defined $replaced && $node == $replaced;

@@ -226,8 +226,9 @@ sub _misfit {
     my $errno = $MISFITS{$call}{ $model->_kind($found) } || '';
     return $errno unless $errno eq 'way';
     return 'EBUSY' if $found->{way} eq '';
-    return 'EINVAL' if $found->{way} ne 'name';
-    return $model->_is_empty($found->{dir}) ? '' : 'ENOTEMPTY';
+    return 'EINVAL' if $found->{way} eq '.' || $found->{way} eq '..' && !$model->{openbsd};
+    return 'ENOTEMPTY' if !$model->_is_empty($found->{dir});
+    return $found->{way} eq '..' ? 'EINVAL' : '';
 }
 
 # Why a call is refused what was found: for its veil, or since it does not suit. Nothing where it isn't.
@@ -312,6 +313,7 @@ sub _rename {
     my @ways = map { $_->{way} } grep { exists $_->{dir} } $old, $new;
     return 'EINVAL' if grep { $_ eq '.' || $_ eq '..' } @ways;
     return 'EBUSY' if grep { $_ eq '' } @ways;
+    return 'ENOTDIR' if $model->{openbsd} && $model->_kind($old) ne 'dir' && grep { unspelled($_) =~ m{/\z} } @paths;
     my ($from, $to) = map { $model->_row($_) } $old, $new;
     my ($node, $replaced) = map { $model->{rows}{ $_->[0] }{ $_->[1] } } $from, $to;
     return 'ok' if defined $replaced && $node == $replaced;
@@ -367,7 +369,7 @@ sub _pledge {
     for my $at (0, 1) {
         next unless $sets[$at] && $given[$at];
         my @more = grep { !$given[$at]{$_} } keys %{ $sets[$at] };
-        return 'EPERM' if @more && !$errs;
+        return 'EPERM' if @more && !($errs && !($at && $model->{openbsd}));
         delete $sets[$at]{$_} for @more;
     }
     $process->{promises} = $sets[0] if $sets[0];

@@ -138,11 +138,19 @@ sub text_fault {
     return '';
 }
 
+# By OpenBSD's rules, the fault of what stands before a component that is too long, as a directory.
+sub _front_fault {
+    my ($tree, $from, $text) = @_;
+    return '' if !$tree->{openbsd} || length $text > $MOST_PATH || $text !~ m{(?:\A|(?<=/))[^/]{256}};
+    my ($errno) = $tree->resolve($from, $-[0] ? substr($text, 0, $-[0]) : '.', 1, 0);
+    return $errno;
+}
+
 # What a path names from a directory: an errno, or nothing, and what was found.
 sub resolve {
     my ($tree, $from, $text, $follows, $drops) = @_;
     my $fault = text_fault($text);
-    return $fault if $fault;
+    return $tree->_front_fault($from, $text) || $fault if $fault;
     my $dir = $text =~ m{\A/} ? 0 : $from;
     return 'ENOENT' unless $tree->{kind}{$dir};
     my ($way, $links, @parts) = ('', 0, _parts($text, $drops));

@@ -108,6 +108,8 @@ sweep 'for ever, and places that are gone' 0 objects --ever tree gone
 sweep 'for ever, two together' 0 objects --ever --process 1,2 twice both
 sweep 'for ever, all together' 0 objects --ever --process all twice both
 sweep 'for ever, with the steps of ways' 0 objects --ever --how twice drop
+sweep 'for ever, with what lets calls through' 0 objects --ever --why tree one
+sweep 'for ever, with reasons, and what can be moved' 0 objects --ever --why --process 2 twice moves
 sweep 'a way' 0 how twice drop open-r /d/f
 sweep 'a way to what is made' 0 how twice drop stat new
 sweep 'what never comes' 0 how twice both open-r /k
@@ -135,7 +137,7 @@ sweep 'a tightened list with an empty word' 1 tight tree list
 sweep 'a promise twice, and what is wrong' 1 run --rules openbsd tree asks
 sweep 'a request with no path, and what is wrong' 1 why --rules openbsd tree edits stat '/\x'
 sweep 'a process that can still unveil' 1 objects --ever tree none
-sweep 'no such list' 1 objects --ever --why tree none
+sweep 'no such list' 1 objects --ever --why --process all twice both
 sweep 'a table by which nothing stays' 1 objects --ever --table stays tree one
 sweep 'no such line' 1 objects --at 1 tree none
 sweep 'no such process' 1 audit --limit 1 --process 9 tree none

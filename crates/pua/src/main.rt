@@ -46,7 +46,7 @@ fn words_given(rt: &HostRuntime) -> Result<Option<Vec<String>>, AllocError> {
     }
 }
 
-/// Tells that a growth was refused before the words were read, and answers the status.
+/// Reports that a growth was refused before the words were read, and answers the status.
 fn out_of_memory(rt: &HostRuntime) -> u8
     ensures { result ≡ MEMORY }
 {

@@ -1,5 +1,5 @@
 pub mod Words
 pub mod Agreeing
 pub mod Scripts
-pub mod Lines
+pub mod LineParts
 pub mod Keywords

@@ -3,8 +3,8 @@ use Rattle.std.specs.Prelude.{ℕ, List, [], ◌++◌, codes}
 use Rattle.pua_tree.specs.Spelling.{byte_spelling}
 use Rattle.pua_advice.specs.declared.arguments.Arguments.{Arguments}
 use Rattle.pua_advice.specs.declared.arguments.Arguments.TheVariants.{Nothing, Number, Path, TargetAndPath, TwoPaths, Promises, PathAndLetters, AnyPromises}
-use Rattle.pua_advice.specs.declared.subject.Subject.{Subject}
-use Rattle.pua_advice.specs.declared.subject.Subject.TheVariants.{Line, Word, Byte}
+use Rattle.pua_advice.specs.declared.wrong_part.WrongPart.{WrongPart}
+use Rattle.pua_advice.specs.declared.wrong_part.WrongPart.TheVariants.{Line, Word, Byte}
 use Rattle.pua_advice.specs.Advice.{Advised, EmptyLine, ExtraBlank, HiddenByte, NoNumber, NoCall, UnknownCall, Takes, NoPath, HasNul, EmptyPromise}
 use Rattle.pua_advice.specs.Advice.{UnknownPromise, UnneededPromise, RepeatedPromise}
 
@@ -69,7 +69,7 @@ abbrev pub advice_text : Advised → List ℕ
 advice_text advice = said_before advice ++ said_word advice ++ said_behind advice
 
 -- the word or byte as it is told
-abbrev pub subject_text : Subject → List ℕ
-subject_text Line = []
-subject_text (Word word) = word.now
-subject_text (Byte byte) = byte_spelling byte
+abbrev pub wrong_part_text : WrongPart → List ℕ
+wrong_part_text Line = []
+wrong_part_text (Word word) = word.now
+wrong_part_text (Byte byte) = byte_spelling byte

@@ -2,10 +2,10 @@
 
 ghost use Rattle.std.specs.Prelude.{◌≡◌};
 ghost use Rattle.pua_advice.specs.Advice.{advice_seen};
-ghost use Rattle.pua_advice.specs.Texts.{said_before, said_behind, said_word, subject_text};
+ghost use Rattle.pua_advice.specs.Texts.{said_before, said_behind, said_word, wrong_part_text};
 
 use crate::arguments::Arguments;
-use crate::subject::Subject;
+use crate::wrong_part::WrongPart;
 use std::fmt;
 
 /// What is wrong with a line of a script, with the word of the line that it is about.
@@ -19,17 +19,17 @@ pub enum Advice<'a> {
     HiddenByte(u8),
     /// This word is no decimal from 1 to 999,999, where a process's number has to stand.
     NoNumber(&'a [u8]),
-    /// Nothing stands behind the process's number.
+    /// Nothing stands after the process's number.
     NoCall,
     /// No call has this word by the rules.
     UnknownCall(&'a [u8]),
-    /// The call of this word takes this, and something else stands behind it.
+    /// The call of this word takes this, and something else stands after it.
     Takes(&'a [u8], Arguments),
     /// This word is no spelling of a path or target.
     NoPath(&'a [u8]),
     /// This word spells a NUL.
     HasNul(&'a [u8]),
-    /// A comma stands in this list of promises first, last, or behind another.
+    /// A comma stands in this list of promises first, last, or after another.
     EmptyPromise(&'a [u8]),
     /// No promise has this word, where a call needs one.
     UnknownPromise(&'a [u8]),
@@ -41,12 +41,12 @@ pub enum Advice<'a> {
 
 impl<'a> Advice<'a> {
     /// The word or byte that it is about, or the whole line.
-    pub fn subject(self) -> Subject<'a>
-        ensures { subject_text result ≡ said_word (advice_seen self.entry) }
+    pub fn wrong_part(self) -> WrongPart<'a>
+        ensures { wrong_part_text result ≡ said_word (advice_seen self.entry) }
     {
         match self {
-            Advice::EmptyLine | Advice::ExtraBlank | Advice::NoCall => Subject::Line,
-            Advice::HiddenByte(byte) => Subject::Byte(byte),
+            Advice::EmptyLine | Advice::ExtraBlank | Advice::NoCall => WrongPart::Line,
+            Advice::HiddenByte(byte) => WrongPart::Byte(byte),
             Advice::NoNumber(word)
             | Advice::UnknownCall(word)
             | Advice::Takes(word, _)
@@ -55,11 +55,11 @@ impl<'a> Advice<'a> {
             | Advice::EmptyPromise(word)
             | Advice::UnknownPromise(word)
             | Advice::UnneededPromise(word)
-            | Advice::RepeatedPromise(word) => Subject::Word(word),
+            | Advice::RepeatedPromise(word) => WrongPart::Word(word),
         }
     }
 
-    /// What is said before that, and behind it. It has no end of a line.
+    /// What is said before that, and after it. It has no end of a line.
     pub fn texts(self) -> (&'static str, &'static str)
         ensures before { result.0.now ≡ said_before (advice_seen self.entry) }
         ensures behind { result.1.now ≡ said_behind (advice_seen self.entry) }
@@ -90,11 +90,11 @@ impl<'a> Advice<'a> {
 impl fmt::Display for Advice<'_> {
     fn fmt<W: fmt::Write>(&self, f: &mut fmt::Formatter<W>) -> fmt::Result {
         let (before, behind) = self.texts();
-        let subject = self.subject();
-        write!(f, "{before}{subject}{behind}")
+        let wrong_part = self.wrong_part();
+        write!(f, "{before}{wrong_part}{behind}")
     }
 }
 
-/// What is said behind a word that spells no path.
+/// What is said after a word that spells no path.
 const NO_PATH: &str =
     "\" spells no path: a backslash is \\134, and visible bytes stand for themselves";

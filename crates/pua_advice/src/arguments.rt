@@ -7,7 +7,7 @@ ghost use Rattle.pua_script.specs.Scripts.{asks_promises};
 
 use pua_calls::{Call, Rules};
 
-/// What stands behind the word of a call in a line of a script.
+/// What stands after the word of a call in a line of a script.
 #[derive(Clone, Copy, Debug, PartialEq, Eq)]
 pub enum Arguments {
     /// Nothing.
@@ -29,7 +29,7 @@ pub enum Arguments {
 }
 
 impl Arguments {
-    /// What stands behind this word, if it is the word of a call that there is by these rules.
+    /// What stands after this word, if it is the word of a call that there is by these rules.
     pub fn of(rules: Rules, word: &[u8]) -> Option<Arguments>
         ensures { result ≡ arguments_of rules word.now }
     {
@@ -50,7 +50,7 @@ impl Arguments {
         }
     }
 
-    /// What is said of it behind the word.
+    /// What is said of it after the word.
     pub(crate) fn text(self) -> &'static str
         ensures { result.now ≡ taken_text self }
     {

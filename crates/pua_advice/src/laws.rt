@@ -22,7 +22,7 @@ pub fn advice_law()
     ensures scripts { ScriptsAreAdvised }
 {}
 
-/// A word that is said to be the name of no call is none's by these rules, whatever stands behind
+/// A word that is said to be the name of no call is none's by these rules, whatever stands after
 /// it.
 pub fn calls_law()
     ensures { UnknownAreNone }

@@ -6,10 +6,10 @@ mod arguments;
 mod laws;
 mod line;
 mod promises;
-mod subject;
+mod wrong_part;
 
 pub use advice::Advice;
 pub use arguments::Arguments;
 pub use laws::{advice_examples, advice_law, calls_law};
 pub use line::{advise, advise_script, line_at};
-pub use subject::Subject;
+pub use wrong_part::WrongPart;

@@ -134,7 +134,7 @@ fn of_number(field: &[u8]) -> Option<Advice<'_>>
     }
 }
 
-/// What to say of the fields behind the process's number.
+/// What to say of the fields after the process's number.
 fn of_action<'a>(
     alloc: Global,
     rules: Rules,

@@ -12,7 +12,7 @@ use pua_calls::Promises;
 use pua_tree::OutOfMemory;
 use std::alloc::Global;
 
-/// What to say of a field behind the word of a call that needs one of several promises, None where
+/// What to say of a field after the word of a call that needs one of several promises, None where
 /// the field is promises with `|` between them: none of them twice, and none `error`.
 pub(crate) fn of_promises<'a>(
     alloc: Global,

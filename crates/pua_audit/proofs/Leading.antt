@@ -9,7 +9,7 @@ use Rattle.pua_steps.specs.Reached.{states_after, states_behind}
 use Rattle.pua_audit.specs.Graphs.{MasksList}
 use Rattle.pua_audit.proofs.Stages.{on_state, reached_from, reached_none}
 use Rattle.pua_audit.proofs.Refined.{map-flat_map, by_places, from_letters, all_pairs}
-use Rattle.pua_audit.proofs.Lines.{flat_map-flat_map, flat_map-cong}
+use Rattle.pua_audit.proofs.CutReach.{flat_map-flat_map, flat_map-cong}
 
 module _ (g : State → List Visit) where
   -- the same with the first letter first

@@ -6,7 +6,7 @@ use Rattle.pua_audit.proofs.Common.{Stage, named_in, AreApart, IsKnown, AnswersA
 use Rattle.std.proofs.Common.{ltb-true}
 use Rattle.std.proofs.lemmas.Bool.{leb-true, lt-ltb}
 use Rattle.pua_audit.specs.Judge as named
-use Rattle.pua_audit.proofs.Lines as lines
+use Rattle.pua_audit.proofs.CutReach as lines
 use Rattle.pua_audit.proofs.Stages.{is_state, is_among, one_state, state_of, reached_from}
 use Rattle.pua_audit.proofs.Cells.{cell, IsCell}
 use Rattle.pua_audit.proofs.Leading.{graphs_lead}

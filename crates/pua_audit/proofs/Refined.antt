@@ -4,7 +4,7 @@ use Rattle.pua_audit.proofs.Common.{arith, sym, ◌∙◌, map, length, get_or, 
 use Rattle.pua_audit.proofs.Common.{ne_eqb, flat_map, IfSome, range_with_len, AllByRecursion, bit_of, Call, Word, Pair, Judge, WordEnd}
 use Rattle.pua_audit.proofs.Common.{Start, Below, allowed_at, calls_of, State, Visit, named_in, IsRight, HasJudgedVisits, IsKnown}
 use Rattle.pua_audit.proofs.Common.{pair_in_numbers, pair_in_letters}
-use Rattle.pua_audit.proofs.Lines as lines
+use Rattle.pua_audit.proofs.CutReach as lines
 use Rattle.pua_steps.specs.Graph as graph
 use Rattle.pua_audit.specs.Graphs.{is_visited, RisingVisits, IsMissing}
 use Rattle.pua_audit.specs.Graphs.{GraphsReach}

@@ -14,6 +14,7 @@ use Rattle.pua_path.specs.declared.found.Part.TheVariants as parts
 use Rattle.pua_path.specs.declared.found.Way.{Way}
 use Rattle.pua_path.specs.declared.found.Way.TheVariants as way
 use Rattle.pua_calls.specs.Calls.{ending_of}
+use Rattle.pua_calls.specs.declared.rules.Rules.{Rules}
 use Rattle.pua_policy.specs.States.{has_veil, working_dir}
 use Rattle.pua_policy.specs.Verdict.{Object, IsDir, Is, object_fault, object_of, cover_fault}
 use Rattle.pua_policy.specs.Verdict.{or_fault, nearest, place_of, directories_over, allowed_unless, if_promised}
@@ -107,19 +108,19 @@ module _ (t : Tree) (n room : ℕ) where
   same_object (Slot dir name None) = refl
   same_object (Slot dir name (Some y)) = refl
 
-  same_fault : (c : Call) (o : Object) → object_fault v c o ≡ object_fault t c o
-  same_fault c (IsDir dir way.Dot) = refl
-  same_fault c (IsDir dir way.DotDot) = refl
-  same_fault c (IsDir dir way.Top) = refl
-  same_fault c (IsDir dir (way.Named parent name)) = refl
-  same_fault c (Is kind) = refl
-  same_fault c IsMissing = refl
+  same_fault : (whose : Rules) (c : Call) (o : Object) → object_fault whose v c o ≡ object_fault whose t c o
+  same_fault whose c (IsDir dir way.Dot) = refl
+  same_fault whose c (IsDir dir way.DotDot) = refl
+  same_fault whose c (IsDir dir way.Top) = refl
+  same_fault whose c (IsDir dir (way.Named parent name)) = refl
+  same_fault whose c (Is kind) = refl
+  same_fault whose c IsMissing = refl
 
   same_verdict : (table : CallTable) (h : ProcessState) (c : Call) (r : Result Found Errno) → verdict_of v table h c r ≡ verdict_of t table h c r
   same_verdict table h c (Ok x) =
       λ i. if_promised (may_any h (rule_of table c).alternatives)
-      (allowed_unless (or_fault (cover_fault (same_cover h x i) (rule_of table c).perms) ((ap (object_fault v c) (same_object x) ∙
-      same_fault c (object_of t x)) i)))
+      (allowed_unless (or_fault (cover_fault (same_cover h x i) (rule_of table c).perms) ((ap (object_fault table.whose v c) (same_object x) ∙
+      same_fault table.whose c (object_of t x)) i)))
   same_verdict table h c (Err errno) = refl
 
   pub same_on : (table : CallTable) (h : ProcessState) (c : Call) (text : List ℕ) → verdict_on v table h c text ≡ verdict_on t table h c text

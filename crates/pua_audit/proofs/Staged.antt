@@ -6,7 +6,7 @@ use Rattle.pua_audit.proofs.Common.{JudgeState, Stage, shorter, and-false, list_
 use Rattle.std.proofs.lemmas.Bool.{lt-ltb, le-ltb}
 use Rattle.std.proofs.lemmas.List.Folds.{list_any-append}
 use Rattle.std.proofs.Math.Bool.{and-true, or-false}
-use Rattle.pua_audit.proofs.Lines as lines
+use Rattle.pua_audit.proofs.CutReach as lines
 use Rattle.pua_audit.proofs.Stages.{on_state, leads, staged, stage_after, stages_of, is_staged, reached_from, reached_none, is_state}
 use Rattle.pua_audit.proofs.Stages.{is_among, one_state, state_of, StagesLive}
 use Rattle.pua_audit.proofs.Tests.{any-and, any-both, any_mapped, any-none, any-or, any-same, some}

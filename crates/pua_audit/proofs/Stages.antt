@@ -2,7 +2,7 @@
 use Rattle.pua_audit.proofs.Common.{◌≡◌, ℕ, zero, suc, ◌-◌, Bool, true, ◌&&◌, ◌==◌, nat_lt, nat_le, List, [], ◌∷◌, length, Option}
 use Rattle.pua_audit.proofs.Common.{Some, None, ap, option_map, option_to_list, flat_map, filter_map, list_any, and_parts, eqb-true, Word}
 use Rattle.pua_audit.proofs.Common.{Pair, Judge, WordEnd, Start, Below, reach_along, Stage, shorter, JudgeState, same_stage}
-use Rattle.pua_audit.proofs.Lines.{rows}
+use Rattle.pua_audit.proofs.CutReach.{rows}
 use Rattle.pua_audit.proofs.Tests.{some}
 
 abbrev pub on_state : {B : Type 0} → Option JudgeState → B → (JudgeState → B) → B

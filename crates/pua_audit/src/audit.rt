@@ -147,7 +147,7 @@ impl Audit {
     }
 
     /// Lends the next line, with all that come after it by the same path, in the order of the
-    /// reach: None where no pair is left. Otherwise it is as `next_line`, and either goes on behind
+    /// reach: None where no pair is left. Otherwise it is as `next_line`, and either goes on after
     /// what the other lent: this lends what `next_line` left of a path.
     pub fn next_lines<'t, P: Probe<'t>>(&mut self, probe: &mut P) -> Option<PathLines<'_>>
         requires { P.tree probe.old ≡ self.old.tree }

@@ -58,11 +58,11 @@ pub fn resume_text_law()
     ensures { ResumeTextsName }
 {}
 
-/// The pairs of a graph of steps that stands for what is asked of a tree and a process are those
-/// that are allowed letter by letter, and the live states are as many as its own. A letter that is
-/// followed once, with no link used before it, tells all that such a graph has of it after any
-/// number of links. A set of calls, a bit for each, lists the calls whose bits it has. The graph of
-/// a table stands for a judge where each row tells the letters of its directory.
+/// The pairs of a graph of steps that stands for a tree and a process are those that are allowed
+/// letter by letter, and the live states are as many as the graph's own. Following a letter once,
+/// with no link used before, gives all that such a graph has of the letter after any number of
+/// links. A set of calls, a bit for each, lists the calls whose bits it has. The graph of a table
+/// stands for a judge where each row has the letters of its directory right.
 pub fn graph_laws()
     ensures reach { GraphsReach }
     ensures entries { EntriesStand }

@@ -118,5 +118,5 @@ texts_need_no_error = texts_keep NoCallNeedsError (λ rules call rule none sound
 pub texts_keep_pairs : (base : CallTable) (text : List ℕ) (table : CallTable) → table_over base text ≡ Ok table → HasPairsOf base table
 texts_keep_pairs base =
     texts_keep (HasPairsOf base)
-    (λ rules call rule none same. record { rename = same.rename; link = same.link; execpromises = same.execpromises }) base
-    (record { rename = refl; link = refl; execpromises = refl })
+    (λ rules call rule none same. record { rename = same.rename; link = same.link; whose = same.whose }) base
+    (record { rename = refl; link = refl; whose = refl })

@@ -1,5 +1,4 @@
--- The calls with one path, and what each of them needs; what rename and link need, which have two; and what an exec leaves of
--- execpromises.
+-- The calls with one path, and what each of them needs; what rename and link need, which have two; and what else is said of rules.
 use Rattle.std.specs.Prelude.{ℕ, ◌+◌, ◌-◌, ◌==◌, Bool, true, false, not, List, [], ◌∷◌, length, map, Option, None, Some, codes, find}
 use Rattle.std.specs.Prelude.{slice_index_or, unwrap_or}
 use Rattle.pua_tree.specs.Names.{same_bytes}
@@ -365,16 +364,17 @@ standard_name = record { needs = record { alternatives = cpath ∷ []; perms = c
 abbrev pub standard_pair : PairRule
 standard_pair = record { old = standard_name; new = standard_name }
 
--- a rule for each call, in the order of their numbers, those of rename and of link, and what an exec leaves of execpromises
+-- a rule for each call, in the order of their numbers, those of rename and of link, and whose rules answer what no rule of a call
+-- says: what an exec leaves of execpromises, and which faults requests have
 pub record CallTable : Type 0 where
   pub rules : List Rule
   pub rename : PairRule
   pub link : PairRule
-  pub execpromises : ExecPromises
+  pub whose : Rules
 
 -- this project's own rules
 abbrev pub standard_table : CallTable
-standard_table = record { rules = map standard_rule calls; rename = standard_pair; link = standard_pair; execpromises = Unset }
+standard_table = record { rules = map standard_rule calls; rename = standard_pair; link = standard_pair; whose = Standard }
 
 -- of its old name rename reads what it takes away
 abbrev pub openbsd_rename : PairRule
@@ -392,14 +392,15 @@ openbsd_link = record {
 
 -- the rules of OpenBSD's kernel
 abbrev pub openbsd_table : CallTable
-openbsd_table = record { rules = map openbsd_rule calls; rename = openbsd_rename; link = openbsd_link; execpromises = Stay }
+openbsd_table = record { rules = map openbsd_rule calls; rename = openbsd_rename; link = openbsd_link; whose = Openbsd }
 
--- what is said of a set of rules, in one place: the word that names it in commands; what calls need, and what an exec leaves; the
--- promises of which a call needs one where it changes the tree; whether lists say whose rules they are; and whether promises open
+-- what is said of a set of rules, in one place: the word that names it in commands; what calls need; what an exec leaves of
+-- execpromises; the promises of which a call needs one where it changes the tree; whether lists say whose rules they are; and whether promises open
 -- paths by themselves
 pub record AboutRules : Type 0 where
   pub word : List ℕ
   pub table : CallTable
+  pub execpromises : ExecPromises
   pub changing : List ℕ
   pub is_told : Bool
   pub has_openings : Bool
@@ -408,6 +409,7 @@ abbrev pub about_rules : Rules → AboutRules
 about_rules Standard = record {
   word = codes "profile";
   table = standard_table;
+  execpromises = Unset;
   changing = cpath ∷ [];
   is_told = false;
   has_openings = false;
@@ -415,6 +417,7 @@ about_rules Standard = record {
 about_rules Openbsd = record {
   word = codes "openbsd";
   table = openbsd_table;
+  execpromises = Stay;
   changing = cpath ∷ unix ∷ dpath ∷ [];
   is_told = true;
   has_openings = true;
@@ -422,6 +425,10 @@ about_rules Openbsd = record {
 
 abbrev pub table_by_rules : Rules → CallTable
 table_by_rules rules = (about_rules rules).table
+
+-- what an exec leaves of execpromises
+abbrev pub execpromises_by : Rules → ExecPromises
+execpromises_by rules = (about_rules rules).execpromises
 
 -- in the order in which they are looked through for a word
 abbrev pub all_rules : List Rules

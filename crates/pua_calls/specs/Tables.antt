@@ -29,11 +29,11 @@ pub record NoCallNeedsError (table : CallTable) : Type 0 where
   pub rename : PairNeedsNoError table.rename
   pub link : PairNeedsNoError table.link
 
--- a table has from another what no text gives: what rename and link need, and what an exec leaves of execpromises
+-- a table has from another what no text gives: what rename and link need, and whose rules answer the rest
 pub record HasPairsOf (base table : CallTable) : Type 0 where
   pub rename : table.rename ≡ base.rename
   pub link : table.link ≡ base.link
-  pub execpromises : table.execpromises ≡ base.execpromises
+  pub whose : table.whose ≡ base.whose
 
 -- a rule for each call, and none of these names `error`, nor one of rename and link
 pub record IsCallTable (table : CallTable) : Type 0 where

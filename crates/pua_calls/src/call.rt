@@ -96,7 +96,7 @@ struct Facts {
     fits: Fits,
     /// What it does where it is allowed.
     effect: Effect,
-    /// Whether a file can come to be a program by it.
+    /// Whether a file can come to be a program by this call.
     turns: bool,
 }
 

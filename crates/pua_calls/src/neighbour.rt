@@ -8,8 +8,8 @@ use crate::call::{Call, NEIGHBOURS, Neighbour};
 use crate::rules::Rules;
 
 impl Call {
-    /// The call that a request asks for by this word, if there is one: the one of this name that
-    /// there is by rules, or, by OpenBSD's alone, the one as which a neighbour of it is read.
+    /// The call that a request asks for by this word, if there is one: by these rules the call of
+    /// this name, or, by OpenBSD's alone, the call as which this neighbour is read.
     pub fn asked_by(rules: Rules, word: &[u8]) -> Option<Call>
         ensures { result ≡ call_asked_by rules word.now }
     {

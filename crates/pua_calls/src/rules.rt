@@ -13,12 +13,13 @@ pub enum Rules {
 #[derive(Clone, Copy)]
 struct AboutRules {
     word: &'static str,
+    execpromises: ExecPromises,
     is_told: bool,
     has_openings: bool,
 }
 
 ghost use Rattle.std.specs.Prelude.{◌≡◌, option_map};
-ghost use Rattle.pua_calls.specs.Calls.{about_rules, rules_named};
+ghost use Rattle.pua_calls.specs.Calls.{about_rules, execpromises_by, rules_named};
 
 impl Rules {
     /// All rules that a command can name.
@@ -27,17 +28,20 @@ impl Rules {
     /// What is said of these rules. Their table is `CallTable::of`.
     fn about(self) -> AboutRules
         ensures word { result.word.now ≡ (about_rules self).word }
+        ensures left { result.execpromises ≡ (about_rules self).execpromises }
         ensures told { result.is_told ≡ (about_rules self).is_told }
         ensures openings { result.has_openings ≡ (about_rules self).has_openings }
     {
         match self {
             Rules::Standard => AboutRules {
                 word: "profile",
+                execpromises: ExecPromises::Unset,
                 is_told: false,
                 has_openings: false,
             },
             Rules::Openbsd => AboutRules {
                 word: "openbsd",
+                execpromises: ExecPromises::Stay,
                 is_told: true,
                 has_openings: true,
             },
@@ -49,6 +53,13 @@ impl Rules {
         ensures { result.now ≡ (about_rules self).word }
     {
         self.about().word
+    }
+
+    /// What an exec leaves of execpromises that were given.
+    pub fn execpromises(self) -> ExecPromises
+        ensures { result ≡ execpromises_by self }
+    {
+        self.about().execpromises
     }
 
     /// Whether lists say whose rules they are.

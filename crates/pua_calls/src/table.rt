@@ -44,17 +44,17 @@ impl Model for RuleRow {
     ghost inverse_ok = { λ a h i. record { sets = h.0 i; count = h.1 i; perms = a.perms } };
 }
 
-/// What each of the calls needs, what rename and link need, which have two paths, and what an exec
-/// leaves of execpromises. A call that has no set of promises is never allowed. It is kept inline,
-/// so that a copy takes no memory. Contracts see a list of rules, in the order of the calls'
-/// numbers, those of rename and link, and that of execpromises. No alternative names `error`: a
+/// What each of the calls needs, what rename and link need, which have two paths, and whose rules
+/// answer what no call's row says. A call that has no set of promises is never allowed. It is kept
+/// inline, so that a copy takes no memory. Contracts see a list of rules, in the order of the calls'
+/// numbers, those of rename and link, and whose rules the table is read over. No alternative names `error`: a
 /// process can gain that promise, and no other.
 #[derive(Clone, Copy)]
 pub struct CallTable {
     rows: [RuleRow; Call::COUNT],
     rename: PairNeed,
     link: PairNeed,
-    execpromises: ExecPromises,
+    whose: Rules,
 }
 
 impl Model for CallTable {
@@ -64,26 +64,27 @@ impl Model for CallTable {
     ghost Value = { Table };
 
     ghost view = { λ a. record
-        { rules = a.rows; rename = a.rename; link = a.link; execpromises = a.execpromises } };
+        { rules = a.rows; rename = a.rename; link = a.link; whose = a.whose } };
 
     ghost invariant = { λ a. IsCallTable (record {
       rules = a.rows;
       rename = a.rename;
       link = a.link;
-      execpromises = a.execpromises;
+      whose = a.whose;
     }) };
 
     ghost inverse = { λ t. record {
       rows = t.rules;
       rename = t.rename;
       link = t.link;
-      execpromises = t.execpromises;
+      whose = t.whose;
     } };
 }
 
 ghost use Rattle.std.specs.Prelude.{◌≡◌, ◌<◌, [], ◌∷◌, ◌++◌, length};
 ghost use Rattle.pua_calls.specs.Calls.{standard_rule, standard_table, openbsd_rule, openbsd_table};
-ghost use Rattle.pua_calls.specs.Calls.{call_count, call_in, table_by_rules, rule_of};
+ghost use Rattle.pua_calls.specs.Calls.{call_count, call_in, execpromises_by, table_by_rules};
+ghost use Rattle.pua_calls.specs.Calls.{rule_of};
 ghost use Rattle.pua_calls.specs.Tables.{NeedsNoError, NoCallNeedsError, most_alternatives};
 ghost use Rattle.pua_calls.specs.TableTexts.{with_rule};
 
@@ -161,7 +162,7 @@ impl CallTable {
             rows: Call::ALL.map(RuleRow::standard),
             rename: PairNeed::standard(),
             link: PairNeed::standard(),
-            execpromises: ExecPromises::Unset,
+            whose: Rules::Standard,
         }
     }
 
@@ -177,7 +178,7 @@ impl CallTable {
             rows: Call::ALL.map(RuleRow::openbsd),
             rename: PairNeed::openbsd_rename(),
             link: PairNeed::openbsd_link(),
-            execpromises: ExecPromises::Stay,
+            whose: Rules::Openbsd,
         }
     }
 
@@ -236,11 +237,18 @@ impl CallTable {
         &self.link
     }
 
+    /// Whose rules answer what no call's row says, as which fault a request has.
+    pub fn rules(&self) -> Rules
+        ensures { result ≡ self.now.whose }
+    {
+        self.whose
+    }
+
     /// What an exec leaves of execpromises that were given.
     pub fn execpromises(&self) -> ExecPromises
-        ensures { result ≡ self.now.execpromises }
+        ensures { result ≡ execpromises_by self.now.whose }
     {
-        self.execpromises
+        self.whose.execpromises()
     }
 
     /// Does nothing. A caller learns from it what is true of each table.

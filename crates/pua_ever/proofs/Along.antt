@@ -19,7 +19,7 @@ use Rattle.pua_ever.proofs.Growing.{takes, requests_grow}
 use Rattle.pua_ever.proofs.KindFaults.{plain_alike}
 use Rattle.pua_ever.proofs.Origins.{Stays}
 use Rattle.pua_ever.proofs.Unedited.{yes_before}
-use Rattle.pua_ever.proofs.Stepping.{stays_then}
+use Rattle.pua_ever.proofs.RequestKeepsRows.{stays_then}
 
 -- what has grown by a tightened process has grown by the one that it tightens
 module _ (table : CallTable) (sound : NoCallNeedsError table) (now a : ProcessState) (within : IsWithin now a) (t : Tree) (well : WellFormed t)
@@ -40,8 +40,8 @@ module _ (table : CallTable) (sound : NoCallNeedsError table) (now a : ProcessSt
         ≡ true
         → is_allowed (covered_verdict empty_tree table now maker (name_cover table t now s) IsMissing) ≡ true
     makes_within maker s e =
-        sym (ap (on_name maker s now) (plain_alike t maker None)) ∙
-        verdicts_within now a within table sound t maker (Ok (Slot s.0 s.1 None)) (ap (on_name maker s a) (plain_alike t maker None) ∙ e)
+        sym (ap (on_name maker s now) (plain_alike table.whose t maker None)) ∙
+        verdicts_within now a within table sound t maker (Ok (Slot s.0 s.1 None)) (ap (on_name maker s a) (plain_alike table.whose t maker None) ∙ e)
 
     written_within : (s : Spot) (x : ℕ) → Written table t a s x → Written table t now s x
     written_within s x (by_name has) = by_name (ap has_c (sym (same (Slot s.0 s.1 None))) ∙ has)

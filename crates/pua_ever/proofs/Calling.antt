@@ -1,6 +1,6 @@
 -- What is so of whatever a call on a path can change is so of what it changes: nothing, by one of the calls that edit a tree a
 -- row, where its process works, or by exec the program.
-use Rattle.pua_ever.proofs.Common.{◌≡◌, ℕ, refl, ap, true, is_some, Spot, Node, Found, CallTable, Call, Change, change_by, by_going, Among}
+use Rattle.pua_ever.proofs.Common.{◌≡◌, ℕ, refl, ap, true, is_some, Spot, Node, Found, CallTable, execpromises_by, Call, Change, change_by, by_going, Among}
 use Rattle.pua_ever.proofs.Common.{among_filter}
 use Rattle.pua_path.specs.Fits.{spot_named, node_named}
 use Rattle.pua_calls.specs.Calls.{calls}
@@ -17,7 +17,7 @@ among_edits c changes = among_filter changes_names calls c changes (one_of_calls
 
 pub by_calling : (table : CallTable) (P : Change → Type 0) → P NoChange → (c : Call) →
     (Among edit_calls c → (s : Spot) (node : Node) → P (AddNode s node)) → (Among edit_calls c → (s : Spot) → P (CutRow s)) →
-    ((dir : ℕ) → P (AddEvent (Moved dir))) → (c ≡ call.Exec → P (BeginProgram table.execpromises)) → (x : Found) →
+    ((dir : ℕ) → P (AddEvent (Moved dir))) → (c ≡ call.Exec → P (BeginProgram (execpromises_by table.whose))) → (x : Found) →
     P (change_by table c x)
 by_calling table P stays call.Rmdir adds cuts goes starts x =
     by_cutting P stays (spot_named x) (node_named x) (λ s is. cuts (among_edits call.Rmdir refl) s)

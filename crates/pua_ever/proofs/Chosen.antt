@@ -5,8 +5,8 @@ use Rattle.pua_ever.proofs.Common.{ap, list_any, map, List, [], ◌∷◌, ◌�
 use Rattle.std.specs.Prelude.{find}
 use Rattle.pua_policy.specs.States.{Locked, with_both}
 use Rattle.pua_ever.specs.Refusals.{refusal, can_unveil, lacks_c, changing_calls, table_refusal}
-use Rattle.pua_ever.specs.declared.refusal.Refusal.{Refusal}
-use Rattle.pua_ever.specs.declared.refusal.Refusal.TheVariants.{CanUnveil}
+use Rattle.pua_ever.specs.declared.refusal.EverRefusal.{EverRefusal}
+use Rattle.pua_ever.specs.declared.refusal.EverRefusal.TheVariants.{CanUnveil}
 use Rattle.pua_ever.specs.Through.{is_promised_by_one, only_through, ever_through, has_exec, bound_of, ever_lasting, execs_of}
 use Rattle.pua_ever.specs.Through.{execs_unlisted, starts_made}
 use Rattle.pua_ever.specs.declared.lasting_list.ExecBound.TheVariants.{Never, Bounded, Open}
@@ -62,7 +62,7 @@ pub unrefused_both : (table : CallTable) (h : ProcessState) (given : ℕ) → re
     refusal table (state_after Locked (with_both h given)) ≡ None
 unrefused_both table h given = by (can_unveil h) (table_refusal table (find (lacks_c table) changing_calls))
   where
-    by : (b : Bool) (o : Option Refusal) → (if b then Some CanUnveil else o) ≡ None → o ≡ None
+    by : (b : Bool) (o : Option EverRefusal) → (if b then Some CanUnveil else o) ≡ None → o ≡ None
     by true o e = absurd (Some≢None CanUnveil e)
     by false o e = e
 

@@ -14,7 +14,7 @@ pub use Rattle.std.specs.Prelude.{◌&&◌, ◌==◌, ◌||◌, Err, filter, fil
 pub use Rattle.std.specs.Prelude.{None, not, Ok, Option, option_map, Result, Some}
 pub use Rattle.pua_audit.specs.Reach.{Word}
 pub use Rattle.pua_calls.specs.CallSets.{has, is_kept, keeps_link}
-pub use Rattle.pua_calls.specs.Calls.{calls, CallTable, rule_of}
+pub use Rattle.pua_calls.specs.Calls.{calls, CallTable, execpromises_by, rule_of}
 pub use Rattle.pua_calls.specs.declared.call.Call.{Call}
 pub use Rattle.pua_objects.proofs.ForCallers.{allowed_is, Among, among_contained, among_filter, among_filter_map, among_left, among_map}
 pub use Rattle.pua_objects.proofs.ForCallers.{among_right, contained, covers_descend, filter_among, map_among, named_within_text}
@@ -65,5 +65,5 @@ pub use Rattle.pua_ever.specs.Ever.{NewLink, NewOthers, own_spot, removable_dir,
 pub use Rattle.pua_ever.specs.Ever.{can_move, may_rename, open_covers}
 pub use Rattle.pua_ever.specs.EverLines.{both_of, ever_lines_of, made_left}
 pub use Rattle.pua_ever.specs.Laws.{EditsNeedC, VeilsStand}
-pub use Rattle.pua_ever.specs.Openings.{dir_opening, entrance_cover, HaveSame, held_dir, name_opening, opened_dir}
+pub use Rattle.pua_ever.specs.Destinations.{dir_destination, entrance_cover, HaveSame, held_dir, name_destination, opened_dir}
 pub use Rattle.pua_ever.specs.Prospects.{AreOnFreed}

@@ -118,7 +118,7 @@ starts_within table sound needs w asks members now are stand trees loosens edit 
           (named_within_text u from (ending_of call.Exec) text (last_of call.Exec) object named) in
           let needed = rule_of table call.Exec in
           let parts = parts_of (may_any last.0 needed.alternatives) (cover_fault (cover u last.0 object) needed.perms)
-          (object_fault u call.Exec IsProg) allowed in
+          (object_fault table.whose u call.Exec IsProg) allowed in
           start_foreseen table w.tree now well stand u k edits dir name x found.named.1 kinds (record {
             may = yes_is (may_any now needed.alternatives)
                 (yes_before table sound now last.0 last.2.within needed.alternatives (sound.calls call.Exec) (ap is_yes parts.may));

@@ -129,7 +129,7 @@ module _ (table : CallTable) (t0 : Tree) (h : ProcessState) where
   -- a call is allowed under one of the covers
   pub under_one : (covers : List Cover) (object : Object) (c : Call) (left : Cover) → Among covers left →
       may_any h (rule_of table c).alternatives ≡ may.Yes
-      → cover_fault left (rule_of table c).perms ≡ None → object_fault empty_tree c object ≡ None →
+      → cover_fault left (rule_of table c).perms ≡ None → object_fault table.whose empty_tree c object ≡ None →
       is_allowed_under table h covers object c ≡ true
   under_one covers object c left a granted covered fine =
       any_among (λ left. is_allowed (covered_verdict empty_tree table h c left object)) covers left a
@@ -245,7 +245,7 @@ module _ (table : CallTable) (t0 : Tree) (h : ProcessState) (well0 : WellFormed 
       about : IsLineOf t0 u h thing object
 
     -- a directory that can be removed now has a name, and can come to be empty
-    is_removed : (d : ℕ) (w : Way) → is_dir u d ≡ true → StandsAsNamed u (Whole d w) → is_dir t0 d ≡ true → rmdir_fault u d w ≡ None →
+    is_removed : (d : ℕ) (w : Way) → is_dir u d ≡ true → StandsAsNamed u (Whole d w) → is_dir t0 d ≡ true → rmdir_fault table.whose u d w ≡ None →
         (is_named_way (own_way t0 d) && (can_empty t0 h d && (may_edit table h || not (list_any (λ row. row.0.0 == d) t0.rows)))) ≡ true
     is_removed d Dot is named was e = cc
     is_removed d DotDot is named was e = cc
@@ -268,15 +268,15 @@ module _ (table : CallTable) (t0 : Tree) (h : ProcessState) (well0 : WellFormed 
         by empty (inr same) = or_right (may_edit table h) _ (ap (λ v. has_no_row v d) (sym same) ∙
             (and_parts (is_dir u d) (has_no_row u d) empty).1)
 
-    is_rmdir : (w : Way) (d : ℕ) (b : Bool) → (rmdir_fault u d w ≡ None → b ≡ true) → object_fault u c (IsDir d w) ≡ None → c ≡ call.Rmdir →
+    is_rmdir : (w : Way) (d : ℕ) (b : Bool) → (rmdir_fault table.whose u d w ≡ None → b ≡ true) → object_fault table.whose u c (IsDir d w) ≡ None → c ≡ call.Rmdir →
         b ≡ true
-    is_rmdir w d b sure e is = sure (ap (λ x. object_fault u x (IsDir d w)) (sym is) ∙ e)
+    is_rmdir w d b sure e is = sure (ap (λ x. object_fault table.whose u x (IsDir d w)) (sym is) ∙ e)
 
     hit_dir : (d : ℕ) (w : Way) → is_dir u d ≡ true → StandsAsNamed u (Whole d w) → verdict u table h c (Whole d w) ≡ Allowed →
         Hit (Whole d w)
     hit_dir d w is named e =
         let parts = parts_of (may_any h (rule_of table c).alternatives) (cover_fault (cover u h (Whole d w)) (rule_of table c).perms)
-        (object_fault u c (IsDir d w)) e in
+        (object_fault table.whose u c (IsDir d w)) e in
         let covered = ap (λ left. cover_fault left (rule_of table c).perms) (sym ((covers_descend u h k.well).directory d w is)) ∙
         parts.covered in
         elim (given_or_new t0 d) [
@@ -291,7 +291,7 @@ module _ (table : CallTable) (t0 : Tree) (h : ProcessState) (well0 : WellFormed 
                     (calls_among table t0 h subject c (or-true (keeps_link c))
                     (under_one table t0 h (covers_of_dir t0 table h d) (dir_as test) c (cover_in u h d) (dir_cover d is was) parts.may
                     covered
-                    (dir_alike u c d w test (is_rmdir w d test (is_removed d w is named was) parts.kind) parts.kind)));
+                    (dir_alike table.whose u c d w test (is_rmdir w d test (is_removed d w is named was) parts.kind) parts.kind)));
                 about = of_dir below;
               })
           | inr from ↦ (let lives = living_dir u h k.well d is in
@@ -299,7 +299,7 @@ module _ (table : CallTable) (t0 : Tree) (h : ProcessState) (well0 : WellFormed 
                 thing = Comes NewDir;
                 listed = listed_new NewDir c (new_among NewDir c (edits_if_young d from lives) (made_dir d from is lives) refl
                     (under_one table t0 h (dir_covers t0 h) removable_dir c (cover_in u h d) (young_cover d is from) parts.may covered
-                    (dir_alike u c d w true (λ _. refl) parts.kind)));
+                    (dir_alike table.whose u c d w true (λ _. refl) parts.kind)));
                 about = of_new_dir from;
               })
         ]
@@ -325,7 +325,7 @@ module _ (table : CallTable) (t0 : Tree) (h : ProcessState) (well0 : WellFormed 
         (last_of c ≡ Followed → is_link u (Slot s.0 s.1 (Some x)) ≡ false)
         → may_any h (rule_of table c).alternatives ≡ may.Yes →
         cover_fault (cover u h (Slot s.0 s.1 (Some x))) (rule_of table c).perms ≡ None →
-        object_fault u c (object_of_kind (kind_at u x)) ≡ None
+        object_fault table.whose u c (object_of_kind (kind_at u x)) ≡ None
         → Among (named_covers t0 table h (kind_at t0 x) (cover t0 h (Slot r.0 r.1 (Some x)))) (cover u h (Slot s.0 s.1 (Some x))) →
         Hit (Slot s.0 s.1 (Some x))
     hit_row r s x at own same other followed granted covered fine a =
@@ -343,7 +343,7 @@ module _ (table : CallTable) (t0 : Tree) (h : ProcessState) (well0 : WellFormed 
               (λ e. ap is_link_kind (sym same_kind) ∙ followed e))
               (under_one table t0 h (covers_of t0 table h subject) (ever_object t0 table h subject) c (cover u h (Slot s.0 s.1 (Some x))) a
               granted covered
-              (ap (λ o. object_fault empty_tree c (object_of_kind o)) (sym same_kind) ∙ sym (plain_alike u c (kind_at u x)) ∙ fine)));
+              (ap (λ o. object_fault table.whose empty_tree c (object_of_kind o)) (sym same_kind) ∙ sym (plain_alike table.whose u c (kind_at u x)) ∙ fine)));
           about = of_row r at own;
         }
 
@@ -432,9 +432,9 @@ module _ (table : CallTable) (t0 : Tree) (h : ProcessState) (well0 : WellFormed 
     ]
       where
         parts : Parts (may_any h (rule_of table c).alternatives) (cover_fault (cover u h (Slot s.0 s.1 (Some x))) (rule_of table c).perms)
-            (object_fault u c (object_of_kind (kind_at u x)))
+            (object_fault table.whose u c (object_of_kind (kind_at u x)))
         parts = parts_of (may_any h (rule_of table c).alternatives)
-            (cover_fault (cover u h (Slot s.0 s.1 (Some x))) (rule_of table c).perms) (object_fault u c (object_of_kind (kind_at u x)))
+            (cover_fault (cover u h (Slot s.0 s.1 (Some x))) (rule_of table c).perms) (object_fault table.whose u c (object_of_kind (kind_at u x)))
             allowed
 
         lives : is_living u x ≡ true
@@ -466,14 +466,14 @@ module _ (table : CallTable) (t0 : Tree) (h : ProcessState) (well0 : WellFormed 
               thing = Comes NewFile;
               listed = listed_new NewFile c (new_among NewFile c edits can refl
                   (under_one table t0 h (file_covers t0 table h) IsFile c (cover u h (Slot s.0 s.1 (Some x))) a parts.may parts.covered
-                  (sym (plain_alike u c (Some kind.File)) ∙ ap (λ o. object_fault u c (object_of_kind o)) (sym kinds) ∙ parts.kind)));
+                  (sym (plain_alike table.whose u c (Some kind.File)) ∙ ap (λ o. object_fault table.whose u c (object_of_kind o)) (sym kinds) ∙ parts.kind)));
               about = of_new_file from kinds;
             }
             by NewLink kinds can = record {
               thing = Comes NewLink;
               listed = listed_new NewLink c (new_among NewLink c edits can (kept_link (last_of c) refl followed kinds)
                   (under_one table t0 h (file_covers t0 table h) IsLink c (cover u h (Slot s.0 s.1 (Some x))) a parts.may parts.covered
-                  (sym (plain_alike u c (Some kind.Link)) ∙ ap (λ o. object_fault u c (object_of_kind o)) (sym kinds) ∙ parts.kind)));
+                  (sym (plain_alike table.whose u c (Some kind.Link)) ∙ ap (λ o. object_fault table.whose u c (object_of_kind o)) (sym kinds) ∙ parts.kind)));
               about = of_new_link from kinds;
             }
 
@@ -482,12 +482,12 @@ module _ (table : CallTable) (t0 : Tree) (h : ProcessState) (well0 : WellFormed 
     hit_missing dir name is none allowed = by (perms_kept h (place.Slot dir name)) refl
       where
         parts : Parts (may_any h (rule_of table c).alternatives) (cover_fault (cover u h (Slot dir name None)) (rule_of table c).perms)
-            (object_fault u c IsMissing)
+            (object_fault table.whose u c IsMissing)
         parts = parts_of (may_any h (rule_of table c).alternatives) (cover_fault (cover u h (Slot dir name None)) (rule_of table c).perms)
-            (object_fault u c IsMissing) allowed
+            (object_fault table.whose u c IsMissing) allowed
 
-        fine : object_fault empty_tree c IsMissing ≡ None
-        fine = sym (plain_alike u c None) ∙ parts.kind
+        fine : object_fault table.whose empty_tree c IsMissing ≡ None
+        fine = sym (plain_alike table.whose u c None) ∙ parts.kind
 
         here : Subject
         here = At (Slot dir name None)

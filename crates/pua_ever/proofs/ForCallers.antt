@@ -4,13 +4,16 @@
 pub use Rattle.pua_ever.proofs.KeptVeils.{among_kept_at}
 -- a list for ever of one process where others leave the tree, behind what is read, and where nothing refuses it
 pub use Rattle.pua_ever.proofs.Complete.{beside_one}
-pub use Rattle.pua_ever.proofs.Standing.{ever_after_read}
-pub use Rattle.pua_ever.proofs.Placed.{placed_after_read}
+pub use Rattle.pua_ever.proofs.VeilPlacesGiven.{ever_after_read}
+pub use Rattle.pua_ever.proofs.VeilsStandAtNames.{placed_after_read}
 pub use Rattle.pua_ever.proofs.Lasts.{ever_lasts_after_read, none_starts_after_read}
 pub use Rattle.pua_ever.proofs.Refused.{unrefused_table, unrefused_process}
 -- whether some line has exec, by the rows, and that none starts anything where none has
 pub use Rattle.pua_ever.proofs.RowsLast.{exec_told}
 pub use Rattle.pua_ever.proofs.Through.{no_line}
+-- what holds of what stands there holds of what a row is about; rows are on who holds both sets too
+pub use Rattle.pua_ever.proofs.ComingRows.{by_standing}
+pub use Rattle.pua_ever.proofs.RowsLast.{rows_by_both}
 -- the list that holds longest, by who holds both sets
 pub use Rattle.pua_ever.proofs.Chosen.{lasting_unbounded, lasting_alone, lasting_through, starts_open, starts_unlisted}
 pub use Rattle.pua_ever.proofs.Chosen.{unlisted_unbounded}

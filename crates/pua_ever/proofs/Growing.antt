@@ -63,7 +63,7 @@ module _ (table : CallTable) (needs : EditsNeedC table) (t : Tree) (h : ProcessS
   Grows _ = Unit {0}
 
   by_added : (new : New) (maker : Call) → IsMaker new maker → (node : Node) → node.kind ≡ new_kind new →
-      object_fault empty_tree maker IsMissing ≡ None → holds (rule_of table maker).perms creating ≡ true
+      object_fault table.whose empty_tree maker IsMissing ≡ None → holds (rule_of table maker).perms creating ≡ true
       → (x : Found) → may_any h (rule_of table maker).alternatives ≡ may.Yes →
       cover_fault (cover t h x) (rule_of table maker).perms ≡ None → Grows (adding node x)
   by_added new maker makes node is fine has (Slot dir name None) granted covered = (
@@ -85,7 +85,7 @@ module _ (table : CallTable) (needs : EditsNeedC table) (t : Tree) (h : ProcessS
   -- a call that makes a file, if it makes what it may, makes it where nothing stands
   abbrev makes_well : Call → Option Kind → Bool
   makes_well c None = true
-  makes_well c (Some kind.File) = is_none (object_fault empty_tree c IsMissing) && (is_some_file (made_by c) && changes_names c)
+  makes_well c (Some kind.File) = is_none (object_fault table.whose empty_tree c IsMissing) && (is_some_file (made_by c) && changes_names c)
   makes_well c (Some _) = false
 
   by_made : (c : Call) (x : Found) → may_any h (rule_of table c).alternatives ≡ may.Yes →
@@ -93,11 +93,11 @@ module _ (table : CallTable) (needs : EditsNeedC table) (t : Tree) (h : ProcessS
       Grows (making made (spot_named x) (node_named x))
   by_made c x granted covered None is = tt
   by_made c x granted covered (Some kind.File) is =
-      let parts = and_parts (is_none (object_fault empty_tree c IsMissing)) (is_some_file (made_by c) && changes_names c) is in
+      let parts = and_parts (is_none (object_fault table.whose empty_tree c IsMissing)) (is_some_file (made_by c) && changes_names c) is in
       let more = and_parts (is_some_file (made_by c)) (changes_names c) parts.1 in
       let among = among_filter (λ maker. is_some_file (made_by maker)) calls c more.0 (one_of_calls c) in
       by_added NewFile c (λ passes e. any_among passes file_makers c among e) (plain_node kind.File) refl
-      (none_is (object_fault empty_tree c IsMissing) parts.0) (needs.calls c more.1) x granted covered
+      (none_is (object_fault table.whose empty_tree c IsMissing) parts.0) (needs.calls c more.1) x granted covered
   by_made c x granted covered (Some kind.Dir) is = absurd (false≢true is)
   by_made c x granted covered (Some kind.Prog) is = absurd (false≢true is)
   by_made c x granted covered (Some kind.Link) is = absurd (false≢true is)

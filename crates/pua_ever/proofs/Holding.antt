@@ -3,7 +3,7 @@
 use Rattle.pua_ever.proofs.Common.{◌≡◌, ◌⊎◌, ℕ, List, [], ◌∷◌, Bool, true, false, cond, refl, sym, ap, subst, ◌∙◌, inl, inr}
 use Rattle.pua_ever.proofs.Common.{Some, None, Option, same_Some, not, ◌&&◌, ◌||◌, list_any}
 use Rattle.pua_ever.proofs.Common.{false≢true, or_left, or_right}
-use Rattle.pua_ever.proofs.Common.{CallTable, rule_of, ProcessState, SameVeils, has_veil, may_any, state_after, Asked, World, apply}
+use Rattle.pua_ever.proofs.Common.{CallTable, execpromises_by, rule_of, ProcessState, SameVeils, has_veil, may_any, state_after, Asked, World, apply}
 use Rattle.pua_ever.proofs.Common.{world_after, kept_at}
 use Rattle.pua_ever.proofs.Common.{is_member, family_then}
 use Rattle.pua_ever.proofs.Common.{NoCallNeedsError}
@@ -25,7 +25,7 @@ use Rattle.pua_script.proofs.ForCallers.{still_ended}
 use Rattle.pua_script.specs.Laws.{IsConfined}
 use Rattle.pua_ever.specs.Through.{AreWithin, HandsDown, HoldsOne, IsAlong, GoesAlong, FamiliesGoAlong, is_promised_by, is_bounded}
 use Rattle.pua_ever.specs.Through.{stays, is_confined_through, bound_of, GoAlong}
-use Rattle.pua_ever.proofs.Keeping.{Keeps, Are, alone_are, own_kept, then_kept, after_kept}
+use Rattle.pua_ever.proofs.KindsKept.{Keeps, Are, alone_are, own_kept, then_kept, after_kept}
 
 -- who has the veils of one that has those of a third has these
 alike : {a b c : ProcessState} → a.veils ≡ b.veils → SameVeils b c → SameVeils a c
@@ -143,7 +143,7 @@ module _ (table : CallTable) (sound : NoCallNeedsError table) (now : ProcessStat
     abbrev started : ExecPromises → ProcessState
     started left = state_by_exec left (Some hands.left) h
 
-    hands_then : (left : ExecPromises) → left ≡ table.execpromises →
+    hands_then : (left : ExecPromises) → left ≡ (execpromises_by table.whose) →
         HandsDown (started left) given ⊎ (is_promised_by table given call.Exec ≡ false)
     hands_then Stay is = inl (record { left = hands.left; set = refl; within = hands.within })
     hands_then Unset is = inr (by (is_promised_by table given call.Exec) (ap (λ l. stays l || not (is_promised_by table given call.Exec)) is
@@ -153,16 +153,16 @@ module _ (table : CallTable) (sound : NoCallNeedsError table) (now : ProcessStat
         by true e = absurd (false≢true e)
         by false e = refl
 
-    along_started : Along (after_exec table.execpromises h)
-    along_started = subst (λ o. Along (state_by_exec table.execpromises o h)) (sym hands.set) (record {
+    along_started : Along (after_exec (execpromises_by table.whose) h)
+    along_started = subst (λ o. Along (state_by_exec (execpromises_by table.whose) o h)) (sym hands.set) (record {
       unveils = record { any = k.unveils.any; kept = k.unveils.kept };
       lock = k.lock;
       ended = k.ended;
-      promises = inr (hands.within, hands_then table.execpromises refl);
+      promises = inr (hands.within, hands_then (execpromises_by table.whose) refl);
     })
 
   started_by_one : (h : ProcessState) → Goes h → HoldsOne table now given h → may_any h (rule_of table call.Exec).alternatives ≡ Yes →
-      Along (after_exec table.execpromises h)
+      Along (after_exec (execpromises_by table.whose) h)
   started_by_one h k one may = elim one [
     | inl own ↦ along_started h k own.1
     | inr later ↦ elim later.1 [
@@ -172,9 +172,9 @@ module _ (table : CallTable) (sound : NoCallNeedsError table) (now : ProcessStat
     ]
   ]
 
-  goes_program : (h : ProcessState) → Goes h → may_any h (rule_of table call.Exec).alternatives ≡ Yes → Goes (after_exec table.execpromises h)
+  goes_program : (h : ProcessState) → Goes h → may_any h (rule_of table call.Exec).alternatives ≡ Yes → Goes (after_exec (execpromises_by table.whose) h)
   goes_program h k may = elim k.promises [
-    | inl one ↦ goes (after_exec table.execpromises h) (started_by_one h k one may)
+    | inl one ↦ goes (after_exec (execpromises_by table.whose) h) (started_by_one h k one may)
     | inr none ↦ absurd (false≢true (sym none.1 ∙ may_holds h (rule_of table call.Exec).alternatives may))
   ]
 

@@ -52,7 +52,7 @@ use Rattle.pua_ever.proofs.Untaken.{RowsStay, untaken, still_untaking}
 use Rattle.pua_ever.proofs.Ending.{named_link, one_new, parts_of, Parts}
 use Rattle.pua_ever.proofs.Complete.{all_within, yes_is}
 use Rattle.pua_ever.proofs.Holding.{lacks_unveil, along_then}
-use Rattle.pua_ever.proofs.Standing.{new_places, replays_keep_places}
+use Rattle.pua_ever.proofs.VeilPlacesGiven.{new_places, replays_keep_places}
 use Rattle.pua_ever.specs.Through.{is_bounded, AreWithin, GoesAlong, GoAlong}
 use Rattle.std.specs.Prelude.{flat_map}
 use Rattle.pua_policy.specs.States.{held_set}
@@ -139,7 +139,7 @@ module _ (table : CallTable) (t0 : Tree) (crew : List ProcessState) (well0 : Wel
     can : IsJointlyAllowed t0 table crew a thing c
 
   allows : (left : Cover) (object : Object) → may_any a (rule_of table c).alternatives ≡ may.Yes →
-      cover_fault left (rule_of table c).perms ≡ None → object_fault empty_tree c object ≡ None →
+      cover_fault left (rule_of table c).perms ≡ None → object_fault table.whose empty_tree c object ≡ None →
       is_allowed (covered_verdict empty_tree table a c left object) ≡ true
   allows left object granted covered fine = λ i. is_allowed (if_promised (granted i) (allowed_unless (or_fault (covered i) (fine i))))
 
@@ -148,7 +148,7 @@ module _ (table : CallTable) (t0 : Tree) (crew : List ProcessState) (well0 : Wel
       subst (λ q. Can0 (DirCover a q (cover_in u a d))) (k.seated.old d below) (dir_cover_all table t0 crew well0 u k a stand d is)
 
   -- a directory that can be removed now can come to be empty
-  emptied : (d : ℕ) (w : Way) → StandsAsNamed u (Whole d w) → rmdir_fault u d w ≡ None → (d ≢ 0) × (is_empty u d ≡ true)
+  emptied : (d : ℕ) (w : Way) → StandsAsNamed u (Whole d w) → rmdir_fault table.whose u d w ≡ None → (d ≢ 0) × (is_empty u d ≡ true)
   emptied d Dot named e = cc
   emptied d DotDot named e = cc
   emptied d Top named e = cc
@@ -161,7 +161,7 @@ module _ (table : CallTable) (t0 : Tree) (crew : List ProcessState) (well0 : Wel
   hit_dir : (d : ℕ) (w : Way) → is_dir u d ≡ true → StandsAsNamed u (Whole d w) → verdict u table a c (Whole d w) ≡ Allowed → Hit (Whole d w)
   hit_dir d w is named e =
       let parts = parts_of (may_any a (rule_of table c).alternatives) (cover_fault (cover u a (Whole d w)) (rule_of table c).perms)
-      (object_fault u c (IsDir d w)) e in
+      (object_fault table.whose u c (IsDir d w)) e in
       let covered : cover_fault (cover_in u a d) (rule_of table c).perms ≡ None =
       ap (λ left. cover_fault left (rule_of table c).perms) (sym ((covers_descend u a k.well).directory d w is)) ∙ parts.covered in
       elim (given_or_new t0 d) [
@@ -182,29 +182,29 @@ module _ (table : CallTable) (t0 : Tree) (crew : List ProcessState) (well0 : Wel
                 shows = shows_new_dir one.0
                     (subst (λ q. Can0 (DirCover a q (cover_in u a d))) one.1 (dir_cover_all table t0 crew well0 u k a stand d is));
                 named = or-true (keeps_link c);
-                allowed = allows (cover_in u a d) removable_dir parts.may covered (dir_alike u c d w true (λ _. refl) parts.kind);
+                allowed = allows (cover_in u a d) removable_dir parts.may covered (dir_alike table.whose u c d w true (λ _. refl) parts.kind);
               };
             })
       ]
     where
       by : d < t0.next → (b : Bool) → is_rmdir_call c ≡ b → may_any a (rule_of table c).alternatives ≡ may.Yes →
-          cover_fault (cover_in u a d) (rule_of table c).perms ≡ None → object_fault u c (IsDir d w) ≡ None →
+          cover_fault (cover_in u a d) (rule_of table c).perms ≡ None → object_fault table.whose u c (IsDir d w) ≡ None →
           IsJointlyAllowed t0 table crew a (Stands (At (Whole d (own_way t0 d)))) c
       by below false differs granted covered fine = record {
         cover = cover_in u a d;
         object = lasting_dir;
         shows = shows_dir (dir_cover_old d is below);
         named = or-true (keeps_link c);
-        allowed = allows (cover_in u a d) lasting_dir granted covered (dir_alike u c d w false (λ same. sym differs ∙ ap is_rmdir_call same) fine);
+        allowed = allows (cover_in u a d) lasting_dir granted covered (dir_alike table.whose u c d w false (λ same. sym differs ∙ ap is_rmdir_call same) fine);
       }
       by below true same granted covered fine =
-          let empty = emptied d w named (ap (λ x. object_fault u x (IsDir d w)) (sym (rmdir_is c same)) ∙ fine) in
+          let empty = emptied d w named (ap (λ x. object_fault table.whose u x (IsDir d w)) (sym (rmdir_is c same)) ∙ fine) in
           record {
             cover = cover_in u a d;
             object = removable_dir;
             shows = shows_emptied empty.0 (dir_cover_old d is below) (free_emptied table t0 crew well0 u k d empty.1);
             named = or-true (keeps_link c);
-            allowed = allows (cover_in u a d) removable_dir granted covered (dir_alike u c d w true (λ _. refl) fine);
+            allowed = allows (cover_in u a d) removable_dir granted covered (dir_alike table.whose u c d w true (λ _. refl) fine);
           }
 
   hit_file : (s : Spot) (x : ℕ) → look u s.0 s.1 ≡ Some x → is_dir u x ≡ false →
@@ -216,9 +216,9 @@ module _ (table : CallTable) (t0 : Tree) (crew : List ProcessState) (well0 : Wel
       left = own_or (perms_kept a (place.Slot s.0 s.1)) (cover_in u a s.0)
 
       parts : Parts (may_any a (rule_of table c).alternatives) (cover_fault (cover u a (Slot s.0 s.1 (Some x))) (rule_of table c).perms)
-          (object_fault u c (object_of_kind (kind_at u x)))
+          (object_fault table.whose u c (object_of_kind (kind_at u x)))
       parts = parts_of (may_any a (rule_of table c).alternatives)
-          (cover_fault (cover u a (Slot s.0 s.1 (Some x))) (rule_of table c).perms) (object_fault u c (object_of_kind (kind_at u x)))
+          (cover_fault (cover u a (Slot s.0 s.1 (Some x))) (rule_of table c).perms) (object_fault table.whose u c (object_of_kind (kind_at u x)))
           allowed
 
       covered : cover_fault left (rule_of table c).perms ≡ None
@@ -227,8 +227,8 @@ module _ (table : CallTable) (t0 : Tree) (crew : List ProcessState) (well0 : Wel
       over : Can0 (NameCover a (k.seat s.0) s.1 left)
       over = name_cover_all table t0 crew well0 u k a stand s (row_says u su s x e).0
 
-      fine : (o : Option Kind) → kind_at u x ≡ o → object_fault empty_tree c (object_of_kind o) ≡ None
-      fine o is = sym (plain_alike u c o) ∙ ap (λ o. object_fault u c (object_of_kind o)) (sym is) ∙ parts.kind
+      fine : (o : Option Kind) → kind_at u x ≡ o → object_fault table.whose empty_tree c (object_of_kind o) ≡ None
+      fine o is = sym (plain_alike table.whose u c o) ∙ ap (λ o. object_fault table.whose u c (object_of_kind o)) (sym is) ∙ parts.kind
 
       by : {source : Source} → Known t0 s x source → kind_at u x ≡ kind_of_source t0 source → Can0 (StandsAt source (k.seat s.0) s.1) →
           Hit (Slot s.0 s.1 (Some x))
@@ -278,12 +278,12 @@ module _ (table : CallTable) (t0 : Tree) (crew : List ProcessState) (well0 : Wel
   hit_missing dir name is none allowed = by (perms_kept a (place.Slot dir name)) refl
     where
       parts : Parts (may_any a (rule_of table c).alternatives) (cover_fault (cover u a (Slot dir name None)) (rule_of table c).perms)
-          (object_fault u c IsMissing)
+          (object_fault table.whose u c IsMissing)
       parts = parts_of (may_any a (rule_of table c).alternatives) (cover_fault (cover u a (Slot dir name None)) (rule_of table c).perms)
-          (object_fault u c IsMissing) allowed
+          (object_fault table.whose u c IsMissing) allowed
 
-      fine : object_fault empty_tree c IsMissing ≡ None
-      fine = sym (plain_alike u c None) ∙ parts.kind
+      fine : object_fault table.whose empty_tree c IsMissing ≡ None
+      fine = sym (plain_alike table.whose u c None) ∙ parts.kind
 
       covered : cover_fault (own_or (perms_kept a (place.Slot dir name)) (cover_in u a dir)) (rule_of table c).perms ≡ None
       covered = ap (λ c1. cover_fault c1 (rule_of table c).perms) (sym ((covers_descend u a k.well).at_name dir name None)) ∙ parts.covered
@@ -416,7 +416,7 @@ module _ (table : CallTable) (t0 : Tree) (crew : List ProcessState) (well0 : Wel
     new_lines = map (λ new. joint_line test [] (Comes new)) all_new
 
     has_call : (thing : Thing) → IsJointlyAllowed t0 table crew a thing c → Among (filter (test thing) calls) c
-    has_call thing can = among_filter (test thing) calls c (tells.all thing c can) (one_of_calls c)
+    has_call thing can = among_filter (test thing) calls c (tells.all thing c (inl can)) (one_of_calls c)
 
     in_list : (thing : Thing) → Lined thing → IsJointlyAllowed t0 table crew a thing c →
         (word : Word) × Among (joint_lines t0 a test) (joint_line test word thing)
@@ -552,7 +552,7 @@ module _ (table : CallTable) (sound : NoCallNeedsError table) (needs : EditsNeed
                 (named_within_text u from (ending_of call.Exec) text (last_of call.Exec) object named) in
                 let needed = rule_of table call.Exec in
                 let parts = parts_of (may_any last.0 needed.alternatives) (cover_fault (cover u last.0 object) needed.perms)
-                (object_fault u call.Exec IsProg)
+                (object_fault table.whose u call.Exec IsProg)
                 (allowed_is (covered_verdict u table last.0 call.Exec (cover u last.0 object) IsProg) allowed) in
                 jointly_started table t0 crew well0 u k a stand call.Exec dir name x found.named.1 kinds
                 (yes_is (may_any a needed.alternatives)

@@ -1,5 +1,5 @@
 -- Who has more help has no less in its list.
-use Rattle.std.specs.Prelude.{List}
+use Rattle.std.specs.Prelude.{ℕ, List, Some}
 use Rattle.std.specs.List.{Contains}
 use Rattle.pua_tree.specs.Tree.{Tree}
 use Rattle.pua_calls.specs.Calls.{CallTable}
@@ -7,11 +7,12 @@ use Rattle.pua_policy.specs.States.{ProcessState}
 use Rattle.pua_policy.specs.Verdict.{Object}
 use Rattle.pua_policy.specs.declared.answer.Cover.{Cover}
 use Rattle.pua_ever.specs.Ever.{Thing}
+use Rattle.pua_ever.proofs.Common.{inl, inr, At, Comes, NewFile, Slot, Stands}
 use Rattle.pua_ever.specs.Jointly.{Fact, Can, stays_in, moved_in, born_in, not_above_root, not_above_up, not_above_made, dir_own, dir_root}
 use Rattle.pua_ever.specs.Jointly.{dir_within, name_own, name_within, free_none, free_made, free_dir, free_other, way_in_by_c}
 use Rattle.pua_ever.specs.Jointly.{way_in_by_name, way_in_by_turn, writes_at, makes_at, stays_at, moved_at, born_at, Shows, shows_dir}
 use Rattle.pua_ever.specs.Jointly.{shows_emptied, shows_others, shows_row, shows_name, shows_new_dir, shows_new_others, shows_new_file}
-use Rattle.pua_ever.specs.Jointly.{shows_new_link, JointlyGrows}
+use Rattle.pua_ever.specs.Jointly.{shows_new_link, CanTurn, IsJointlyStarted, IsTurned, JointListsGrow, JointlyGrows}
 
 module _ (t : Tree) (table : CallTable) (crew more : List ProcessState) (within : (a : ProcessState) → Contains crew a → Contains more a) where
   pub grows : {fact : Fact} → Can t table crew fact → Can t table more fact
@@ -60,3 +61,31 @@ jointly_grows t table crew more within a thing call can = record {
   named = can.named;
   allowed = can.allowed;
 }
+
+module _ (t : Tree) (table : CallTable) (crew more : List ProcessState) (within : (a : ProcessState) → Contains crew a → Contains more a) where
+  started_more : (a : ProcessState) (thing : Thing) → IsJointlyStarted t table crew a thing → IsJointlyStarted t table more a thing
+  started_more a thing is = record { cover = is.cover; shows = shows_more t table crew more within is.shows; allowed = is.allowed }
+
+  turned_more : (node : ℕ) → IsTurned t table crew node → IsTurned t table more node
+  turned_more node is = record {
+    agent = is.agent;
+    among = within is.agent is.among;
+    row = is.row;
+    at = is.at;
+    file = is.file;
+    call = is.call;
+    turns = is.turns;
+    allowed = jointly_grows t table crew more within is.agent (Stands (At (Slot is.row.0 is.row.1 (Some node)))) is.call is.allowed;
+  }
+
+  turn_more : (thing : Thing) → CanTurn t table crew thing → CanTurn t table more thing
+  turn_more (Stands (At (Slot dir name (Some node)))) can = turned_more node can
+  turn_more (Comes NewFile) can = tt
+  turn_more _ none = absurd none
+
+pub joint_lists_grow : JointListsGrow
+joint_lists_grow t table crew more within a thing call listed = elim listed [
+  | inl can ↦ inl (jointly_grows t table crew more within a thing call can)
+  | inr program ↦
+      inr (program.0, started_more t table crew more within a thing program.1, turn_more t table crew more within thing program.2)
+]

@@ -26,7 +26,7 @@ use Rattle.pua_ever.specs.Laws.{EditsNeedC, MembersEdit, IsWithinEver, IsWithinL
 use Rattle.pua_ever.specs.Through.{is_promised_by, is_promised_by_one, can_come, let_through, ever_through, has_exec, ever_lasting, is_bounded}
 use Rattle.pua_ever.specs.Through.{is_confined_through, EverLastsAfterRead, NowWithinLasting}
 use Rattle.pua_ever.proofs.Now.{now_within_ever}
-use Rattle.pua_ever.proofs.Standing.{replays_keep_places, new_places}
+use Rattle.pua_ever.proofs.VeilPlacesGiven.{replays_keep_places, new_places}
 use Rattle.pua_ever.proofs.Holding.{goes, along_now, may_holds}
 use Rattle.pua_ever.proofs.Through.{within_both, ever_lasts, no_line}
 use Rattle.pua_ever.proofs.NoExec.{without_exec_beside}
@@ -76,7 +76,7 @@ module _ (t : Tree) (well : WellFormed t) (table : CallTable) (sound : NoCallNee
   allowed_too c (At object) e = verdicts_within both h within table sound t c (Ok object) e
   allowed_too c (Others dir) e =
       allowed_if (may_any h (rule_of table c).alternatives) (may_any both (rule_of table c).alternatives)
-      (allowed_unless (or_fault (cover_fault (cover_in t both dir) (rule_of table c).perms) (object_fault t c IsMissing)))
+      (allowed_unless (or_fault (cover_fault (cover_in t both dir) (rule_of table c).perms) (object_fault table.whose t c IsMissing)))
       (may_yes both h within (rule_of table c).alternatives (sound.calls c)) e
 
   -- and its promises are held

@@ -2,7 +2,7 @@
 -- keeps it so; and then it is so of each process of the world.
 use Rattle.pua_ever.proofs.Common.{◌≡◌, ℕ, List, Bool, true, false, cond, refl, sym, subst, ◌∙◌}
 use Rattle.pua_ever.proofs.Common.{Option, Some, None, Result, Ok, Err, ◌||◌, is_some, nat_le, length, same_Some, None≢Some, EAGAIN}
-use Rattle.pua_ever.proofs.Common.{Tree, CallTable, rule_of, ProcessState, may_any, state_after, World, kept_at, Change, change_effect}
+use Rattle.pua_ever.proofs.Common.{Tree, CallTable, execpromises_by, rule_of, ProcessState, may_any, state_after, World, kept_at, Change, change_effect}
 use Rattle.pua_ever.proofs.Common.{CopyAs, Copies, Fails, IsDecided, Action, OnPath, Symlink, Rename, Link, Pledge, Unveil, Lock, Fork, Exit, Uses}
 use Rattle.pua_ever.proofs.Common.{most_processes, found_put}
 use Rattle.std.specs.Prelude.{nat_eq}
@@ -26,7 +26,7 @@ use Rattle.pua_ever.proofs.Calling.{by_calling}
 pub record Keeping (table : CallTable) (t : Tree) (h : ProcessState) (action : Action) (P : ProcessState → Type 0) : Type 0 where
   pub now : P h
   pub more : (event : Event) → (state_after event h).veils ≡ h.veils → P (state_after event h)
-  pub program : may_any h (rule_of table call.Exec).alternatives ≡ Yes → P (after_exec table.execpromises h)
+  pub program : may_any h (rule_of table call.Exec).alternatives ≡ Yes → P (after_exec (execpromises_by table.whose) h)
   pub veiled : (path : List ℕ) (letters : Option ℕ) (c : Change) → action ≡ Unveil path letters → (d : IsVeil t h path letters c) →
       P (state_after (Unveiled (place_of d.object) d.perms) h)
 

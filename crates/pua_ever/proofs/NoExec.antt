@@ -21,7 +21,7 @@ use Rattle.pua_script.specs.Laws.{IsConfined}
 use Rattle.pua_ever.specs.Laws.{MembersEdit, NoLineHasExec, WithoutExec}
 use Rattle.pua_ever.proofs.Growing.{takes, requests_grow}
 use Rattle.pua_ever.proofs.Origins.{Stays, at_first}
-use Rattle.pua_ever.proofs.Stepping.{stays_then}
+use Rattle.pua_ever.proofs.RequestKeepsRows.{stays_then}
 use Rattle.pua_ever.proofs.Along.{grown_within}
 use Rattle.pua_ever.proofs.Unedited.{unedited, still_unable}
 use Rattle.pua_ever.proofs.Ending.{foreseen}

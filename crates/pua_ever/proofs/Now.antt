@@ -106,7 +106,7 @@ module _ (t : Tree) (h : ProcessState) where
     abbrev empties : ℕ → Way → Bool
     empties dir way = is_named_way way && (can_empty t h dir && (may_edit table h || not (list_any (λ row. row.0.0 == dir) t.rows)))
 
-    removed : (dir : ℕ) (way : Way) → rmdir_fault t dir way ≡ None → empties dir way ≡ true
+    removed : (dir : ℕ) (way : Way) → rmdir_fault table.whose t dir way ≡ None → empties dir way ≡ true
     removed dir Dot e = cc
     removed dir DotDot e = cc
     removed dir Top e = cc
@@ -123,29 +123,29 @@ module _ (t : Tree) (h : ProcessState) where
         is_allowed_under table h (covers_of t table h subject) (ever_object t table h subject) c ≡ true
     allowed_still (At (Whole dir way)) is e =
         let parts = parts_of (may_any h (rule_of table c).alternatives) (cover_fault (cover t h (Whole dir way)) (rule_of table c).perms)
-        (object_fault t c (IsDir dir way)) (allowed_is _ e) in
+        (object_fault table.whose t c (IsDir dir way)) (allowed_is _ e) in
         let covered = ap (λ left. cover_fault left (rule_of table c).perms) (sym ((covers_descend t h well).directory dir way is)) ∙
         parts.covered in
         let empty : c ≡ call.Rmdir → empties dir way ≡ true =
-        λ rmdir. removed dir way (ap (λ x. object_fault t x (IsDir dir way)) (sym rmdir) ∙ parts.kind) in
+        λ rmdir. removed dir way (ap (λ x. object_fault table.whose t x (IsDir dir way)) (sym rmdir) ∙ parts.kind) in
         under_one table t h (covers_of_dir t table h dir) (dir_as (empties dir way)) c (cover_in t h dir) (dir_cover well table dir is) parts.may
-        covered (dir_alike t c dir way (empties dir way) empty parts.kind)
+        covered (dir_alike table.whose t c dir way (empties dir way) empty parts.kind)
     allowed_still (At (Slot dir name (Some x))) found e =
         let left = cover t h (Slot dir name (Some x)) in
         let parts = parts_of (may_any h (rule_of table c).alternatives) (cover_fault left (rule_of table c).perms)
-        (object_fault t c (object_of_kind (kind_at t x))) (allowed_is _ e) in
+        (object_fault table.whose t c (object_of_kind (kind_at t x))) (allowed_is _ e) in
         under_one table t h (covers_of t table h (At (Slot dir name (Some x)))) (object_of_kind (kind_at t x)) c left
-        (file_cover well table dir name x found.0 found.1) parts.may parts.covered (sym (plain_alike t c (kind_at t x)) ∙ parts.kind)
+        (file_cover well table dir name x found.0 found.1) parts.may parts.covered (sym (plain_alike table.whose t c (kind_at t x)) ∙ parts.kind)
     allowed_still (At (Slot dir name None)) found e =
         let left = cover t h (Slot dir name None) in
         let parts = parts_of (may_any h (rule_of table c).alternatives) (cover_fault left (rule_of table c).perms)
-        (object_fault t c IsMissing) (allowed_is _ e) in
-        under_one table t h (left ∷ []) IsMissing c left (inl refl) parts.may parts.covered (sym (plain_alike t c None) ∙ parts.kind)
+        (object_fault table.whose t c IsMissing) (allowed_is _ e) in
+        under_one table t h (left ∷ []) IsMissing c left (inl refl) parts.may parts.covered (sym (plain_alike table.whose t c None) ∙ parts.kind)
     allowed_still (Others dir) is e =
         let parts = parts_of (may_any h (rule_of table c).alternatives) (cover_fault (cover_in t h dir) (rule_of table c).perms)
-        (object_fault t c IsMissing) (allowed_is _ e) in
+        (object_fault table.whose t c IsMissing) (allowed_is _ e) in
         under_one table t h (covers_of_dir t table h dir) IsMissing c (cover_in t h dir) (dir_cover well table dir is) parts.may parts.covered
-        (sym (plain_alike t c None) ∙ parts.kind)
+        (sym (plain_alike table.whose t c None) ∙ parts.kind)
 
     -- so a call of now is one for ever
     call_stays : (subject : Subject) → StandsNow subject → Among (calls_on t table h subject) c → Among (ever_calls t table h subject) c

@@ -11,7 +11,7 @@ use Rattle.pua_policy.specs.declared.place.Place.TheVariants as place
 use Rattle.pua_objects.proofs.ForCallers.{found_among, filter_map_among}
 use Rattle.pua_ever.specs.Ever.{opens_outside}
 use Rattle.pua_ever.specs.Laws.{dir_of_place}
-use Rattle.pua_ever.specs.Openings.{if_c, is_without_c, is_barred, is_no_dir, is_outside}
+use Rattle.pua_ever.specs.Destinations.{if_c, is_without_c, is_barred, is_no_dir, is_outside}
 use Rattle.pua_ever.proofs.Covers.{dir_row, slot_row, own_dir, under_dir}
 use Rattle.pua_ever.proofs.KeptVeils.{among_kept_at}
 use Rattle.pua_ever.proofs.Origin.{below_both, own_cover, origin}
@@ -48,8 +48,8 @@ opening_is (Some perms) c e =
     let same = same_Some (Only perms) c parts.1 in
     (perms, refl, sym same, ap has_c (sym same) ∙ parts.0)
 
-pub opening_from : (o : Option ℕ) (perms : ℕ) → o ≡ Some perms → has_c (Only perms) ≡ true → if_c o ≡ Some (Only perms)
-opening_from o perms e has = ap if_c e ∙ when (has_c (Only perms)) (Some (Only perms)) has
+pub destination_from : (o : Option ℕ) (perms : ℕ) → o ≡ Some perms → has_c (Only perms) ≡ true → if_c o ≡ Some (Only perms)
+destination_from o perms e has = ap if_c e ∙ when (has_c (Only perms)) (Some (Only perms)) has
 
 pub opening_some : (o : Option ℕ) → is_some (if_c o) ≡ true → (perms : ℕ) × (o ≡ Some perms) × (has_c (Only perms) ≡ true)
 opening_some None e = absurd (false≢true e)
@@ -188,7 +188,7 @@ module _ (t : Tree) (h : ProcessState) (well : WellFormed t) where
         opens at perms d e has same is outside =
             any_among (is_outside t y) opened d
             (among_filter_map (opened_dir h) (places_of h) at d (place_among h at perms e)
-            (when _ _ (ap is_some (opening_from (perms_kept h at) perms e has)) ∙ ap Some same))
+            (when _ _ (ap is_some (destination_from (perms_kept h at) perms e has)) ∙ ap Some same))
             (and_from (is_dir t d) _ is (ap not outside))
 
         by_dir : (d : ℕ) × Among (directories t) d × ((not (is_below t y d) && has_c (cover_in t h d)) ≡ true) →

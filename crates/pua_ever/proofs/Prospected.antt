@@ -18,6 +18,7 @@ use Rattle.pua_script.proofs.ForCallers.{c_from_cover}
 use Rattle.pua_ever.specs.Ever.{can_allow, ever_covers}
 use Rattle.pua_ever.specs.Prospects.{IsProspects}
 use Rattle.pua_ever.specs.declared.prospects.Prospects.{Prospects}
+use Rattle.pua_calls.specs.declared.rules.Rules.{Rules}
 use Rattle.pua_ever.proofs.KindFaults.{dir_as}
 use Rattle.std.proofs.Math.Bool.{or-true}
 
@@ -26,9 +27,10 @@ last true = refl
 last false = refl
 
 -- but for rmdir it is the same whether a directory can be removed
-rmdir_alone : (c : Call) → (c ≡ call.Rmdir) ⊎ (object_fault empty_tree c removable_dir ≡ object_fault empty_tree c lasting_dir)
-rmdir_alone call.Rmdir = inl refl
-rmdir_alone _ = inr refl
+rmdir_alone : (whose : Rules) (c : Call) →
+    (c ≡ call.Rmdir) ⊎ (object_fault whose empty_tree c removable_dir ≡ object_fault whose empty_tree c lasting_dir)
+rmdir_alone whose call.Rmdir = inl refl
+rmdir_alone whose _ = inr refl
 
 module _ (table : CallTable) (needs : EditsNeedC table) (h : ProcessState) where
   abbrev passes : Cover → Object → Call → Bool
@@ -45,7 +47,7 @@ module _ (table : CallTable) (needs : EditsNeedC table) (h : ProcessState) where
     where
       by : (o : Option Errno) → cover_fault cover (rule_of table call.Rmdir).perms ≡ o
           → is_allowed (if_promised (may_any h (rule_of table call.Rmdir).alternatives)
-          (allowed_unless (or_fault o (object_fault empty_tree call.Rmdir object)))) ≡ false
+          (allowed_unless (or_fault o (object_fault table.whose empty_tree call.Rmdir object)))) ≡ false
       by None fine = absurd (false≢true (sym lacks ∙ c_from_cover cover (rule_of table call.Rmdir).perms (needs.calls call.Rmdir refl) fine))
       by (Some e) fault = no_errno (may_any h (rule_of table call.Rmdir).alternatives) e
 
@@ -54,14 +56,14 @@ module _ (table : CallTable) (needs : EditsNeedC table) (h : ProcessState) where
       passes cover (dir_as a) c ≡ passes cover (dir_as b) c
   dir_passes cover a b c same = by (has_c cover) refl
     where
-      alike : object_fault empty_tree c removable_dir ≡ object_fault empty_tree c lasting_dir → (x : Bool) →
+      alike : object_fault table.whose empty_tree c removable_dir ≡ object_fault table.whose empty_tree c lasting_dir → (x : Bool) →
           passes cover (dir_as x) c ≡ passes cover lasting_dir c
       alike e true = ap (λ o. is_allowed (if_promised (may_any h (rule_of table c).alternatives)
           (allowed_unless (or_fault (cover_fault cover (rule_of table c).perms) o)))) e
       alike e false = refl
 
       lacks : has_c cover ≡ false → passes cover (dir_as a) c ≡ passes cover (dir_as b) c
-      lacks none = elim (rmdir_alone c) [
+      lacks none = elim (rmdir_alone table.whose c) [
         | inl is ↦ ap (passes cover (dir_as a)) is ∙ lacks_rmdir cover (dir_as a) none ∙
             sym (ap (passes cover (dir_as b)) is ∙ lacks_rmdir cover (dir_as b) none)
         | inr e ↦ alike e a ∙ sym (alike e b)

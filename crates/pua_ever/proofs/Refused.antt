@@ -13,7 +13,7 @@ use Rattle.pua_script.specs.Confinement.{changes_names}
 use Rattle.pua_objects.proofs.ForCallers.{one_of_calls}
 use Rattle.pua_script.specs.Laws.{IsConfined}
 use Rattle.pua_ever.specs.Refusals.{can_unveil, lacks_c, changing_calls, new_needs_c, both_need_c, table_refusal, refusal}
-use Rattle.pua_ever.specs.declared.refusal.Refusal.TheVariants.{CanUnveil, LacksC, RenameLacksC, LinkLacksC}
+use Rattle.pua_ever.specs.declared.refusal.EverRefusal.TheVariants.{CanUnveil, LacksC, RenameLacksC, LinkLacksC}
 
 none_in : (p : Call → Bool) (c : Call) (cs : List Call) → find p (c ∷ cs) ≡ None → (p c ≡ false) × (find p cs ≡ None)
 none_in p c cs = by (p c)

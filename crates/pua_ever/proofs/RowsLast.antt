@@ -149,6 +149,22 @@ abouts_more rows row i within here new more alike same =
     ∙ sym (map-append about_of (take i rows) (row ∷ []))
     ∙ sym (ap abouts (take_more rows i row within ∙ ap (λ r. take i rows ++ r ∷ []) (sym here)))
 
+-- rows are on the same where what covers items is
+module _ (t : Tree) (h k : ProcessState) (same : (subject : Subject) → cover_on t h subject ≡ cover_on t k subject) where
+  standing_on : (object : Object) (cover : Cover) (o : Option Subject) → IfSome o (IsStandingOn t h object cover) →
+      IfSome o (IsStandingOn t k object cover)
+  standing_on object cover None is = tt
+  standing_on object cover (Some subject) is = record { fits = is.fits; object = is.object; cover = is.cover ∙ same subject }
+
+  on_alike : (name : Option (List ℕ)) (a : EverAbout) → IsAboutOn t h name a → IsAboutOn t k name a
+  on_alike name (ever_about.Stands at object cover) is = standing_on object cover (subject_at t name at) is
+  on_alike name (ever_about.Freed dir) is = is
+  on_alike name (ever_about.Comes made) is = tt
+
+  pub rows_alike : (rows : List EverRow) → AllByRecursion (IsRowOn t h) rows → AllByRecursion (IsRowOn t k) rows
+  rows_alike [] all = tt
+  rows_alike (row ∷ rows) all = (on_alike (own_name row) row.about all.0, rows_alike rows all.1)
+
 -- who holds both sets has the veils of the process, so what covers an item is the same
 module _ (t : Tree) (h : ProcessState) (given : ℕ) where
   abbrev pub both : ProcessState
@@ -158,16 +174,8 @@ module _ (t : Tree) (h : ProcessState) (given : ℕ) where
   cover_same (At found) = refl
   cover_same (Others dir) = refl
 
-  standing_on : (object : Object) (cover : Cover) (o : Option Subject) → IfSome o (IsStandingOn t both object cover) →
-      IfSome o (IsStandingOn t h object cover)
-  standing_on object cover None is = tt
-  standing_on object cover (Some subject) is = record { fits = is.fits; object = is.object; cover = is.cover ∙ cover_same subject }
-
-  on_both : (name : Option (List ℕ)) (a : EverAbout) → IsAboutOn t both name a → IsAboutOn t h name a
-  on_both name (ever_about.Stands at object cover) is = standing_on object cover (subject_at t name at) is
-  on_both name (ever_about.Freed dir) is = is
-  on_both name (ever_about.Comes made) is = tt
-
   pub rows_on_both : (rows : List EverRow) → AllByRecursion (IsRowOn t both) rows → AllByRecursion (IsRowOn t h) rows
-  rows_on_both [] all = tt
-  rows_on_both (row ∷ rows) all = (on_both (own_name row) row.about all.0, rows_on_both rows all.1)
+  rows_on_both = rows_alike t both h cover_same
+
+  pub rows_by_both : (rows : List EverRow) → AllByRecursion (IsRowOn t h) rows → AllByRecursion (IsRowOn t both) rows
+  rows_by_both = rows_alike t h both (λ subject. sym (cover_same subject))

@@ -54,16 +54,16 @@ module _ (t : Tree) where
         told_more [] rows row about lines (ever_lines_of t table h left) is told_of (subst (AreEverTold t [] rows lines)
         (lines_cons t table h first left ∙ ap (λ ls. ls ++ ever_lines_of t table h left) same) told)
 
-    freed_thing : (o : Option Spot) → IsThing t (Stands (freed_name t table h o)) (told.Stands kind.Missing)
+    pub freed_thing : (o : Option Spot) → IsThing t (Stands (freed_name t table h o)) (told.Stands kind.Missing)
     freed_thing None = refl
     freed_thing (Some spot) = refl
 
     -- ---- the two rows of an item
 
-    row_word : (before : Word) (item : ListItem) (row : EverRow) → IsRowAt item row → word_of_row before row ≡ word_after before item
+    pub row_word : (before : Word) (item : ListItem) (row : EverRow) → IsRowAt item row → word_of_row before row ≡ word_after before item
     row_word before item row at = λ i. with_name (take (at.depth i) before) (at.name i)
 
-    same_word : (before : Word) (item : ListItem) → item.depth ≤ length before → word_after (word_after before item) item ≡ word_after before item
+    pub same_word : (before : Word) (item : ListItem) → item.depth ≤ length before → word_after (word_after before item) item ≡ word_after before item
     same_word before item near = by (last_name item.item.subject)
       where
         by : (o : Option (List ℕ)) → with_name (take item.depth (with_name (take item.depth before) o)) o ≡ with_name (take item.depth before) o
@@ -175,7 +175,7 @@ all_more P (y ∷ ys) x each is = (each.0, all_more P ys x each.1 is)
 
 module _ (t : Tree) (h : ProcessState) where
   -- the name at which something stands
-  standing_there : (subject : Subject) (dir : ℕ) (name : List ℕ) → SubjectFits t subject → own_spot subject ≡ Some (dir, name) →
+  pub standing_there : (subject : Subject) (dir : ℕ) (name : List ℕ) → SubjectFits t subject → own_spot subject ≡ Some (dir, name) →
       is_some (look t dir name) ≡ true
   standing_there (At (Slot at own (Some node))) dir name fits is =
       subst (λ (spot : Spot). is_some (look t spot.0 spot.1) ≡ true) (same_Some (at, own) (dir, name) is) (ap is_some fits.1.1)

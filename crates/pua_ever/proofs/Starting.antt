@@ -87,7 +87,7 @@ module _ (table : CallTable) (t0 : Tree) (h : ProcessState) (well0 : WellFormed 
     (k : Stays table t0 h well0 stand u) (edit : (may_edit table h ≡ true) ⊎ (u ≡ t0)) where
   module _ (dir : ℕ) (name : List ℕ) (x : ℕ) (here : look u dir name ≡ Some x) (kinds : kind_at u x ≡ Some kind.File)
       (parts : Parts (may_any h (rule_of table call.Exec).alternatives)
-      (cover_fault (cover u h (Slot dir name (Some x))) (rule_of table call.Exec).perms) (object_fault u call.Exec IsProg)) where
+      (cover_fault (cover u h (Slot dir name (Some x))) (rule_of table call.Exec).perms) (object_fault table.whose u call.Exec IsProg)) where
     other : is_dir u x ≡ false
     other = ap is_dir_kind kinds
 

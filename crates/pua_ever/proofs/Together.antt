@@ -24,7 +24,7 @@ use Rattle.pua_ever.proofs.Chosen.{lasting_unbounded, starts_open}
 use Rattle.pua_ever.proofs.Complete.{all_within, ever_beside}
 use Rattle.pua_ever.proofs.NoExec.{none_along}
 use Rattle.pua_ever.proofs.Origins.{at_first}
-use Rattle.pua_ever.proofs.Standing.{replays_keep_places, new_places}
+use Rattle.pua_ever.proofs.VeilPlacesGiven.{replays_keep_places, new_places}
 use Rattle.pua_ever.proofs.Holding.{lock_parts, bound_parts}
 use Rattle.pua_ever.proofs.Through.{first_of, second_of, no_line, ever_through_execs}
 

@@ -9,7 +9,7 @@ use Rattle.pua_policy.specs.declared.place.Place.{Place}
 use Rattle.pua_policy.specs.declared.place.Place.TheVariants as place
 use Rattle.pua_ever.specs.Ever.{ever, ever_line_text}
 use Rattle.pua_ever.specs.Refusals.{refusal}
-use Rattle.pua_ever.specs.declared.refusal.Refusal.TheVariants.{CanUnveil, LinkLacksC}
+use Rattle.pua_ever.specs.declared.refusal.EverRefusal.TheVariants.{CanUnveil, LinkLacksC}
 
 abbrev pub lines : Tree → ProcessState → List (List ℕ)
 lines t h = map (ever_line_text t) (ever t standard_table h)

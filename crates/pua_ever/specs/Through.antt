@@ -11,7 +11,7 @@ use Rattle.pua_path.specs.declared.errno.Errno.{Errno}
 use Rattle.pua_path.specs.declared.found.Found.{Found}
 use Rattle.pua_calls.specs.Promises.{holds, tmppath, unveil}
 use Rattle.pua_calls.specs.Tables.{NamesNoError}
-use Rattle.pua_calls.specs.Calls.{CallTable, rule_of}
+use Rattle.pua_calls.specs.Calls.{CallTable, rule_of, execpromises_by}
 use Rattle.pua_calls.specs.declared.rules.Rules.{Rules}
 use Rattle.pua_calls.specs.declared.call.Call.{Call}
 use Rattle.pua_calls.specs.declared.call.Call.TheVariants as call
@@ -61,7 +61,7 @@ stays Stay = true
 stays Unset = false
 
 abbrev pub is_bounded : CallTable → ℕ → Bool
-is_bounded table given = stays table.execpromises || not (is_promised_by table given call.Exec)
+is_bounded table given = stays (execpromises_by table.whose) || not (is_promised_by table given call.Exec)
 
 -- neither it nor a program that it starts can put a veil
 abbrev pub is_confined_through : ProcessState → ℕ → Bool
@@ -96,7 +96,7 @@ gives_somewhere h perms = not (has_veil (veils h)) || list_any (λ veil. holds v
 -- too, of which no line tells: one that holds it can start them, where exec is let through and is allowed under some veil
 abbrev pub starts_made : CallTable → ProcessState → Bool
 starts_made table h =
-    stays table.execpromises
+    stays (execpromises_by table.whose)
     && (holds (held_set h) tmppath
     && (is_promised_by table (held_set h) call.Exec && gives_somewhere h (rule_of table call.Exec).perms))
 

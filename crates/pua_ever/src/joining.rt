@@ -1,4 +1,4 @@
-//! Several processes as one, by which is told what they can ever touch together.
+//! Several processes as one: the list for ever of this one is theirs together.
 
 ghost use Rattle.std.specs.Prelude.{◌≡◌, map, IfOk};
 ghost use Rattle.pua_ever.specs.Joints.{joint_told};
@@ -6,7 +6,7 @@ ghost use Rattle.pua_ever.specs.Together.{either_given, handed_down as handed};
 ghost use Rattle.pua_ever.specs.Together.{confined_part, joined, joint_after, joint_of, with_one};
 
 use crate::lasting::is_promised;
-use pua_calls::{Call, CallTable, Promises};
+use pua_calls::{Call, CallTable, Promises, Rules};
 use pua_policy::Process;
 use pua_tree::OutOfMemory;
 use std::alloc::Global;
@@ -38,7 +38,7 @@ pub fn join(
     let mut one = first.with_both(alloc, joint.held)?;
     let given = confined_part(joint.locked, one.held(), joint.given);
     // It hands nothing down so far, so nothing refuses this.
-    let _given = one.pledge(None, given);
+    let _given = one.pledge(Rules::Standard, None, given);
     one.lock();
     Ok(one)
 }

@@ -1,9 +1,10 @@
 //! Execs: by what all that a process starts is bounded, and which calls it and they have.
 
 ghost use Rattle.std.specs.Prelude.{◌≡◌, ◌||◌, None, IfOk, MatchOption};
+ghost use Rattle.pua_calls.specs.Calls.{execpromises_by};
 ghost use Rattle.pua_calls.specs.CallSets.{has};
 ghost use Rattle.pua_calls.specs.declared.call.Call.{Call as AnyCall};
-ghost use Rattle.pua_ever.specs.Both.{IsBoth};
+ghost use Rattle.pua_ever.specs.BoundedExec.{IsBoundedExec};
 ghost use Rattle.pua_ever.specs.Through.{bound_of, gives_somewhere, is_promised_by};
 ghost use Rattle.pua_ever.specs.Through.{starts_made, stays};
 ghost use Rattle.pua_ever.specs.Through.{is_promised_by_one as promised_by_either};
@@ -18,7 +19,7 @@ use std::alloc::Global;
 /// process held and what it hands down; and the calls that one of both sets lets through, with
 /// which its lines are let through.
 #[derive(Drop)]
-pub struct Both {
+pub struct BoundedExec {
     /// The process that holds both sets.
     pub process: Process,
     /// The calls that one of both sets lets through.
@@ -27,20 +28,20 @@ pub struct Both {
 
 /// Finds whose list holds through execs, where all that a process starts is bounded; None where it
 /// isn't. The only error is that a growth was refused.
-pub fn both_of(
+pub fn bounded_exec(
     alloc: Global,
     process: &Process,
     table: &CallTable,
-) -> Result<Option<Both>, OutOfMemory>
+) -> Result<Option<BoundedExec>, OutOfMemory>
     ensures { IfOk result (λ found. MatchOption found (bound_of table.now process.now
-        ≡ None) (IsBoth table.now process.now)) }
+        ≡ None) (IsBoundedExec table.now process.now)) }
 {
     let Some(given) = bound(process, table) else {
         return Ok(None);
     };
     let mut both = process.with_both(alloc, given)?;
     both.lock();
-    Ok(Some(Both {
+    Ok(Some(BoundedExec {
         process: both,
         passes: promised_by_one(process, table, given),
     }))
@@ -85,7 +86,7 @@ pub(crate) fn starts_made(
 
 /// Whether execpromises stay after an exec.
 fn keeps_execpromises(table: &CallTable) -> bool
-    ensures { result ≡ stays table.now.execpromises }
+    ensures { result ≡ stays (execpromises_by table.now.whose) }
 {
     match table.execpromises() {
         ExecPromises::Stay => true,

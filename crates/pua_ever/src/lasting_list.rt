@@ -7,13 +7,13 @@ ghost use Rattle.pua_calls.specs.CallSets.{has};
 ghost use Rattle.pua_policy.specs.States.{ProcessState};
 ghost use Rattle.pua_ever.specs.Ever.{EverLine as Told};
 ghost use Rattle.pua_ever.specs.EverList.{AreEverTold, IsRowOn, abouts};
-ghost use Rattle.pua_ever.specs.Both.{IsBoth};
-ghost use Rattle.pua_ever.specs.LastingList.{IsBothOf, IsLasting};
+ghost use Rattle.pua_ever.specs.BoundedExec.{IsBoundedExec};
+ghost use Rattle.pua_ever.specs.LastingList.{IsBoundedExecOf, IsLasting};
 ghost use Rattle.pua_ever.specs.Refusals.{refusal as refusal_of, refusal_in};
 ghost use Rattle.pua_ever.specs.Through.{ever_through, execs_unlisted, has_exec, only_through};
 
 use crate::fault::EverFault;
-use crate::lasting::{Both, starts_made};
+use crate::lasting::{BoundedExec, starts_made};
 use crate::list::{EverRow, list_ever};
 use pua_calls::{Call, CallTable, Calls};
 use pua_policy::Process;
@@ -27,7 +27,7 @@ pub enum ExecBound {
     Never,
     /// All that is started is bounded: the list holds through every exec.
     Bounded,
-    /// What is started isn't bounded, or no line tells of it: the list holds until a program is
+    /// Started programs aren't bounded, or no line shows them: the list holds until a program is
     /// started.
     Open,
 }
@@ -43,19 +43,20 @@ pub struct LastingList<'t> {
 
 /// Lists what a process, and what it forks, can ever touch in a tree by their own doing. Where all
 /// that they start is bounded, the list holds through every exec, and has what the started programs
-/// can touch, too: `both` is what `both_of` gave of the process by this table. Else it holds until
-/// an exec of theirs succeeds. Where `why_refused` has a reason, that is the fault. Else the only
-/// fault is that a growth was refused.
+/// can touch, too: `both` is what `bounded_exec` gave of the process by this table. Else it holds
+/// until an exec of theirs succeeds. Where `why_refused` has a reason, that is the fault. Else the
+/// only fault is that a growth was refused.
 pub fn list_lasting<'t, T: FileTree>(
     alloc: Global,
     tree: &'t T,
     process: &'t Process,
-    both: Option<&'t Both>,
+    both: Option<&'t BoundedExec>,
     table: &CallTable,
 ) -> Result<LastingList<'t>, EverFault>
-    ensures list { IfOk result (λ list. IsBothOf table.now process.now (option_copied both.entry) →
+    ensures list { IfOk result (λ list.
+        IsBoundedExecOf table.now process.now (option_copied both.entry) →
         IsLasting (T.content tree.now) table.now process.now list) }
-    ensures refused { IsBothOf table.now process.now (option_copied both.entry) →
+    ensures refused { IsBoundedExecOf table.now process.now (option_copied both.entry) →
         MatchResult result (λ _. refusal_of table.now process.now ≡ None) (λ fault.
         refusal_of table.now process.now ≡ refusal_in fault) }
 {
@@ -82,15 +83,17 @@ pub fn list_lasting<'t, T: FileTree>(
 fn rows_through<'t, T: FileTree>(
     alloc: Global,
     tree: &'t T,
-    both: &'t Both,
+    both: &'t BoundedExec,
     table: &CallTable,
 ) -> Result<Vec<EverRow<'t>>, EverFault>
-    ensures rows { IfOk result (λ rows. (h : ProcessState) → (is : IsBoth table.now h both.now) →
+    ensures rows { IfOk result (λ rows. (h : ProcessState) →
+        (is : IsBoundedExec table.now h both.now) →
         AreEverTold (T.content tree.now) [] rows.items (ever_through
         (T.content tree.now) table.now h is.given) []) }
-    ensures items { IfOk result (λ rows. (h : ProcessState) → IsBoth table.now h both.now →
+    ensures items { IfOk result (λ rows. (h : ProcessState) → IsBoundedExec table.now h both.now →
         AllByRecursion (IsRowOn (T.content tree.now) h) rows.items) }
-    ensures unrefused { IfErr result (λ fault. (h : ProcessState) → IsBoth table.now h both.now →
+    ensures unrefused { IfErr result (λ fault. (h : ProcessState) →
+        IsBoundedExec table.now h both.now →
         refusal_of table.now h ≡ None → refusal_in fault ≡ None) }
 {
     let rows = list_ever(alloc, tree, &both.process, table)?;

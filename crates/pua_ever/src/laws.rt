@@ -1,8 +1,13 @@
 //! Laws and worked examples, each the contract of a function that does nothing.
 
+ghost use Rattle.pua_ever.specs.ComingExamples.{ComingRows};
 ghost use Rattle.pua_ever.specs.Examples.{EverRows, MovedRows, StartedRows};
+ghost use Rattle.pua_ever.specs.JointTable.{TableLaw};
 ghost use Rattle.pua_ever.specs.JointlyExamples.{JointlyRows};
-ghost use Rattle.pua_ever.specs.Jointly.{JointlyAfterRead, JointlyComplete, JointlyGrows, JointlyLasts, JointlyThrough, JointlyWithin};
+ghost use Rattle.pua_ever.specs.JointStarts.{JointStartsListed};
+ghost use Rattle.pua_ever.specs.Jointly.{JointListsGrow, JointlyAfterRead};
+ghost use Rattle.pua_ever.specs.Jointly.{JointlyComplete, JointlyGrows, JointlyLasts, JointlyThrough};
+ghost use Rattle.pua_ever.specs.Jointly.{JointlyWithin};
 ghost use Rattle.pua_ever.specs.Laws.{EverAfterRead, EverAsRead, EverBeside, EverComplete, EverOfMany};
 ghost use Rattle.pua_ever.specs.Laws.{EverWithExecs};
 ghost use Rattle.pua_ever.specs.Laws.{NowWithinEver};
@@ -18,7 +23,7 @@ ghost use Rattle.pua_ever.specs.TogetherExamples.{TogetherRows};
 /// Whatever a process that can put no veil any more and what it forks ask for, as long as nobody
 /// else changes the tree and no exec of theirs succeeds: if a call of one of them is then allowed
 /// on what a path names, the line of that thing in the list of the beginning has the call. So it is
-/// of several processes with the same veils, of execs that let them do no more, and behind a
+/// of several processes with the same veils, of execs that let them do no more, and after a
 /// listing and a script as a command reads them. Where no line has an exec, none can succeed; and a
 /// file that is made, or that a call of its line can make a program, has exec in its line wherever
 /// it could be started, were it one.
@@ -42,7 +47,7 @@ pub fn now_law()
 
 /// Each veil stands on a number that was given, in a new world and in each that a replay leaves;
 /// and the standard rules and those of OpenBSD are tables that the laws speak of.
-#[tactic(auto, using(crate::proofs::Standing::new_places, crate::proofs::Standing::replays_keep_places, crate::proofs::Rules::rules_edit_by_c))]
+#[tactic(auto, using(crate::proofs::VeilPlacesGiven::new_places, crate::proofs::VeilPlacesGiven::replays_keep_places, crate::proofs::Rules::rules_edit_by_c))]
 pub fn premises_law()
     ensures new { NewPlacesStand }
     ensures places { ReplaysKeepPlaces }
@@ -61,6 +66,12 @@ pub fn moving_examples()
     ensures { MovedRows }
 {}
 
+/// Examples of the veils under which things come to stand.
+#[tactic(auto, using(crate::specs::ComingExamples::coming_rows))]
+pub fn coming_examples()
+    ensures { ComingRows }
+{}
+
 /// Examples of what can be started that was no program.
 #[tactic(auto, using(crate::specs::Examples::started_rows))]
 pub fn program_examples()
@@ -70,7 +81,7 @@ pub fn program_examples()
 /// The same through execs, where all that is started is bounded by the execpromises: each of the
 /// family holds what the process held, or what it handed down, under the same veils, and each call
 /// that is then allowed to one of them has its line in the list of the beginning. So it is of
-/// several processes that act together, of files that are made programs, and behind a listing and a
+/// several processes that act together, of files that are made programs, and after a listing and a
 /// script as a command reads them. The list of the objects of now lies within it.
 pub fn through_law()
     ensures along { FamiliesGoAlong }
@@ -92,7 +103,7 @@ pub fn through_examples()
 /// Several processes with the same veils, in whichever order, that can put no more: whatever they
 /// and what they fork ask for, as long as nobody else changes the tree and no exec of theirs
 /// succeeds, each call that is then allowed to one of them has its line in the list of the one that
-/// stands for all of them. So it is through execs, where all that they start is bounded, and behind
+/// stands for all of them. So it is through execs, where all that they start is bounded, and after
 /// a listing and a script as a command reads them.
 pub fn together_law()
     ensures together { EverTogether }
@@ -108,8 +119,10 @@ pub fn together_examples()
 
 /// Several processes with veils and promises of their own, and what they fork: whatever they ask
 /// for, all of them together, each call that is then allowed to one of them has its line in the
-/// joint list of that one. So it is through execs, where all that they start is bounded, and behind
-/// a listing and a script. Who has more help has no less in its list.
+/// joint list of that one. So it is through execs, where all that they start is bounded, and after
+/// a listing and a script. Who has more help has no less in its list. A file on which exec would be
+/// allowed to one of them, were it a program, has exec in its list, if a call of any of them could
+/// make it one.
 pub fn jointly_law()
     ensures within { JointlyWithin }
     ensures complete { JointlyComplete }
@@ -117,10 +130,18 @@ pub fn jointly_law()
     ensures read { JointlyAfterRead }
     ensures lasts { JointlyLasts }
     ensures grows { JointlyGrows }
+    ensures lists { JointListsGrow }
+    ensures starts { JointStartsListed }
 {}
 
 /// Examples of what processes with veils of their own can ever touch together.
 #[tactic(auto, using(crate::proofs::JointlyRows::jointly_rows))]
 pub fn jointly_examples()
     ensures { JointlyRows }
+{}
+
+/// The table of a crew: once nothing more follows from what is in it, it has all that the crew can
+/// come to do, and nothing else.
+pub fn crew_table_law()
+    ensures { TableLaw }
 {}

@@ -217,7 +217,7 @@ fn stands_row<'t>(
 }
 
 /// Where what an item is about stands.
-fn place_of(item: &Item<'_>) -> EverPlace
+pub(crate) fn place_of(item: &Item<'_>) -> EverPlace
     ensures { (t : Tree) → subject_at t (last_name item.now.subject) result
         ≡ Some (subject_given t item.now.subject) }
 {
@@ -281,7 +281,7 @@ fn made_row<'t>(prospects: &Prospects, made: Made) -> EverRow<'t>
 }
 
 /// What a line says that an item is.
-fn kind_of(item: &Item<'_>) -> ObjectKind
+pub(crate) fn kind_of(item: &Item<'_>) -> ObjectKind
     ensures { (t : Tree) (h : ProcessState) (about : About) → IsItemOn t h about item.now →
         kind_word result ≡ subject_word t about }
 {

@@ -13,10 +13,10 @@ ghost use Rattle.pua_policy.specs.Verdict.{Object as Judged, IsMissing, object_o
 ghost use Rattle.pua_ever.specs.Ever.{is_allowed_under, dir_covers, name_covers, file_covers};
 ghost use Rattle.pua_ever.specs.Ever.{open_covers};
 ghost use Rattle.pua_ever.specs.Movable.{IsMovable};
-ghost use Rattle.pua_ever.specs.Openings.{HaveSame};
+ghost use Rattle.pua_ever.specs.Destinations.{HaveSame};
 
+use crate::destinations::{Destinations, find_destinations};
 use crate::moving::moves_any;
-use crate::openings::{Openings, find_openings};
 use pua_calls::{CallTable, Calls};
 use pua_policy::{Cover, Object, Process, judge};
 use pua_tree::{FileTree, Kind, OutOfMemory};
@@ -82,12 +82,12 @@ pub fn find_movable<T: FileTree>(
 ) -> Result<Movable, OutOfMemory>
     ensures { IfOk result (λ found. IsMovable (T.content tree.now) table.now process.now found) }
 {
-    let found = find_openings(alloc, tree, process)?;
+    let found = find_destinations(alloc, tree, process)?;
     Ok(calls_by_object(process, table, &found))
 }
 
 /// The calls by what they are on.
-pub(crate) fn calls_by_object(process: &Process, table: &CallTable, found: &Openings) -> Movable
+pub(crate) fn calls_by_object(process: &Process, table: &CallTable, found: &Destinations) -> Movable
     ensures { (t : Tree) → HaveSame (found.now.dirs.items
         ++ found.now.entrances.items) (dir_covers t process.now) →
         HaveSame found.now.names.items (name_covers t process.now) →
@@ -113,7 +113,7 @@ pub(crate) fn calls_by_object(process: &Process, table: &CallTable, found: &Open
 }
 
 /// The calls on such an object where a directory can come.
-fn on_dirs(process: &Process, table: &CallTable, found: &Openings, object: Object) -> Calls
+fn on_dirs(process: &Process, table: &CallTable, found: &Destinations, object: Object) -> Calls
     ensures { (judged : Judged) → object ≡ object_seen empty_tree judged → (call : Call) →
         has result call ≡ is_allowed_under table.now process.now (found.now.dirs.items
         ++ found.now.entrances.items) judged call }
@@ -128,7 +128,7 @@ fn on_dirs(process: &Process, table: &CallTable, found: &Openings, object: Objec
 fn on_files(
     process: &Process,
     table: &CallTable,
-    found: &Openings,
+    found: &Destinations,
     moves: bool,
     object: Object,
 ) -> Calls
@@ -147,7 +147,7 @@ fn on_files(
 }
 
 /// The calls on a name where nothing stands, wherever something can be made.
-fn on_names(process: &Process, table: &CallTable, found: &Openings) -> Calls
+fn on_names(process: &Process, table: &CallTable, found: &Destinations) -> Calls
     ensures { (call : Call) → has result call
         ≡ is_allowed_under table.now process.now (found.now.names.items
         ++ (found.now.dirs.items ++ found.now.entrances.items)) IsMissing call }

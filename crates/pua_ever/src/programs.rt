@@ -32,7 +32,7 @@ pub(crate) fn on_new_file(as_file: Calls, as_program: Calls) -> Calls
 }
 
 /// Whether one of the calls on a file writes it or sets its mode.
-fn can_turn(calls: Calls) -> bool
+pub(crate) fn can_turn(calls: Calls) -> bool
     ensures { result ≡ list_any (has calls) turning_calls }
 {
     Call::ALL

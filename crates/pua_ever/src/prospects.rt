@@ -28,10 +28,10 @@ ghost use Rattle.pua_ever.specs.Laws.{EditsNeedC};
 ghost use Rattle.pua_ever.specs.Prospects.{IsProspects, AreOnFreed, own_given};
 ghost use Rattle.pua_ever.specs.Prospects.{kind_allowed, kind_covers};
 
+use crate::destinations::{find_destinations, has_c};
 use crate::made::Made;
 use crate::movable::{Movable, calls_by_object};
 use crate::moving::{can_move, may_any};
-use crate::openings::{find_openings, has_c};
 use crate::programs::{on_file, on_new_file};
 use pua_calls::{Call, CallTable, Calls};
 use pua_objects::{Item, Subject};
@@ -66,7 +66,7 @@ pub fn find_prospects<T: FileTree>(
 ) -> Result<Prospects, OutOfMemory>
     ensures { IfOk result (λ found. IsProspects (T.content tree.now) table.now process.now found) }
 {
-    let found = find_openings(alloc, tree, process)?;
+    let found = find_destinations(alloc, tree, process)?;
     let movable = calls_by_object(process, table, &found);
     Ok(Prospects {
         may_edit: may_edit(process, table),
@@ -87,7 +87,7 @@ fn may_edit(process: &Process, table: &CallTable) -> bool
 }
 
 /// Whether a process holds the promises of both of link's names.
-fn may_link(process: &Process, table: &CallTable) -> bool
+pub(crate) fn may_link(process: &Process, table: &CallTable) -> bool
     ensures { result ≡ links_files table.now process.now }
 {
     let link = table.link();
@@ -295,7 +295,7 @@ impl Prospects {
 
 /// Whether a directory can be moved to where it is covered otherwise: it has no veil of its own,
 /// which would go with it.
-fn moves_dir(process: &Process, table: &CallTable, dir: NodeId, cover: &Cover) -> bool
+pub(crate) fn moves_dir(process: &Process, table: &CallTable, dir: NodeId, cover: &Cover) -> bool
     ensures { result ≡ (is_none (perms_kept process.now (Place.Dir dir))
         && moves table.now process.now cover.now) }
 {

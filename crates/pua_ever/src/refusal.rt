@@ -13,7 +13,7 @@ use pua_policy::{May, Process};
 
 /// Why there is no list of what a process can ever touch.
 #[derive(Clone, Copy, PartialEq, Eq)]
-pub enum Refusal {
+pub enum EverRefusal {
     /// The process can still put veils, so nothing is for ever: it is not locked, and holds
     /// `unveil`.
     CanUnveil,
@@ -30,7 +30,7 @@ pub enum Refusal {
 /// calls need; None where there is one. Of two reasons the process's comes first, then that of the
 /// first of rmdir, unlink, create, mkdir, symlink, bind, mknod, rename and link. A process that has
 /// ended can put no veil, so it has a list, without a line.
-pub fn why_refused(process: &Process, table: &CallTable) -> Option<Refusal>
+pub fn why_refused(process: &Process, table: &CallTable) -> Option<EverRefusal>
     ensures exact { result ≡ refusal_of table.now process.now }
     ensures none { result ≡ None → EditsNeedC table.now }
     ensures confined { result ≡ None → IsConfined process.now ⊎ (is_ended process.now ≡ true) }
@@ -40,20 +40,20 @@ pub fn why_refused(process: &Process, table: &CallTable) -> Option<Refusal>
 }
 
 /// The first reason.
-fn reason(process: &Process, table: &CallTable) -> Option<Refusal>
+fn reason(process: &Process, table: &CallTable) -> Option<EverRefusal>
     ensures { result ≡ refusal_of table.now process.now }
 {
     if !process.locked() && process.may(Promises::UNVEIL) == May::Yes {
-        return Some(Refusal::CanUnveil);
+        return Some(EverRefusal::CanUnveil);
     }
     if let Some(call) = first_without_c(table) {
-        return Some(Refusal::LacksC(call));
+        return Some(EverRefusal::LacksC(call));
     }
     if !both_need_c(table.rename()) {
-        return Some(Refusal::RenameLacksC);
+        return Some(EverRefusal::RenameLacksC);
     }
     if !new_needs_c(table.link()) {
-        return Some(Refusal::LinkLacksC);
+        return Some(EverRefusal::LinkLacksC);
     }
     None
 }

@@ -29,21 +29,21 @@ pub(crate) fn run(rt: &HostRuntime) -> Result<()> {
     tell_expected(rt, "faults that no text of a table brings", is_told)
 }
 
-/// Whether the faults of a table whose calls no text of one can name are told by these.
+/// Whether these are reported for the faults of a table whose calls no text of a table can name.
 fn are_faults_told(alloc: Global) -> Result<bool> {
     let rename = format!(in alloc; "{}", ToolFault::RenameLacksC)?;
     let link = format!(in alloc; "{}", ToolFault::LinkLacksC)?;
     Ok(rename.as_str() == "pua: table: rename: no c" && link.as_str() == "pua: table: link: no c")
 }
 
-/// Whether a server and its child are told what they may do.
+/// Whether the answers to a server and its child say what they may do.
 fn is_replay_asked(alloc: Global) -> Result<bool> {
     let (tree, script) = read(alloc, SITE, SERVER)?;
     let served = replay(alloc, tree, &script)?;
     are_told(alloc, &served)
 }
 
-/// Whether both are there, and are told so.
+/// Whether both are there, and so is the answer.
 fn are_told(alloc: Global, served: &Served) -> Result<bool> {
     let (Some(server), Some(child)) = (served.world.process(1), served.world.process(2)) else {
         return Ok(false);

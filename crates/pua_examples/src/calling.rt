@@ -30,7 +30,7 @@ use pua_path::{Counted, Ending, Errno, Found, Last, PathText, resolve};
 use pua_policy::judge::verdict_of;
 use pua_policy::{Process, Verdict};
 use pua_script::{Answer, Script, ScriptFault, World, read_script};
-use pua_tool::{Columns, ListWords, MemorySink, Processes, Span, TableChoice, ToolFault, list_to};
+use pua_tool::{Columns, ListWords, MemorySink, Processes, TableChoice, Time, ToolFault, list_to};
 use pua_tree::{FileTree, ListingFault, NodeId, OutOfMemory, SlabTree, read_listing_slab};
 use std::alloc::Global;
 
@@ -187,7 +187,7 @@ pub(crate) fn can_touch<T: FileTree>(
 }
 
 /// Whether a process that can put no veil any more, or what it forks, can ever start a program by
-/// their own doing. Where not, no exec of theirs is answered ok, whatever they ask for behind a
+/// their own doing. Where not, no exec of theirs is answered ok, whatever they ask for after a
 /// world of a replay with this tree and this process. The error is that of the list's beginning.
 pub(crate) fn can_ever_start<T: FileTree>(
     alloc: Global,
@@ -227,7 +227,7 @@ pub(crate) fn list(
     };
     let list = ListWords {
         whose: processes,
-        span: Span::Now,
+        span: Time::Now,
         columns: Columns::Plain,
     };
     let table = TableChoice::STANDARD;

@@ -52,7 +52,7 @@ fn is_full<T: ListedTree>(alloc: Global) -> Result<bool> {
 }
 
 /// Adds the files; whether each gets the next number, and the tree takes neither a node nor a
-/// further name then, until a name is taken away, and tells all its names.
+/// further name then, until a name is taken away, and lists all its names.
 fn is_filled<T: FileTree>(alloc: Global, tree: &mut T) -> Result<bool> {
     let mut are_added = true;
     for number in 1..=FILES {

@@ -33,7 +33,7 @@ use Rattle.pua_how.specs.Targets.{IsGiven, is_listed, is_of}
 use Rattle.pua_how.specs.declared.target.Target.{Target}
 use Rattle.pua_how.specs.Ways.{call_of}
 use Rattle.pua_how.specs.Laws.{NeverComes, NeverComesThrough, WaysAreListed}
-use Rattle.pua_how.proofs.Listing.{line_about, listed_by, same_veils_same}
+use Rattle.pua_how.proofs.LineOfTarget.{line_about, listed_by, same_veils_same}
 use Rattle.pua_how.proofs.Lived.{LivesThing, lasting_lives, listed_lives}
 use Rattle.pua_ever.specs.Ever.{EverLine, ever}
 

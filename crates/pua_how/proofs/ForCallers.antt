@@ -8,5 +8,5 @@ pub use Rattle.pua_how.proofs.Lived.{lasting_lives}
 -- without a plan none comes
 pub use Rattle.pua_how.proofs.Unlaid.{nothing_comes}
 -- the names of a line lead to what it is about, and what they mean by its kind is that alone
-pub use Rattle.pua_how.proofs.Placed.{IsDirBy, IsPlaced, lasting_placed, spot_by, spot_in}
+pub use Rattle.pua_how.proofs.NamesLeadToThing.{IsDirBy, IsPlaced, lasting_placed, spot_by, spot_in}
 pub use Rattle.pua_how.proofs.Means.{kind_is, meant, node_kind}

@@ -13,8 +13,8 @@ use Rattle.pua_objects.specs.declared.kind.ObjectKind.TheVariants as kind
 use Rattle.pua_objects.proofs.ForCallers.{Among, among_contained, among_either, filter_among}
 use Rattle.pua_ever.specs.Ever.{EverLine, Thing, Stands, Comes, NewDir, NewOthers, NewFile, NewLink}
 use Rattle.pua_ever.proofs.ForCallers.{below_next}
-use Rattle.pua_how.specs.Asking.{Asking, Standing, Making, may_be_of, named_at, own_name, standing_at, targets_asked, targets_at, targets_by, targets_in}
-use Rattle.pua_how.specs.Asking.{targets_new, targets_of}
+use Rattle.pua_how.specs.PathQuestion.{PathQuestion, Standing, Making, may_be_of, named_at, own_name, standing_at, targets_asked, targets_at, targets_by, targets_in}
+use Rattle.pua_how.specs.PathQuestion.{targets_new, targets_of}
 use Rattle.pua_how.specs.Targets.{IsGiven, IsLast, has_call, is_about, is_listed}
 use Rattle.pua_how.specs.declared.target.Target.{Target}
 use Rattle.pua_how.specs.declared.target.Target.TheVariants as target
@@ -89,7 +89,7 @@ module _ (t : Tree) (h : ProcessState) (well : WellFormed t) where
       root thing (inr (inr a)) = absurd a
   by_given (name ∷ more) things e = in_given more 0 name root_given things e
 
-  asked_given : (last : ℕ) → IsLast t last → (asking : Asking) → AllGiven (targets_asked t h last asking)
+  asked_given : (last : ℕ) → IsLast t last → (asking : PathQuestion) → AllGiven (targets_asked t h last asking)
   asked_given last above (Standing names) thing a = by (targets_by t h names) refl a
     where
       by : (o : Option (List Target)) → targets_by t h names ≡ o → Among (unwrap_or o []) thing → IsGiven t thing
@@ -102,7 +102,7 @@ module _ (t : Tree) (h : ProcessState) (well : WellFormed t) where
   asked_given last above Making thing (inr (inr (inr (inr a)))) = absurd a
 
   -- each thing that may be meant was given, or is made after all that lives
-  pub all_given : (last : ℕ) → IsLast t last → (asking : Asking) (kind : Option ObjectKind) (thing : Target) →
+  pub all_given : (last : ℕ) → IsLast t last → (asking : PathQuestion) (kind : Option ObjectKind) (thing : Target) →
       Contains (targets_of t h last asking kind) thing → IsGiven t thing
   all_given last above asking kind thing there =
       asked_given last above asking thing
@@ -160,7 +160,7 @@ module _ (last other : ℕ) where
     new_listed t (Some kind.Missing) = refl
     new_listed t (Some (kind.Node node.Prog)) = refl
 
-    pub listed_alike : (t : Tree) (h : ProcessState) (asking : Asking) (kind : Option ObjectKind) →
+    pub listed_alike : (t : Tree) (h : ProcessState) (asking : PathQuestion) (kind : Option ObjectKind) →
         any_listed (targets_of t h last asking kind) ≡ any_listed (targets_of t h other asking kind)
     listed_alike t h (Standing names) kind = refl
     listed_alike t h Making kind = new_listed t kind

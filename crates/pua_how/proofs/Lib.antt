@@ -1,12 +1,14 @@
-mod Placed
+mod NamesLeadToThing
 mod Means
 mod Lived
-mod Listing
+mod LineOfTarget
 mod Coming
 mod Given
 mod Granting
 mod Outlooking
 mod Meaning
-mod Stepping
+mod SameSteps
+mod Staying
+mod StepsComeToCall
 pub mod ForCallers
 mod Unlaid

@@ -9,7 +9,7 @@ use Rattle.pua_audit.specs.Reach.{Word}
 use Rattle.pua_objects.specs.Objects.{Subject, At, Others}
 use Rattle.pua_ever.specs.Ever.{Thing, Stands, Comes, EverLine, ever}
 use Rattle.pua_ever.specs.Through.{ever_lasting}
-use Rattle.pua_how.proofs.Placed.{IsPlaced, lasting_placed, listed_placed}
+use Rattle.pua_how.proofs.NamesLeadToThing.{IsPlaced, lasting_placed, listed_placed}
 
 module _ (t : Tree) where
   -- a directory lives, and so does that of further names

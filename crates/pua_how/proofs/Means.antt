@@ -17,13 +17,13 @@ use Rattle.pua_objects.specs.Objects.{At, Others}
 use Rattle.pua_objects.specs.declared.kind.ObjectKind.{ObjectKind}
 use Rattle.pua_objects.specs.declared.kind.ObjectKind.TheVariants as kind
 use Rattle.pua_ever.specs.Ever.{Thing, Stands, Comes, New, NewDir, NewOthers, NewFile, NewLink, new_word}
-use Rattle.pua_how.specs.Asking.{asking_by, directory_at_name, is_of_kind, own_name, targets_at, targets_by, targets_in, targets_new}
-use Rattle.pua_how.specs.Asking.{targets_of, thing_word}
+use Rattle.pua_how.specs.PathQuestion.{question_by, directory_at_name, is_of_kind, own_name, targets_at, targets_by, targets_in, targets_new}
+use Rattle.pua_how.specs.PathQuestion.{targets_of, thing_word}
 use Rattle.pua_how.specs.Laws.{LinesMeanTheirOwn}
 use Rattle.pua_how.specs.Targets.{target_about}
 use Rattle.pua_how.specs.declared.target.Target.{Target}
 use Rattle.pua_how.specs.declared.target.Target.TheVariants as target
-use Rattle.pua_how.proofs.Placed.{IsDirBy, IsPlaced, lasting_placed, spot_by, spot_in}
+use Rattle.pua_how.proofs.NamesLeadToThing.{IsDirBy, IsPlaced, lasting_placed, spot_by, spot_in}
 
 -- ---- kinds
 
@@ -171,7 +171,7 @@ module _ (t : Tree) (h : ProcessState) where
       ∙ ap (λ more. target.Node x ∷ more) (no_own dir name (kind.Node own) (of_name own dir name)))
 
   pub meant : (word : Word) (thing : Thing) → IsPlaced t h word thing → (one : ObjectKind) → kind_word one ≡ thing_word t thing → (last : ℕ) →
-      targets_of t h last (asking_by word thing) (Some one) ≡ target_about last thing ∷ []
+      targets_of t h last (question_by word thing) (Some one) ≡ target_about last thing ∷ []
   meant word (Stands (At (Whole dir way))) placed one told last =
       subst (λ (k : ObjectKind). Means k word (target.Directory dir)) (sym (kind_is one (kind.Node node.Dir) told))
       (dir_meant word dir way placed.0 placed.1).0

@@ -21,7 +21,7 @@ use Rattle.pua_objects.specs.declared.kind.ObjectKind.TheVariants as kind
 use Rattle.pua_objects.specs.Objects as objects
 use Rattle.pua_ever.specs.Ever.{Stands, Comes, NewLink}
 use Rattle.pua_ever.specs.Through.{ever_lasting}
-use Rattle.pua_how.specs.Asking.{Standing, Making, asking_of, targets_of}
+use Rattle.pua_how.specs.PathQuestion.{Standing, Making, path_question, targets_of}
 use Rattle.pua_how.specs.Targets.{is_listed, is_of, target_about}
 use Rattle.pua_how.specs.Steps.{comes, step_text}
 use Rattle.pua_how.specs.Ways.{IsWay}
@@ -215,13 +215,13 @@ listed_rows = record {
 
 -- what paths ask about
 pub record AskedRows : Type 0 where
-  pub root : asking_of (codes "/") ≡ Some (Standing [])
-  pub names : asking_of (codes "/etc/conf") ≡ Some (Standing (codes "etc" ∷ codes "conf" ∷ []))
-  pub made : asking_of (codes "new") ≡ Some Making
-  pub relative : asking_of (codes "etc") ≡ None
-  pub dots : asking_of (codes "/etc/../etc") ≡ None
-  pub slash_behind : asking_of (codes "/etc/") ≡ None
-  pub nothing : asking_of [] ≡ None
+  pub root : path_question (codes "/") ≡ Some (Standing [])
+  pub names : path_question (codes "/etc/conf") ≡ Some (Standing (codes "etc" ∷ codes "conf" ∷ []))
+  pub made : path_question (codes "new") ≡ Some Making
+  pub relative : path_question (codes "etc") ≡ None
+  pub dots : path_question (codes "/etc/../etc") ≡ None
+  pub slash_behind : path_question (codes "/etc/") ≡ None
+  pub nothing : path_question [] ≡ None
   pub directory : targets_of pid_tree pid_now 4 (Standing (codes "run" ∷ [])) None ≡ target.Directory 3 ∷ target.Others 3 ∷ []
   pub veiled_file : targets_of pid_tree pid_now 4 (Standing (codes "run" ∷ codes "pid" ∷ [])) None
       ≡ target.Node 4 ∷ target.Name 3 (codes "pid") ∷ []

@@ -20,7 +20,7 @@ use Rattle.pua_objects.specs.declared.kind.ObjectKind.{ObjectKind}
 use Rattle.pua_ever.specs.Ever.{EverLine, ever}
 use Rattle.pua_ever.specs.Laws.{EditsNeedC, VeilsStand, MembersEdit}
 use Rattle.pua_ever.specs.Through.{bound_of, ever_lasting}
-use Rattle.pua_how.specs.Asking.{asking_by, targets_of, thing_word}
+use Rattle.pua_how.specs.PathQuestion.{question_by, targets_of, thing_word}
 use Rattle.pua_how.specs.Targets.{IsGiven, is_listed, is_of, target_about}
 use Rattle.pua_how.specs.Ways.{IsWay}
 use Rattle.pua_how.specs.declared.target.Target.{Target}
@@ -69,4 +69,4 @@ abbrev pub LinesMeanTheirOwn : Type 0
 LinesMeanTheirOwn =
     (t : Tree) (table : CallTable) (h : ProcessState) → WellFormed t → (line : EverLine) → Contains (ever_lasting t table h) line →
     (kind : ObjectKind) → kind_word kind ≡ thing_word t line.thing → (last : ℕ) →
-    targets_of t h last (asking_by line.word line.thing) (Some kind) ≡ target_about last line.thing ∷ []
+    targets_of t h last (question_by line.word line.thing) (Some kind) ≡ target_about last line.thing ∷ []

@@ -1,7 +1,7 @@
 -- The claim, in reading order: what is asked about, and what a way to it is.
 pub mod Targets
 pub mod Ways
-pub mod Asking
+pub mod PathQuestion
 -- What is proved of these.
 pub mod Laws
 -- Worked rows, which hold by computation.

@@ -1,5 +1,5 @@
 -- What contracts see of the lines of a way that were served so far.
-use Rattle.std.specs.Prelude.{◌≡◌, ℕ, false, List, map, Some, Ok, string_bytes}
+use Rattle.std.specs.Prelude.{◌≡◌, ℕ, false, List, [], ◌∷◌, ◌++◌, map, Option, Some, Ok, IfSome, string_bytes}
 use Rattle.std.specs.List.{AllByRecursion}
 use Rattle.pua_calls.specs.declared.call.Call.{Call}
 use Rattle.pua_calls.specs.declared.rules.Rules.{Rules}
@@ -10,7 +10,10 @@ use Rattle.pua_script.specs.Family.{is_exec}
 use Rattle.pua_script.specs.Worlds.{WorldState, state_after_all, world_of}
 use Rattle.pua_script.specs.declared.answer.Answer.TheVariants.{Okay}
 use Rattle.pua_how.specs.Ways.{Reaches, IsWay, call_of}
+use Rattle.pua_how.specs.Steps.{comes, is_some_by}
 use Rattle.pua_how.specs.declared.line.WayLine.{WayLine}
+use Rattle.pua_how.specs.declared.serve.Served.{Served}
+use Rattle.pua_how.specs.declared.step.Step.{Step}
 use Rattle.pua_how.specs.declared.target.Target.{Target}
 
 -- the text is a line of a script that is read by rules, of this process
@@ -39,3 +42,17 @@ pub record IsCall (before : WorldState) (process : ℕ) (call : Call) (target : 
 pub record AreWay (rules : Rules) (before : WorldState) (process : ℕ) (call : Call) (target : Target) (lines : List WayLine) : Type 0 where
   pub are : AllByRecursion (IsLine rules process) lines
   pub way : IsWay before.table (world_of before) process call target (asks_of lines)
+
+-- where plans are tried: behind a world, for a process, in lines that are read by rules
+pub record Tried : Type 0 where
+  pub rules : Rules
+  pub world : WorldState
+  pub process : ℕ
+
+-- steps were served in a copy of a world as far as the last one, or do not come so far
+pub record IsStaged (rules : Rules) (before : WorldState) (process : ℕ) (first : List Step) (now : WorldState) (served : Option Served) : Type 0
+  where
+    pub granted : IfSome served (λ s. AreGranted rules before process s.lines.items now)
+    pub on : (call : Call) (target : Target) (last : Step) →
+        comes rules before.table process call target (first ++ last ∷ []) (world_of before) 0
+        ≡ is_some_by (λ s. comes rules now.table process call target (last ∷ []) (world_of now) s.made) served

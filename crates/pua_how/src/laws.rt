@@ -8,9 +8,9 @@ use pua_ever::{ever_law, through_law};
 
 /// Whatever a process that can put no veil any more and what it forks ask for, as long as nobody
 /// else changes the tree and no exec of theirs succeeds: a call that no line of the list for ever
-/// about a thing has is then allowed to none of them on that thing. So it is through execs, where
-/// all that they start is bounded, of the list that holds longest. And a call to which there is a
-/// way has a line there.
+/// about a thing has is then allowed to none of them on that thing. The same holds through execs
+/// for the list that holds longest, where all that they start is bounded. And a call to which there
+/// is a way has a line there.
 pub fn how_law()
     ensures never { NeverComes }
     ensures through { NeverComesThrough }

@@ -6,7 +6,7 @@ mod draft;
 mod forms;
 mod planner;
 
-use crate::plan::draft::{Draft, Stop};
+use crate::plan::draft::{Draft, DraftFault};
 use crate::plan::forms::{Carrier, Destination, Form, Origin};
 use crate::plan::planner::{By, Row, Veil};
 use crate::step::{At, Dir};
@@ -55,8 +55,8 @@ impl Planner<'_> {
         for form in &search.forms {
             match search.draft_of(form) {
                 Ok(draft) => best.offer(place, draft.steps),
-                Err(Stop::NoWay) => {}
-                Err(Stop::OutOfMemory) => return Err(AllocError),
+                Err(DraftFault::NoWay) => {}
+                Err(DraftFault::OutOfMemory) => return Err(AllocError),
             }
         }
         Ok(())
@@ -64,8 +64,7 @@ impl Planner<'_> {
 }
 
 impl<'p> Search<'p, '_> {
-    /// Adds the forms for the target. The only error is that a growth was refused, as of all that
-    /// add.
+    /// Adds the forms for the target. The only error is that a growth was refused.
     fn add_forms(&mut self) -> Result<(), AllocError> {
         let target = self.target;
         match &target {
@@ -204,7 +203,7 @@ impl<'p> Search<'p, '_> {
 
     /// Ends a draft with the call, on what has come somewhere, or on a name in it. A name that is
     /// freed has come by the call itself.
-    fn end(&self, mut draft: Draft, thing: At) -> Result<Draft, Stop> {
+    fn end(&self, mut draft: Draft, thing: At) -> Result<Draft, DraftFault> {
         let at = match (&self.target, &self.name) {
             (Target::Name(_, _), _) => return Ok(draft),
             (Target::Others(dir), Some(name)) => At::Name(Dir::Standing(*dir), *name),

@@ -1,6 +1,7 @@
 //! Serving the steps of a plan, up to the call that is asked for.
 
 ghost use Rattle.std.specs.Prelude.{◌≡◌, ◌++◌, ◌∷◌, [], IfOk, IfSome, is_some, option_map};
+ghost use Rattle.pua_calls.specs.Calls.{effect_of};
 ghost use Rattle.pua_calls.specs.declared.call.Call.{Call as AnyCall};
 ghost use Rattle.pua_path.specs.Resolution.{resolution_of_text};
 ghost use Rattle.pua_how.specs.Served.{AreGranted, AreWay};
@@ -15,7 +16,7 @@ use crate::line::{WayLine, line_of, made_by};
 use crate::step::Step;
 use crate::target::Target;
 use pua_calls::needs::ending;
-use pua_calls::{Call, Rules};
+use pua_calls::{Call, Effect, Rules};
 use pua_path::{Counted, Ending, Errno, Found, Last, PathText, resolve};
 use pua_script::{Action, Answer, PathBytes, Request, World, WorldFault};
 use pua_tree::{FileTree, NodeId, OutOfMemory};
@@ -24,9 +25,9 @@ use std::alloc::Global;
 /// What was served so far: the lines, and the directory that one of them made last; the root, if
 /// none did.
 #[derive(Drop)]
-struct Served {
-    lines: Vec<WayLine>,
-    made: NodeId,
+pub(crate) struct Served {
+    pub(crate) lines: Vec<WayLine>,
+    pub(crate) made: NodeId,
 }
 
 /// Serves the steps of a plan for the process of a number: a way to a call on what is asked about,
@@ -53,14 +54,21 @@ pub fn serve_way<T: FileTree>(
     let Some((last, first)) = steps.split_last() else {
         return Ok(None);
     };
-    match serve_first(alloc, rules, world, process, first)? {
-        Some(served) => serve_last(alloc, rules, world, process, call, target, last, served),
-        None => Ok(None),
-    }
+    let Some(served) = serve_first(alloc, rules, world, process, first)? else {
+        return Ok(None);
+    };
+    let line = serve_last(alloc, rules, world, process, call, target, last, &served)?;
+    let Some(line) = line else {
+        return Ok(None);
+    };
+    let mut lines = served.lines;
+    lines.push(line)?;
+    Ok(Some(lines))
 }
 
-/// Serves the last step, behind those that were served.
-fn serve_last<T: FileTree>(
+/// Serves the last step, after those that were served, and gives its line. A call that changes
+/// nothing leaves the world as it was.
+pub(crate) fn serve_last<T: FileTree>(
     alloc: Global,
     rules: Rules,
     world: &mut World<T>,
@@ -68,15 +76,17 @@ fn serve_last<T: FileTree>(
     call: Call,
     target: &Target,
     step: &Step,
-    served: Served,
-) -> Result<Option<Vec<WayLine>>, OutOfMemory>
+    served: &Served,
+) -> Result<Option<WayLine>, OutOfMemory>
     ensures way { (before : WorldState) →
-        AreGranted rules before process served.lines.items world.old →
-        IfOk result (λ found. IfSome found
-        (λ lines. AreWay rules before process call target.now lines.items)) }
+        AreGranted rules before process served.now.lines.items world.old →
+        IfOk result (λ found. IfSome found (λ line. AreWay rules before process call target.now
+        (served.now.lines.items ++ line ∷ []))) }
     ensures found { IfOk result (λ found. is_some found
         ≡ comes rules world.old.table process call target.now (step.now ∷ [])
-        (world_of world.old) served.made) }
+        (world_of world.old) served.now.made) }
+    ensures kept { IfOk result (λ found. IfSome found
+        (λ _. effect_of call ≡ Effect.Looks → world.new ≡ world.old)) }
 {
     let line = line_of(alloc, rules, world.tree(), process, step, served.made)?;
     let Some(line) = line else {
@@ -88,13 +98,11 @@ fn serve_last<T: FileTree>(
     let Answer::Okay = answered(world, &line.request)? else {
         return Ok(None);
     };
-    let mut lines = served.lines;
-    lines.push(line)?;
-    Ok(Some(lines))
+    Ok(Some(line))
 }
 
 /// Serves the steps before the last one.
-fn serve_first<T: FileTree>(
+pub(crate) fn serve_first<T: FileTree>(
     alloc: Global,
     rules: Rules,
     world: &mut World<T>,

@@ -4,7 +4,7 @@ use pua_calls::Call;
 use pua_tree::{Name, NodeId};
 
 /// A directory in which a step is.
-#[derive(Clone, Copy)]
+#[derive(Clone, Copy, PartialEq, Eq)]
 pub enum Dir {
     /// One that stands in the tree, wherever it is then.
     Standing(NodeId),
@@ -13,7 +13,7 @@ pub enum Dir {
 }
 
 /// What a step's path leads to.
-#[derive(Clone, Copy)]
+#[derive(Clone, Copy, PartialEq, Eq)]
 pub enum At {
     /// A directory, wherever it is then.
     Directory(NodeId),
@@ -23,7 +23,7 @@ pub enum At {
 
 /// A request whose paths are written when it is served: by then its directories may have been
 /// moved.
-#[derive(Clone, Copy)]
+#[derive(Clone, Copy, PartialEq, Eq)]
 pub enum Step {
     /// A call; the target of a symlink is `target`.
     On(Call, At),

@@ -23,7 +23,7 @@ pub enum Target {
     /// A name in a directory that has a veil of its own, while nothing stands there.
     Name(NodeId, Name),
     /// A directory that is made: its number is above this one, the last of those that live before.
-    /// So it is of the three below.
+    /// This number means the same in the three below.
     NewDirectory(NodeId),
     /// The further names of a directory that is made.
     NewOthers(NodeId),

@@ -7,8 +7,8 @@ ghost use Rattle.pua_how.specs.Served.{AreWay};
 ghost use Rattle.pua_how.specs.Steps.{NoneComes, plan_comes, some_plan_comes};
 ghost use Rattle.pua_how.specs.declared.target.Target.{Target as Thing};
 
-use crate::asking::Meant;
 use crate::line::WayLine;
+use crate::path_question::Meant;
 use crate::plan::Planner;
 use crate::serve::serve_way;
 use crate::step::Step;
@@ -20,28 +20,36 @@ use std::alloc::Global;
 
 /// Steps that may come to a call on one of the things that are meant.
 #[derive(Drop)]
-struct Plan {
+pub(crate) struct Plan {
     /// Which of them, by its place among all.
-    place: usize,
-    steps: Vec<Step>,
+    pub(crate) place: usize,
+    pub(crate) steps: Vec<Step>,
 }
 
 /// The two plans with the fewest steps, as far as there are two: of two that are as long the one
 /// for what comes first among all that is meant.
 #[derive(Drop)]
 pub struct BestPlans {
-    first: Option<Plan>,
-    second: Option<Plan>,
+    pub(crate) first: Option<Plan>,
+    pub(crate) second: Option<Plan>,
 }
 
-/// Plans of which none comes to a way. Only [`BestPlans::serve`] makes one, of plans that
-/// [`Planner::find_plans`] laid: so nothing else, and no want of memory, is taken for it.
+/// Plans of which none comes to a way. Only [`BestPlans::serve`] and
+/// [`Trials::count`](crate::Trials::count) make one, of plans that [`Planner::find_plans`] laid: so
+/// nothing else, and no want of memory, is taken for it.
 #[derive(Drop)]
 pub struct NoWay {
     plans: BestPlans,
 }
 
 impl NoWay {
+    /// Plans that were served, and of which none came to a way.
+    pub(crate) fn of(plans: BestPlans) -> NoWay
+        ensures { result.plans ≡ plans }
+    {
+        NoWay { plans }
+    }
+
     /// The plans, as they were before they were served.
     pub fn into_plans(self) -> BestPlans
         ensures { result ≡ self.plans }
@@ -90,7 +98,7 @@ impl BestPlans {
     {
         match self.find(alloc, rules, world, process, call, meant)? {
             Some(lines) => Ok(Ok(lines)),
-            None => Ok(Err(NoWay { plans: self })),
+            None => Ok(Err(NoWay::of(self))),
         }
     }
 

@@ -21,7 +21,7 @@ use Rattle.pua_tree.proofs.ForCallers.{row_says, same_or_other, same_word, same_
 use Rattle.pua_listing.specs.Entries.{first_line, number_of, made_under, entry_for, entries_from, has_second_lines, is_target_of_bytes, leads_to_bytes}
 use Rattle.pua_listing.proofs.Counting.{count-append, any_counted, none_counted}
 use Rattle.pua_listing.proofs.FirstLines.{has_node, not_behind, lined, not_lined, early, late, here}
-use Rattle.pua_listing.proofs.Placed.{number_is, order_has, order_length, number_root, same_number, spot_once}
+use Rattle.pua_listing.proofs.RowForEachNode.{number_is, order_has, order_length, number_root, same_number, spot_once}
 use Rattle.pua_listing.proofs.Walking.{is_entered, all_enter, has, found_has, once}
 
 living_node : (o : Option Node) → is_some o ≡ true → (n : Node) × (o ≡ Some n)

@@ -3,7 +3,7 @@ pub mod Common
 pub mod Walking
 pub mod FirstLines
 pub mod Spelled
-pub mod Placed
+pub mod RowForEachNode
 pub mod Fitting
 pub mod Renumbering
 pub mod SecondLines
@@ -11,4 +11,4 @@ pub mod ReadBack
 pub mod Under
 pub mod Numbered
 pub mod Ordering
-pub mod Written
+pub mod ListingLines

@@ -23,7 +23,7 @@ use Rattle.pua_listing.specs.Lent.{row_held, rows_held}
 use Rattle.pua_listing.specs.declared.order.TreeRow.{TreeRow}
 use Rattle.pua_listing.proofs.FirstLines.{not_behind}
 use Rattle.pua_listing.proofs.Fitting.{all_fit}
-use Rattle.pua_listing.proofs.Placed.{order_has, order_length}
+use Rattle.pua_listing.proofs.RowForEachNode.{order_has, order_length}
 use Rattle.pua_listing.proofs.Renumbering.{is_renumbered}
 use Rattle.pua_listing.proofs.SecondLines.{second_lines}
 use Rattle.pua_listing.proofs.Spelled.{is_line, entry_printed, head_printed, lines_of_text, text-append}

@@ -18,7 +18,7 @@ use Rattle.pua_listing.specs.Entries.{first_line, number_of, made_under, entries
 use Rattle.pua_listing.specs.Same.{IsRenumbered}
 use Rattle.pua_listing.proofs.Counting.{all_counted, counted_all}
 use Rattle.pua_listing.proofs.FirstLines.{not_before}
-use Rattle.pua_listing.proofs.Placed.{number_is, number_root, placed, same_number, order_has}
+use Rattle.pua_listing.proofs.RowForEachNode.{number_is, number_root, placed, same_number, order_has}
 use Rattle.pua_listing.proofs.Walking.{has, found_has}
 
 -- the row of an entry

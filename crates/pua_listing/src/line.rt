@@ -26,7 +26,7 @@ pub(crate) fn add_line<T: FileTree>(
     text: &mut Vec<u8>,
     tree: &T,
     numbers: &Numbers,
-    number: u32,
+    number: usize,
     row: &TreeRow<'_>,
 ) -> Result<(), OutOfMemory>
     ensures line { OnOk result (text.new.items ≡ text.old.items ++ (entry_text
@@ -60,9 +60,9 @@ fn node_of<T: FileTree>(tree: &T, node: NodeId) -> Option<MadeNode<'_>>
 /// Adds the fields before the name: the line's number, its word and the number of the directory.
 fn add_front(
     text: &mut Vec<u8>,
-    number: u32,
+    number: usize,
     made: Option<MadeNode<'_>>,
-    parent: u32,
+    parent: usize,
 ) -> Result<(), OutOfMemory>
     ensures { OnOk result (text.new.items ≡ text.old.items ++ (decimal number
         ++ 32 ∷ line_word (kind_made made.entry) ++ 32 ∷ decimal parent)) }
@@ -83,9 +83,9 @@ fn word(made: Option<MadeNode<'_>>) -> &'static str
     }
 }
 
-/// Adds what a line has behind the name: the target of a link, and the number of the node where the
+/// Adds what a line has after the name: the target of a link, and the number of the node where the
 /// line makes none.
-fn add_last(text: &mut Vec<u8>, node: u32, made: Option<MadeNode<'_>>) -> Result<(), OutOfMemory>
+fn add_last(text: &mut Vec<u8>, node: usize, made: Option<MadeNode<'_>>) -> Result<(), OutOfMemory>
     ensures last { OnOk result (text.new.items
         ≡ text.old.items ++ last_field node (option_map node_made made.entry)) }
     ensures bytes { OnOk result (IsTrue (leads_to_bytes (option_map node_made made.entry))) }
@@ -100,7 +100,7 @@ fn add_last(text: &mut Vec<u8>, node: u32, made: Option<MadeNode<'_>>) -> Result
 }
 
 /// Adds a field that is a number.
-fn add_number(text: &mut Vec<u8>, number: u32) -> Result<(), OutOfMemory>
+fn add_number(text: &mut Vec<u8>, number: usize) -> Result<(), OutOfMemory>
     ensures { OnOk result (text.new.items ≡ text.old.items ++ (32 ∷ decimal number)) }
 {
     let mut digits = Buffer::new();

@@ -1,7 +1,7 @@
 //! The listing of a tree.
 
-ghost use Rattle.std.specs.Prelude.{◌≡◌, ◌≢◌, ◌≤◌, ◌+◌, ◌++◌, Ok, Err, IfOk, IfErr, OnOk};
-ghost use Rattle.std.specs.Prelude.{IsTrue, length, map};
+ghost use Rattle.std.specs.Prelude.{◌≡◌, ◌≢◌, ◌++◌, Ok, Err, IfOk, IfErr, OnOk};
+ghost use Rattle.std.specs.Prelude.{IsTrue, map};
 ghost use Rattle.std.specs.List.{list_all};
 ghost use Rattle.pua_tree.specs.Grammar.{entry_text};
 ghost use Rattle.pua_listing.specs.Entries.{entries, entries_from, leads_to_bytes};
@@ -40,10 +40,8 @@ pub fn list_tree<T: FileTree>(alloc: Global, tree: &T) -> Result<Vec<u8>, ListFa
     Ok(text_of(alloc, tree)?)
 }
 
-/// The text of a tree's listing, where it has no more names than a listing has lines. The only
-/// error is that a growth was refused.
+/// The text of a tree's listing. The only error is that a growth was refused.
 fn text_of<T: FileTree>(alloc: Global, tree: &T) -> Result<Vec<u8>, OutOfMemory>
-    requires { length (T.content tree.now).rows + 1 ≤ 1000000 }
     ensures text { IfOk result (λ text. text.items ≡ listing_text (T.content tree.now)) }
     ensures bytes { OnOk result (IsTrue
         (list_all (λ e. leads_to_bytes e.made) (entries (T.content tree.now)))) }
@@ -65,14 +63,13 @@ fn add_lines<T: FileTree>(
     numbers: &Numbers,
     order: &[TreeRow<'_>],
 ) -> Result<(), OutOfMemory>
-    requires { length order.now + 1 ≤ 1000000 }
     ensures text { OnOk result (text.new.items ≡ text.old.items ++ text_of_lines (map entry_text
         (entries_from (T.content tree.now) (number_in numbers.now) 1 (rows_held order.now)))) }
     ensures bytes { OnOk result (IsTrue (list_all (λ e. leads_to_bytes e.made)
         (entries_from (T.content tree.now) (number_in numbers.now) 1 (rows_held order.now)))) }
 {
     for (place, row) in order.iter().enumerate() {
-        add_line(text, tree, numbers, place as u32 + 1, row)?;
+        add_line(text, tree, numbers, place + 1, row)?;
     }
     Ok(())
 }

@@ -1,6 +1,6 @@
 //! The numbers that nodes have in a listing.
 
-ghost use Rattle.std.specs.Prelude.{◌≡◌, ◌<◌, ◌^◌, ◌+◌, ◌==◌, ℕ, IfOk, OnOk, length, is_some};
+ghost use Rattle.std.specs.Prelude.{◌≡◌, ◌==◌, ℕ, IfOk, OnOk, is_some};
 ghost use Rattle.std.specs.Prelude.{◌||◌, if◌then◌else◌};
 ghost use Rattle.std.specs.Option.{option_or};
 ghost use Rattle.indexmap.specs.IndexMap.{get};
@@ -17,7 +17,7 @@ use std::alloc::Global;
 /// node has two lines.
 #[derive(Drop)]
 pub(crate) struct Numbers {
-    pub(crate) lines: IndexMap<u32, u32>,
+    pub(crate) lines: IndexMap<u32, usize>,
     pub(crate) second_lines: bool,
 }
 
@@ -25,7 +25,6 @@ impl Numbers {
     /// The numbers of nodes whose rows have lines in this order: that of a node is that of the
     /// first of its lines. The only error is that a growth was refused.
     pub(crate) fn of(alloc: Global, order: &[TreeRow<'_>]) -> Result<Numbers, OutOfMemory>
-        requires { length order.now + 1 < 2 ^ 32 }
         ensures numbers { IfOk result (λ numbers. (x : ℕ) →
             number_in numbers x ≡ number_of (rows_held order.now) x) }
         ensures second { IfOk result (λ numbers.
@@ -34,7 +33,7 @@ impl Numbers {
         let mut lines = IndexMap::with_capacity(alloc, order.len())?;
         let mut second_lines = false;
         for (place, row) in order.iter().enumerate() {
-            let known = add_line(&mut lines, row.node.number(), place as u32 + 1)?;
+            let known = add_line(&mut lines, row.node.number(), place + 1)?;
             second_lines = either(second_lines, known);
         }
         Ok(Numbers {
@@ -44,7 +43,7 @@ impl Numbers {
     }
 
     /// The number of a node: 0 for the root, which has no line among these.
-    pub(crate) fn number(&self, node: NodeId) -> u32
+    pub(crate) fn number(&self, node: NodeId) -> usize
         ensures { result ≡ number_in self.now node }
     {
         match self.lines.get(&node.number()) {
@@ -56,7 +55,7 @@ impl Numbers {
 
 /// Adds the line of a node that has none so far. Answers whether it has one. The only error is that
 /// a growth was refused.
-fn add_line(lines: &mut IndexMap<u32, u32>, node: u32, line: u32) -> Result<bool, OutOfMemory>
+fn add_line(lines: &mut IndexMap<u32, usize>, node: u32, line: usize) -> Result<bool, OutOfMemory>
     ensures known { IfOk result (λ known. known ≡ is_some (get ◌==◌ lines.old node)) }
     ensures lines { OnOk result ((x : ℕ) → get ◌==◌ lines.new x ≡ option_or
         (get ◌==◌ lines.old x) (if node == x then Some line else None)) }

@@ -75,7 +75,7 @@ module _ (t : Tree) (sound : Sound t) where
         verdict t table h call (Slot dir name None) ≡ subject_verdict t table h call (Others dir)
     others_verdict call dir name none =
         ap (λ (c : Cover). if_promised (may_any h (rule_of table call).alternatives)
-        (allowed_unless (or_fault (cover_fault c (rule_of table call).perms) (object_fault t call IsMissing))))
+        (allowed_unless (or_fault (cover_fault c (rule_of table call).perms) (object_fault table.whose t call IsMissing))))
         (cover_of_others dir name none)
 
     abbrev Told : Call → Subject → Type 0

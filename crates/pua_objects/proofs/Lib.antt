@@ -8,7 +8,7 @@ pub mod Completeness
 pub mod Leading
 pub mod Soundness
 pub mod Rising
-pub mod Walking
+pub mod ItemsInOrder
 pub mod Gathered
 pub mod Distinct
 pub mod Entries

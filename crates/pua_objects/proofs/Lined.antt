@@ -6,6 +6,7 @@ use Rattle.std.specs.Prelude.{codes}
 use Rattle.pua_tree.specs.Tree.{kind_at}
 use Rattle.pua_tree.specs.declared.node.Kind.TheVariants as kinds
 use Rattle.pua_calls.specs.CallSets.{has, keeps_link}
+use Rattle.pua_calls.specs.declared.rules.Rules.TheVariants.{Standard}
 use Rattle.pua_policy.specs.Objects.{object_seen}
 use Rattle.pua_policy.specs.Verdict.{cover, object_of_kind, rmdir_fault}
 use Rattle.pua_policy.specs.declared.object.Object as seen
@@ -51,12 +52,12 @@ word_dir true = refl
 word_dir false = refl
 
 link_seen : (t : Tree) (found : Found) → is_link_seen (seen_of t found) ≡ is_link t found
-link_seen t (Whole dir way) = link_dir (is_none (rmdir_fault t dir way))
+link_seen t (Whole dir way) = link_dir (is_none (rmdir_fault Standard t dir way))
 link_seen t (Slot dir name None) = refl
 link_seen t (Slot dir name (Some x)) = link_kind t (kind_at t x)
 
 pub word_seen : (t : Tree) (found : Found) → kind_word (kind_seen (seen_of t found)) ≡ object_word (object_of t found)
-word_seen t (Whole dir way) = word_dir (is_none (rmdir_fault t dir way))
+word_seen t (Whole dir way) = word_dir (is_none (rmdir_fault Standard t dir way))
 word_seen t (Slot dir name None) = refl
 word_seen t (Slot dir name (Some x)) = word_kind t (kind_at t x)
 

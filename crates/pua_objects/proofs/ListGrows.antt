@@ -28,7 +28,7 @@ use Rattle.pua_objects.specs.declared.list.ListItem.{ListItem}
 use Rattle.pua_objects.specs.declared.over.Over.{Over}
 use Rattle.pua_objects.proofs.HandedDown.{others_cover, over_below, over_name, over_root, over_whole}
 use Rattle.pua_objects.proofs.Ranges.{passed_more}
-use Rattle.pua_objects.proofs.Walking.{walks_objects}
+use Rattle.pua_objects.proofs.ItemsInOrder.{walks_objects}
 
 -- ---- one item more
 

@@ -10,7 +10,7 @@ use Rattle.pua_path.specs.Limits.{most_links}
 use Rattle.pua_path.specs.Paths.{text_errno, text_fault}
 use Rattle.pua_path.specs.declared.text.Ending.TheVariants as ending
 use Rattle.pua_path.specs.declared.found.Part.TheVariants as parts
-use Rattle.pua_path.specs.declared.traced.TextFault.{TextFault}
+use Rattle.pua_path.specs.declared.traced.PathTextFault.{PathTextFault}
 use Rattle.pua_path.specs.declared.traced.PathFault.TheVariants.{InText, NoStart}
 use Rattle.pua_path.specs.Traces.{stop_errno, resolved_as}
 use Rattle.pua_path.specs.Traces.{named_or_stopped, fails_in, object_or_errno}
@@ -87,7 +87,7 @@ from_answers t from ending text mode = by (not (is_absolute text) && not (is_dir
 pub text_traces_answer : TextTracesAnswer
 text_traces_answer t from ending text mode = by (text_fault text)
   where
-    by : (f : Option TextFault) →
+    by : (f : Option PathTextFault) →
         object_or_errno (PathTrace.outcome (elim f [ None ↦ trace_from t from ending text mode | Some fault ↦ fails_in (InText fault) ]))
         ≡ elim (option_map text_errno f) as (λ x. Result Found Errno) [ None ↦ resolution t from ending text mode | Some errno ↦ Err errno ]
     by None = from_answers t from ending text mode

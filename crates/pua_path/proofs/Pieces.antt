@@ -22,7 +22,7 @@ use Rattle.pua_path.specs.Paths.{ends_in_slash, ending_parts, path_fault, text_e
 use Rattle.pua_path.specs.Limits.{most_path}
 use Rattle.pua_path.specs.Pieces.{begins_slash, are_bytes, IsCutAtSlash}
 use Rattle.pua_path.specs.Remaining.{slash_part, is_piece}
-use Rattle.pua_path.specs.declared.traced.TextFault.TheVariants.{LongText, LongComponent, NulInText}
+use Rattle.pua_path.specs.declared.traced.PathTextFault.TheVariants.{LongText, LongComponent, NulInText}
 use Rattle.pua_path.specs.declared.text.Ending.TheVariants as ending
 use Rattle.pua_path.specs.declared.found.Part.TheVariants.{Dot}
 

@@ -12,7 +12,7 @@ use Rattle.pua_path.specs.declared.found.Last.TheVariants.{Followed, Kept}
 use Rattle.pua_path.specs.declared.found.Way.TheVariants.{Named, Dot, DotDot, Top}
 use Rattle.pua_path.specs.declared.found.Found.TheVariants.{Whole, Slot}
 use Rattle.pua_path.specs.declared.traced.Stop.TheVariants.{NoEntry, NoDirectory, LinkBeyond}
-use Rattle.pua_path.specs.declared.traced.TextFault.TheVariants.{EmptyText, NulInText}
+use Rattle.pua_path.specs.declared.traced.PathTextFault.TheVariants.{EmptyText, NulInText}
 use Rattle.pua_path.specs.declared.traced.PathFault.TheVariants.{InText, NoStart, Stops}
 
 -- a file, and a link to it whose target ends in a slash

@@ -9,8 +9,8 @@ use Rattle.pua_path.specs.declared.text.Ending.{Ending}
 use Rattle.pua_path.specs.declared.text.Ending.TheVariants as ending
 use Rattle.pua_path.specs.declared.found.Part.{Part}
 use Rattle.pua_path.specs.declared.found.Part.TheVariants.{Dot, DotDot, Name}
-use Rattle.pua_path.specs.declared.traced.TextFault.{TextFault}
-use Rattle.pua_path.specs.declared.traced.TextFault.TheVariants.{EmptyText, LongText, LongComponent, NulInText}
+use Rattle.pua_path.specs.declared.traced.PathTextFault.{PathTextFault}
+use Rattle.pua_path.specs.declared.traced.PathTextFault.TheVariants.{EmptyText, LongText, LongComponent, NulInText}
 
 -- a path text: its bytes, and what a slash at its end adds
 pub record Text : Type 0 where
@@ -42,14 +42,14 @@ abbrev pub parts_of : Ending → List ℕ → List Part
 parts_of ending text = map part_of (components text) ++ ending_parts ending (components text) (ends_in_slash text)
 
 -- the first fault of a text that is no path: none, too long, a component too long, a NUL
-abbrev pub text_fault : List ℕ → Option TextFault
+abbrev pub text_fault : List ℕ → Option PathTextFault
 text_fault [] = Some EmptyText
 text_fault (b ∷ more) =
     if nat_lt most_path (length (b ∷ more)) then Some LongText
     else (if not (has_short_components (b ∷ more)) then Some LongComponent
     else (if has_byte 0 (b ∷ more) then Some NulInText else None))
 
-abbrev pub text_errno : TextFault → Errno
+abbrev pub text_errno : PathTextFault → Errno
 text_errno EmptyText = ENOENT
 text_errno LongText = ENAMETOOLONG
 text_errno LongComponent = ENAMETOOLONG

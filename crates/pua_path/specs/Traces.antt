@@ -18,7 +18,7 @@ use Rattle.pua_path.specs.declared.found.Found.{Found}
 use Rattle.pua_path.specs.declared.found.Found.TheVariants.{Whole, Slot}
 use Rattle.pua_path.specs.declared.traced.Stop.{Stop}
 use Rattle.pua_path.specs.declared.traced.Stop.TheVariants.{NoEntry, NoDirectory, LinkBeyond}
-use Rattle.pua_path.specs.declared.traced.TextFault.{TextFault}
+use Rattle.pua_path.specs.declared.traced.PathTextFault.{PathTextFault}
 use Rattle.pua_path.specs.declared.traced.PathFault.{PathFault}
 use Rattle.pua_path.specs.declared.traced.PathFault.TheVariants.{InText, NoStart, Stops}
 
@@ -106,7 +106,7 @@ trace_from t from ending text mode =
 abbrev pub trace_of_text : Tree → ℕ → Ending → List ℕ → Last → PathTrace
 trace_of_text t from ending text mode = after (text_fault text)
   where
-    after : Option TextFault → PathTrace
+    after : Option PathTextFault → PathTrace
     after (Some fault) = fails_in (InText fault)
     after None = trace_from t from ending text mode
 

@@ -25,4 +25,4 @@ pub use limits::{MOST_LINKS, MOST_PATH};
 pub use probe::{Counted, Probe};
 pub use resolver::{follow, last, resolve, resolve_lent, step, trace};
 pub use text::{Ending, PathText, text_fault};
-pub use traced::{Links, PathFault, Spot, Stop, TextFault};
+pub use traced::{Links, PathFault, PathTextFault, Spot, Stop};

@@ -18,7 +18,7 @@ fn room_for_a_link_less(alloc: Global) {
     }
 }
 
-/// A link's target does not take the part `..` away that is left behind the link.
+/// A link's target does not take the part `..` away that is left after the link.
 fn dotdot_after_a_link_is_lexical() {
     let (Ok(path), Ok(target)) = (
         PathText::read(b"..", Ending::Dot),

@@ -122,7 +122,7 @@ fn resolve_text<'a, 't: 'a, P: Probe<'t>>(
     })
 }
 
-/// Follows the first link of a resolution, and resolves what is left of the text behind it.
+/// Follows the first link of a resolution, and resolves what is left of the text after it.
 fn follow_on<'a, 't: 'a, P: Probe<'t>>(
     probe: &mut P,
     dir: NodeId,
@@ -386,7 +386,7 @@ enum Onward<'n> {
     Nowhere(Errno),
 }
 
-/// What the part that a piece is leads to from a directory; `is_last` says that none is behind it.
+/// What the part that a piece is leads to from a directory; `is_last` says that none is after it.
 /// As it stands in the loop over the pieces, no answer on the way is written to memory.
 #[inline(always)]
 fn lead_by_piece<'n, 't: 'n, P: Probe<'t>>(

@@ -2,7 +2,7 @@
 
 use crate::errno::Errno;
 use crate::limits::MOST_PATH;
-use crate::traced::TextFault;
+use crate::traced::PathTextFault;
 use pua_tree::has_short_components;
 use std::marker::Model;
 
@@ -71,21 +71,21 @@ impl<'a> PathText<'a> {
 }
 
 /// What is wrong with a text that is no path: the first of the faults of `PathText::read` that it
-/// has, told apart. None where it is a path.
-pub fn text_fault(bytes: &[u8]) -> Option<TextFault>
+/// has. None where it is a path.
+pub fn text_fault(bytes: &[u8]) -> Option<PathTextFault>
     ensures { result ≡ text_fault bytes.now }
 {
     if bytes.is_empty() {
-        return Some(TextFault::EmptyText);
+        return Some(PathTextFault::EmptyText);
     }
     if bytes.len() > MOST_PATH {
-        return Some(TextFault::LongText);
+        return Some(PathTextFault::LongText);
     }
     if !has_short_components(bytes) {
-        return Some(TextFault::LongComponent);
+        return Some(PathTextFault::LongComponent);
     }
     if bytes.contains(&0) {
-        return Some(TextFault::NulInText);
+        return Some(PathTextFault::NulInText);
     }
     None
 }

@@ -58,9 +58,9 @@ impl Links {
 /// Where a path leads no further: at which name of which directory.
 #[derive(Clone, Copy)]
 pub enum Stop {
-    /// Nothing has the name, and a part is left behind it.
+    /// Nothing has the name, and a part is left after it.
     NoEntry(Spot),
-    /// What has the name is no directory, and a part is left behind it.
+    /// What has the name is no directory, and a part is left after it.
     NoDirectory(Spot),
     /// A link has the name, and 32 were followed before it.
     LinkBeyond(Spot),
@@ -68,7 +68,7 @@ pub enum Stop {
 
 /// What is wrong with a text that is no path.
 #[derive(Clone, Copy)]
-pub enum TextFault {
+pub enum PathTextFault {
     /// It is empty.
     EmptyText,
     /// It has more than 1,023 bytes.
@@ -83,22 +83,22 @@ pub enum TextFault {
 #[derive(Clone, Copy)]
 pub enum PathFault {
     /// Its text is no path.
-    InText(TextFault),
+    InText(PathTextFault),
     /// It is relative to what is no living directory.
     NoStart,
     /// It leads no further.
     Stops(Stop),
 }
 
-impl TextFault {
+impl PathTextFault {
     /// The error of a call with such a path.
     pub(crate) fn errno(self) -> Errno
         ensures { result ≡ text_errno self }
     {
         match self {
-            TextFault::EmptyText => Errno::ENOENT,
-            TextFault::LongText | TextFault::LongComponent => Errno::ENAMETOOLONG,
-            TextFault::NulInText => Errno::EINVAL,
+            PathTextFault::EmptyText => Errno::ENOENT,
+            PathTextFault::LongText | PathTextFault::LongComponent => Errno::ENAMETOOLONG,
+            PathTextFault::NulInText => Errno::EINVAL,
         }
     }
 }

@@ -5,9 +5,9 @@ pub use Rattle.pua_policy.proofs.Climbs.{climb_step, length-climb_step}
 -- what a process keeps is what is left of a history, after each event and after an exec
 pub use Rattle.pua_policy.proofs.Histories.{state_more, state_exec}
 -- no event brings back a promise but `error`
-pub use Rattle.pua_policy.proofs.Narrowing.{state_never_grows}
+pub use Rattle.pua_policy.proofs.PromisesGoAway.{state_never_grows}
 -- what both of two sets have, the second has, and what a set holds, a set that holds it holds
-pub use Rattle.pua_policy.proofs.Narrowing.{second_holds}
+pub use Rattle.pua_policy.proofs.PromisesGoAway.{second_holds}
 pub use Rattle.pua_policy.proofs.Veils.{holds_through}
 -- names without a veil of their own are covered as their directory is, and get one verdict where nothing stands
 pub use Rattle.pua_policy.proofs.Unveiled.{unveiled_alike, unveiled_within, missing_alike}

@@ -13,7 +13,7 @@ pub within_letters : (t : Tree) (table : CallTable) (p : ProcessState) (call : C
     is_allowed (covered_verdict t table p call All judged) && holds perms (rule_of table call).perms
     ≡ is_allowed (covered_verdict t table p call (Only perms) judged)
 within_letters t table p call perms judged =
-    by (may_any p (rule_of table call).alternatives) (holds perms (rule_of table call).perms) (object_fault t call judged)
+    by (may_any p (rule_of table call).alternatives) (holds perms (rule_of table call).perms) (object_fault table.whose t call judged)
   where
     by : (m : May) (b : Bool) (o : Option Errno) → is_allowed (if_promised m (allowed_unless o)) && b
         ≡ is_allowed (if_promised m (allowed_unless (or_fault (if b then None else Some EACCES) o)))

@@ -3,10 +3,10 @@ pub mod Refusals
 pub mod Letters
 pub mod Climbs
 pub mod Veils
-pub mod Places
-pub mod Narrowing
+pub mod SamePlace
+pub mod PromisesGoAway
 pub mod Exec
-pub mod Standing
+pub mod StatesLeft
 pub mod Covers
 pub mod Unveiled
 pub mod Descending
@@ -16,4 +16,5 @@ pub mod Veiled
 pub mod Coverings
 pub mod NearestVeil
 pub mod Misfits
+pub mod Suiting
 pub mod ForCallers

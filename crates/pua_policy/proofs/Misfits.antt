@@ -1,12 +1,14 @@
 -- What is told of an object is so.
-use Rattle.pua_policy.proofs.Common.{◌≡◌, Call, Bool, true, false, refl, if◌then◌else◌, Option, Some, None}
+use Rattle.pua_policy.proofs.Common.{◌≡◌, ℕ, Call, Bool, true, false, refl, if◌then◌else◌, Option, Some, None}
 use Rattle.std.specs.Prelude.{IfSome, is_some}
 use Rattle.pua_tree.specs.Tree.{Tree, is_empty}
 use Rattle.pua_path.specs.declared.found.Way.TheVariants as way
 use Rattle.pua_calls.specs.declared.call.Call.TheVariants as call
 use Rattle.pua_tree.specs.declared.node.Kind.{Kind}
 use Rattle.pua_tree.specs.declared.node.Kind.TheVariants.{Dir, File, Prog, Link}
-use Rattle.pua_policy.specs.Misfits.{Object, IsDir, Is, IsMissing, misfit}
+use Rattle.pua_calls.specs.declared.rules.Rules.{Rules}
+use Rattle.pua_calls.specs.declared.rules.Rules.TheVariants.{Standard, Openbsd}
+use Rattle.pua_policy.specs.Misfits.{Object, IsDir, Is, IsMissing, dotdot_misfit, misfit}
 use Rattle.pua_calls.specs.declared.fits.Misfit.{Misfit}
 use Rattle.pua_calls.specs.declared.fits.Misfit.TheVariants.{Missing, Exists, IsDirectory, IsNoFile, IsNoDirectory, IsNoLink}
 use Rattle.pua_calls.specs.declared.fits.Misfit.TheVariants.{IsNoProgram, IsNotEmpty, IsNoSocket, InUse}
@@ -53,25 +55,32 @@ module _ (t : Tree) where
       by None e = cc
 
   -- what is told of all but directories is
-  of_kind : (c : Call) (kind : Kind) → is_by_kind (Is kind) (misfit t c (Is kind)) ≡ true
-  of_kind call.Stat Dir = refl
-  of_kind _ Dir = refl
-  of_kind call.Stat _ = refl
-  of_kind _ _ = refl
+  of_kind : (whose : Rules) (c : Call) (kind : Kind) → is_by_kind (Is kind) (misfit whose t c (Is kind)) ≡ true
+  of_kind whose call.Stat Dir = refl
+  of_kind whose _ Dir = refl
+  of_kind whose call.Stat _ = refl
+  of_kind whose _ _ = refl
 
-  of_missing : (c : Call) → is_by_kind IsMissing (misfit t c IsMissing) ≡ true
-  of_missing call.Stat = refl
-  of_missing _ = refl
+  of_missing : (whose : Rules) (c : Call) → is_by_kind IsMissing (misfit whose t c IsMissing) ≡ true
+  of_missing whose call.Stat = refl
+  of_missing whose _ = refl
+
+  -- by `..`, whether the directory has rows or not
+  of_parent : (whose : Rules) (dir : ℕ) (empty : Bool) → is_empty t dir ≡ empty →
+      MisfitHolds t (IsDir dir way.DotDot) (dotdot_misfit whose empty)
+  of_parent Openbsd dir true is = (dir, refl)
+  of_parent Openbsd dir false is = (dir, way.DotDot, refl, is)
+  of_parent Standard dir empty is = (dir, refl)
 
 pub misfits_hold : MisfitsHold
-misfits_hold t call.Rmdir (IsDir dir way.Dot) = (dir, refl)
-misfits_hold t call.Rmdir (IsDir dir way.DotDot) = (dir, refl)
-misfits_hold t call.Rmdir (IsDir dir way.Top) = (dir, refl)
-misfits_hold t call.Rmdir (IsDir dir (way.Named parent name)) = by (is_empty t dir) refl
+misfits_hold whose t call.Rmdir (IsDir dir way.Dot) = (dir, refl)
+misfits_hold whose t call.Rmdir (IsDir dir way.DotDot) = of_parent t whose dir (is_empty t dir) refl
+misfits_hold whose t call.Rmdir (IsDir dir way.Top) = (dir, refl)
+misfits_hold whose t call.Rmdir (IsDir dir (way.Named parent name)) = by (is_empty t dir) refl
   where
     by : (v : Bool) → is_empty t dir ≡ v → IfSome (if v then None else Some IsNotEmpty) (MisfitHolds t (IsDir dir (way.Named parent name)))
     by true e = tt
-    by false e = (dir, parent, name, refl, e)
-misfits_hold t c (IsDir dir way) = known t (IsDir dir way) (misfit t c (IsDir dir way)) refl
-misfits_hold t c (Is kind) = known t (Is kind) (misfit t c (Is kind)) (of_kind t c kind)
-misfits_hold t c IsMissing = known t IsMissing (misfit t c IsMissing) (of_missing t c)
+    by false e = (dir, way.Named parent name, refl, e)
+misfits_hold whose t c (IsDir dir way) = known t (IsDir dir way) (misfit whose t c (IsDir dir way)) refl
+misfits_hold whose t c (Is kind) = known t (Is kind) (misfit whose t c (Is kind)) (of_kind t whose c kind)
+misfits_hold whose t c IsMissing = known t IsMissing (misfit whose t c IsMissing) (of_missing t whose c)

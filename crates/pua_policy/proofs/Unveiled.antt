@@ -36,5 +36,5 @@ module _ (t : Tree) (p : ProcessState) (dir : ℕ) where
       → (table : CallTable) (call : Call) → verdict t table p call (Slot dir name None) ≡ verdict t table p call (Slot dir other None)
   missing_alike name other e f table call =
       ap (λ found. if_promised (may_any p (rule_of table call).alternatives)
-      (allowed_unless (or_fault (cover_fault found (rule_of table call).perms) (object_fault t call IsMissing))))
+      (allowed_unless (or_fault (cover_fault found (rule_of table call).perms) (object_fault table.whose t call IsMissing))))
       (unveiled_alike name other None None e f)

@@ -20,7 +20,7 @@ use Rattle.std.specs.List.{list_all}
 use Rattle.pua_path.specs.declared.errno.Errno.TheVariants.{EACCES}
 use Rattle.pua_policy.specs.declared.answer.UnveilFault.TheVariants.{NotPermitted}
 use Rattle.pua_policy.specs.Verdict.{place_of, directories_over}
-use Rattle.pua_policy.proofs.Narrowing.{second_holds}
+use Rattle.pua_policy.proofs.PromisesGoAway.{second_holds}
 use Rattle.pua_policy.specs.Laws.{VeilsAreKept, CoverNeedsUnveil, NearestCounts, KeptPlacesNarrow}
 use Rattle.pua_tree.proofs.ForCallers.{Some≢None}
 

@@ -4,7 +4,8 @@ use Rattle.pua_tree.specs.Tree.{empty_tree}
 use Rattle.pua_tree.specs.Examples.{example_tree}
 use Rattle.pua_tree.specs.declared.node.Kind.TheVariants as kind
 use Rattle.pua_calls.specs.Promises.{promises_of, perms_of, lacking, reading, writing, rpath, wpath, error, cpath, fattr}
-use Rattle.pua_calls.specs.Calls.{call_count, calls, standard_table, openbsd_table}
+use Rattle.pua_calls.specs.Calls.{call_count, calls, execpromises_by, standard_table, openbsd_table}
+use Rattle.pua_calls.specs.declared.rules.Rules.TheVariants.{Standard, Openbsd}
 use Rattle.pua_calls.specs.CallSets.{calls_in, keeps_link}
 use Rattle.pua_policy.specs.Objects.{object_seen}
 use Rattle.pua_policy.specs.States.{Pledged, Unveiled, Locked, Ended}
@@ -23,7 +24,7 @@ use Rattle.pua_policy.specs.declared.object.Object.TheVariants as see
 use Rattle.pua_policy.specs.declared.place.Place.TheVariants.{Dir, Slot}
 use Rattle.pua_policy.specs.declared.reason.Covering.TheVariants.{InView, NoneOver, By}
 use Rattle.pua_calls.specs.declared.fits.Misfit.TheVariants.{Exists, IsDirectory, IsNoFile, IsNoDirectory, IsNoLink, IsNoProgram}
-use Rattle.pua_calls.specs.declared.fits.Misfit.TheVariants.{IsNotEmpty, IsNoSocket, InUse}
+use Rattle.pua_calls.specs.declared.fits.Misfit.TheVariants.{IsNotEmpty, ByDotDot, IsNoSocket, InUse}
 use Rattle.pua_policy.specs.declared.answer.UnveilFault.TheVariants.{NotPermitted}
 use Rattle.pua_policy.specs.declared.answer.Cover.TheVariants.{Only}
 use Rattle.pua_policy.specs.declared.answer.May.TheVariants as may
@@ -78,9 +79,12 @@ pub record VerdictRows : Type 0 where
   pub unveiled : verdict_on example_tree standard_table (state_of root_veiled) Stat (codes "/etc") ≡ Allowed
   -- something stands there too
   pub cover_before_kind : verdict_on example_tree standard_table (state_of root_veiled) Mkdir (codes "/tmp/sh") ≡ Failed EACCES
-  pub exec_increase : pledge_fault (Pledged None (Some rpath) ∷ new_history) None (Some (rpath + wpath)) ≡ Some EPERM
-  pub first_promises : pledge_fault (Pledged None (Some rpath) ∷ new_history) (Some (rpath + error)) None ≡ None
-  pub under_error : pledge_fault with_error (Some (rpath + wpath)) (Some wpath) ≡ None
+  pub exec_increase : pledge_fault Standard (Pledged None (Some rpath) ∷ new_history) None (Some (rpath + wpath)) ≡ Some EPERM
+  pub first_promises : pledge_fault Standard (Pledged None (Some rpath) ∷ new_history) (Some (rpath + error)) None ≡ None
+  pub under_error : pledge_fault Standard with_error (Some (rpath + wpath)) (Some wpath) ≡ None
+  -- by OpenBSD's rules `error` lets the promises alone ask for more
+  pub promises_under_error : pledge_fault Openbsd with_error (Some (rpath + wpath)) (Some rpath) ≡ None
+  pub exec_under_error : pledge_fault Openbsd with_error (Some rpath) (Some wpath) ≡ Some EPERM
   pub promises : held_set narrowed_history ≡ rpath
   pub execpromises : held_for_exec narrowed_history ≡ Some 0
   pub lacking : may_any narrowed_history (wpath ∷ []) ≡ may.Death
@@ -97,6 +101,8 @@ verdict_rows = record {
   exec_increase = refl;
   first_promises = refl;
   under_error = refl;
+  promises_under_error = refl;
+  exec_under_error = refl;
   promises = refl;
   execpromises = refl;
   lacking = refl;
@@ -108,24 +114,28 @@ verdict_rows = record {
 
 -- the last check, call by call and object by object
 pub record LastCheckRows : Type 0 where
-  pub directory : map (λ call. object_fault example_tree call (IsDir 1 (way.Named 0 (codes "etc")))) calls
+  pub directory : map (λ call. object_fault Standard example_tree call (IsDir 1 (way.Named 0 (codes "etc")))) calls
       ≡ None ∷ None ∷ Some EINVAL ∷ None ∷ Some EISDIR ∷ Some EISDIR ∷ Some EISDIR ∷ Some EEXIST ∷ Some ENOTEMPTY ∷ Some EPERM ∷ Some EEXIST
       ∷ None ∷ None ∷ Some EACCES ∷ Some ENOTSOCK ∷ Some EADDRINUSE ∷ Some EEXIST ∷ None ∷ Some EISDIR ∷ None ∷ None ∷ []
-  pub file : map (λ call. object_fault example_tree call IsFile) calls
+  pub file : map (λ call. object_fault Standard example_tree call IsFile) calls
       ≡ None ∷ None ∷ Some EINVAL ∷ None ∷ None ∷ None ∷ None ∷ Some EEXIST ∷ Some ENOTDIR ∷ None ∷ Some EEXIST ∷ None ∷ Some ENOTDIR
       ∷ Some EACCES ∷ None ∷ Some EADDRINUSE ∷ Some EEXIST ∷ None ∷ None ∷ None ∷ None ∷ []
-  pub program : map (λ call. object_fault example_tree call IsProg) calls
+  pub program : map (λ call. object_fault Standard example_tree call IsProg) calls
       ≡ None ∷ None ∷ Some EINVAL ∷ None ∷ None ∷ None ∷ None ∷ Some EEXIST ∷ Some ENOTDIR ∷ None ∷ Some EEXIST ∷ None ∷ Some ENOTDIR ∷ None
       ∷ Some ENOTSOCK ∷ Some EADDRINUSE ∷ Some EEXIST ∷ None ∷ None ∷ None ∷ None ∷ []
-  pub link : map (λ call. object_fault example_tree call IsLink) (filter keeps_link calls)
+  pub link : map (λ call. object_fault Standard example_tree call IsLink) (filter keeps_link calls)
       ≡ None ∷ None ∷ Some EEXIST ∷ Some ENOTDIR ∷ None ∷ Some EEXIST ∷ Some EADDRINUSE ∷ Some EEXIST ∷ []
-  pub missing_name : map (λ call. object_fault example_tree call IsMissing) calls
+  pub missing_name : map (λ call. object_fault Standard example_tree call IsMissing) calls
       ≡ Some ENOENT ∷ Some ENOENT ∷ Some ENOENT ∷ Some ENOENT ∷ Some ENOENT ∷ Some ENOENT ∷ None ∷ None ∷ Some ENOENT ∷ Some ENOENT ∷ None
       ∷ Some ENOENT ∷ Some ENOENT ∷ Some ENOENT ∷ Some ENOENT ∷ None ∷ None ∷ Some ENOENT ∷ None ∷ Some ENOENT ∷ Some ENOENT ∷ []
-  pub by_dot : rmdir_fault example_tree 1 way.Dot ≡ Some EINVAL
-  pub by_dots : rmdir_fault example_tree 1 way.DotDot ≡ Some EINVAL
-  pub at_top : rmdir_fault example_tree 0 way.Top ≡ Some EBUSY
-  pub empty_directory : rmdir_fault empty_tree 0 (way.Named 0 (codes "d")) ≡ None
+  pub by_dot : rmdir_fault Standard example_tree 1 way.Dot ≡ Some EINVAL
+  pub by_dots : rmdir_fault Standard example_tree 1 way.DotDot ≡ Some EINVAL
+  -- OpenBSD's rules look at the directory that `..` names; only the root can be empty
+  pub openbsd_by_dots : rmdir_fault Openbsd example_tree 1 way.DotDot ≡ Some ENOTEMPTY
+  pub openbsd_above_nothing : rmdir_fault Openbsd empty_tree 0 way.DotDot ≡ Some EINVAL
+  pub openbsd_by_dot : rmdir_fault Openbsd example_tree 1 way.Dot ≡ Some EINVAL
+  pub at_top : rmdir_fault Standard example_tree 0 way.Top ≡ Some EBUSY
+  pub empty_directory : rmdir_fault Standard empty_tree 0 (way.Named 0 (codes "d")) ≡ None
 
 pub last_check_rows : LastCheckRows
 last_check_rows = record {
@@ -136,6 +146,9 @@ last_check_rows = record {
   missing_name = refl;
   by_dot = refl;
   by_dots = refl;
+  openbsd_by_dots = refl;
+  openbsd_above_nothing = refl;
+  openbsd_by_dot = refl;
   at_top = refl;
   empty_directory = refl;
 }
@@ -176,11 +189,11 @@ pub record ReasonRows : Type 0 where
   pub nearer_veil : covering example_tree (state_of three_veils) (found.Slot 3 (codes "sh") (Some 7)) ≡ By (Dir 3) 0
   pub root_veil : covering example_tree (state_of three_veils) (found.Slot 1 (codes "x") None) ≡ By (Dir 0) reading
   pub none_over : covering example_tree (state_of (Unveiled (Dir 3) reading ∷ new_history)) (found.Whole 1 (way.Named 0 (codes "etc"))) ≡ NoneOver
-  pub directory : map (λ call. misfit example_tree call (IsDir 1 (way.Named 0 (codes "etc")))) calls
+  pub directory : map (λ call. misfit Standard example_tree call (IsDir 1 (way.Named 0 (codes "etc")))) calls
       ≡ None ∷ None ∷ Some IsNoLink ∷ None ∷ Some IsDirectory ∷ Some IsDirectory ∷ Some IsDirectory ∷ Some Exists ∷ Some IsNotEmpty
       ∷ Some IsNoFile ∷ Some Exists ∷ None ∷ None ∷ Some IsNoProgram ∷ Some IsNoSocket ∷ Some InUse
       ∷ Some Exists ∷ None ∷ Some IsDirectory ∷ None ∷ None ∷ []
-  pub file : map (λ call. misfit example_tree call IsFile) (Rmdir ∷ Unlink ∷ Exec ∷ Bind ∷ Mknod ∷ Chown ∷ CreateBoth ∷ Fchmod ∷ Fchown ∷ [])
+  pub file : map (λ call. misfit Standard example_tree call IsFile) (Rmdir ∷ Unlink ∷ Exec ∷ Bind ∷ Mknod ∷ Chown ∷ CreateBoth ∷ Fchmod ∷ Fchown ∷ [])
       ≡ Some IsNoDirectory ∷ None ∷ Some IsNoProgram ∷ Some InUse ∷ Some Exists ∷ None ∷ None ∷ None ∷ None ∷ []
 
 pub reason_rows : ReasonRows
@@ -209,17 +222,26 @@ both_for_exec = Pledged None (Some (rpath + cpath)) ∷ new_history
 pub record RuleRows : Type 0 where
   pub chmod : verdict_on example_tree openbsd_table (state_of fattr_alone) Chmod (codes "/etc") ≡ Death
   pub standard_chmod : verdict_on example_tree standard_table (state_of fattr_alone) Chmod (codes "/etc") ≡ Allowed
+  -- what is not empty is named, and the errno says so
+  pub parent_misfit : misfit Openbsd example_tree Rmdir (IsDir 1 way.DotDot) ≡ Some IsNotEmpty
+  pub standard_parent_misfit : misfit Standard example_tree Rmdir (IsDir 1 way.DotDot) ≡ Some ByDotDot
+  pub parent : verdict_on example_tree openbsd_table (state_of new_history) Rmdir (codes "/etc/..") ≡ Failed ENOTEMPTY
+  pub standard_parent : verdict_on example_tree standard_table (state_of new_history) Rmdir (codes "/etc/..") ≡ Failed EINVAL
   -- execpromises stay after an exec, for the next one
-  pub exec_promises : pledged_set (after_exec openbsd_table.execpromises both_for_exec) ≡ Some (rpath + cpath)
-  pub exec_stay : held_for_exec (after_exec openbsd_table.execpromises both_for_exec) ≡ Some (rpath + cpath)
-  pub standard_exec_promises : pledged_set (after_exec standard_table.execpromises both_for_exec) ≡ Some (rpath + cpath)
-  pub standard_exec_unset : held_for_exec (after_exec standard_table.execpromises both_for_exec) ≡ None
-  pub none_given : after_exec openbsd_table.execpromises new_history ≡ new_history
+  pub exec_promises : pledged_set (after_exec (execpromises_by Openbsd) both_for_exec) ≡ Some (rpath + cpath)
+  pub exec_stay : held_for_exec (after_exec (execpromises_by Openbsd) both_for_exec) ≡ Some (rpath + cpath)
+  pub standard_exec_promises : pledged_set (after_exec (execpromises_by Standard) both_for_exec) ≡ Some (rpath + cpath)
+  pub standard_exec_unset : held_for_exec (after_exec (execpromises_by Standard) both_for_exec) ≡ None
+  pub none_given : after_exec (execpromises_by Openbsd) new_history ≡ new_history
 
 pub rule_rows : RuleRows
 rule_rows = record {
   chmod = refl;
   standard_chmod = refl;
+  parent_misfit = refl;
+  standard_parent_misfit = refl;
+  parent = refl;
+  standard_parent = refl;
   exec_promises = refl;
   exec_stay = refl;
   standard_exec_promises = refl;

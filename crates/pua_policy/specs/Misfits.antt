@@ -1,5 +1,5 @@
 -- What is wrong with an object for a call, by its kind and by the way to it.
-use Rattle.std.specs.Prelude.{ℕ, if◌then◌else◌, List, Option, Some, None, codes}
+use Rattle.std.specs.Prelude.{ℕ, Bool, false, if◌then◌else◌, List, Option, Some, None, codes}
 use Rattle.pua_tree.specs.Kinds.{about_kind}
 use Rattle.pua_tree.specs.Tree.{Tree, is_empty}
 use Rattle.pua_tree.specs.declared.node.Kind.{Kind}
@@ -13,6 +13,8 @@ use Rattle.pua_calls.specs.declared.call.Call.{Call}
 use Rattle.pua_calls.specs.declared.fits.Fits.{Fits}
 use Rattle.pua_calls.specs.declared.fits.Misfit.{Misfit}
 use Rattle.pua_calls.specs.declared.fits.Misfit.TheVariants.{IsNotEmpty, ByDot, ByDotDot, ByNothing}
+use Rattle.pua_calls.specs.declared.rules.Rules.{Rules}
+use Rattle.pua_calls.specs.declared.rules.Rules.TheVariants.{Openbsd}
 
 -- what was found, as the last check sees it
 pub data Object : Type 0 where
@@ -36,19 +38,24 @@ object_word (IsDir dir way) = (about_kind Dir).word
 object_word (Is kind) = (about_kind kind).word
 object_word IsMissing = codes "missing"
 
+-- what is wrong with a directory that is to be removed by `..`: that it has rows, which OpenBSD's rules look at first
+abbrev pub dotdot_misfit : Rules → Bool → Misfit
+dotdot_misfit Openbsd false = IsNotEmpty
+dotdot_misfit _ _ = ByDotDot
+
 -- a directory is removed by its name alone, and only if it is empty
-abbrev pub rmdir_misfit : Tree → ℕ → Way → Option Misfit
-rmdir_misfit t dir way.Dot = Some ByDot
-rmdir_misfit t dir way.DotDot = Some ByDotDot
-rmdir_misfit t dir way.Top = Some ByNothing
-rmdir_misfit t dir (way.Named parent name) = if is_empty t dir then None else Some IsNotEmpty
+abbrev pub rmdir_misfit : Rules → Tree → ℕ → Way → Option Misfit
+rmdir_misfit whose t dir way.Dot = Some ByDot
+rmdir_misfit whose t dir way.DotDot = Some (dotdot_misfit whose (is_empty t dir))
+rmdir_misfit whose t dir way.Top = Some ByNothing
+rmdir_misfit whose t dir (way.Named parent name) = if is_empty t dir then None else Some IsNotEmpty
 
 -- what is wrong with an object by what a call is on
-abbrev pub misfit_by : Tree → Fits → Object → Option Misfit
-misfit_by t fits (IsDir dir way) = if fits.by_way then rmdir_misfit t dir way else fits.directory
-misfit_by t fits (Is kind) = fits_on fits kind
-misfit_by t fits IsMissing = fits.missing
+abbrev pub misfit_by : Rules → Tree → Fits → Object → Option Misfit
+misfit_by whose t fits (IsDir dir way) = if fits.by_way then rmdir_misfit whose t dir way else fits.directory
+misfit_by whose t fits (Is kind) = fits_on fits kind
+misfit_by whose t fits IsMissing = fits.missing
 
 -- what is wrong with an object for a call; a link that is followed is never found, and a socket is a file
-abbrev pub misfit : Tree → Call → Object → Option Misfit
-misfit t call object = misfit_by t (about call).fits object
+abbrev pub misfit : Rules → Tree → Call → Object → Option Misfit
+misfit whose t call object = misfit_by whose t (about call).fits object

@@ -2,6 +2,7 @@
 use Rattle.std.specs.Prelude.{◌≡◌, ◌≢◌, ◌↔◌, ℕ, true, false, List, [], ◌∷◌, ◌++◌, Some, None, is_none, IfSome, bit_or}
 use Rattle.std.specs.List.{list_all}
 use Rattle.pua_tree.specs.Tree.{Tree, is_empty}
+use Rattle.pua_path.specs.declared.found.Way.{Way}
 use Rattle.pua_path.specs.declared.found.Way.TheVariants as way
 use Rattle.pua_path.specs.declared.found.Found.{Found}
 use Rattle.pua_calls.specs.Promises.{holds, lacking}
@@ -11,6 +12,7 @@ use Rattle.pua_policy.specs.Misfits.{Object, IsDir, Is, IsFile, IsProg, IsLink, 
 use Rattle.pua_tree.specs.declared.node.Kind.TheVariants.{Dir}
 use Rattle.pua_policy.specs.Verdict.{cover, cover_fault}
 use Rattle.pua_policy.specs.Reasons.{Promising, Holds, HasEnded, Lacks, promising, may_of, covering, cover_of}
+use Rattle.pua_calls.specs.declared.rules.Rules.{Rules}
 use Rattle.pua_calls.specs.declared.call.Call.{Call}
 use Rattle.pua_policy.specs.declared.place.Place.{Place}
 use Rattle.pua_policy.specs.declared.reason.Covering.{Covering}
@@ -92,8 +94,7 @@ MisfitHolds t object IsNoFile = IsDirectoryNow object
 MisfitHolds t object IsNoDirectory = IsNoMissing object × (IsDirectoryNow object → ⊥)
 MisfitHolds t object IsNoLink = IsNoMissing object × (object ≢ IsLink)
 MisfitHolds t object IsNoProgram = IsNoMissing object × (object ≢ IsProg)
-MisfitHolds t object IsNotEmpty = (dir parent : ℕ) × (name : List ℕ) × (object ≡ IsDir dir (way.Named parent name)) ×
-    (is_empty t dir ≡ false)
+MisfitHolds t object IsNotEmpty = (dir : ℕ) × (by : Way) × (object ≡ IsDir dir by) × (is_empty t dir ≡ false)
 MisfitHolds t object ByDot = (dir : ℕ) × (object ≡ IsDir dir way.Dot)
 MisfitHolds t object ByDotDot = (dir : ℕ) × (object ≡ IsDir dir way.DotDot)
 MisfitHolds t object ByNothing = (dir : ℕ) × (object ≡ IsDir dir way.Top)
@@ -101,4 +102,4 @@ MisfitHolds t object IsNoSocket = IsNoMissing object × (object ≢ IsFile)
 MisfitHolds t object InUse = IsNoMissing object
 
 abbrev pub MisfitsHold : Type 0
-MisfitsHold = (t : Tree) (call : Call) (object : Object) → IfSome (misfit t call object) (MisfitHolds t object)
+MisfitsHold = (whose : Rules) (t : Tree) (call : Call) (object : Object) → IfSome (misfit whose t call object) (MisfitHolds t object)

@@ -9,6 +9,8 @@ use Rattle.pua_path.specs.declared.errno.Errno.{Errno}
 use Rattle.pua_path.specs.declared.errno.Errno.TheVariants.{EPERM}
 use Rattle.pua_calls.specs.declared.rules.ExecPromises.{ExecPromises}
 use Rattle.pua_calls.specs.declared.rules.ExecPromises.TheVariants.{Unset, Stay}
+use Rattle.pua_calls.specs.declared.rules.Rules.{Rules}
+use Rattle.pua_calls.specs.declared.rules.Rules.TheVariants.{Standard, Openbsd}
 use Rattle.pua_policy.specs.declared.place.Place.{Place}
 use Rattle.pua_policy.specs.declared.place.Place.TheVariants.{Dir, Slot}
 use Rattle.pua_policy.specs.declared.answer.UnveilFault.{UnveilFault}
@@ -145,10 +147,16 @@ after_exec left p = state_by_exec left p.execpromises p
 abbrev pub with_both : ProcessState → ℕ → ProcessState
 with_both p given = record p { promises = Some (bit_or (held_set p) given); execpromises = None }
 
--- a pledge is refused if it asks for more in either argument, unless `error` is held
-abbrev pub pledge_fault : ProcessState → Option ℕ → Option ℕ → Option Errno
-pledge_fault p promises execpromises =
-    if has_error p || (is_within promises p.promises && is_within execpromises p.execpromises) then None else Some EPERM
+-- whether `error`, if it is held, lets execpromises ask for more: by the standard rules, and not by OpenBSD's
+abbrev pub error_frees_exec : Rules → Bool → Bool
+error_frees_exec Standard error = error
+error_frees_exec Openbsd error = false
+
+-- a pledge is refused if it asks for more in either argument, unless `error` is held and lets it
+abbrev pub pledge_fault : Rules → ProcessState → Option ℕ → Option ℕ → Option Errno
+pledge_fault whose p promises execpromises =
+    if (has_error p || is_within promises p.promises) && (error_frees_exec whose (has_error p) || is_within execpromises p.execpromises)
+    then None else Some EPERM
 
 -- why permissions may not be kept at a place, by what is kept there and by the number of places: they may only be
 -- reduced, and there is a limit of places

@@ -14,6 +14,7 @@ use Rattle.pua_path.specs.declared.errno.Errno.TheVariants.{ENOENT, EACCES, ENOS
 use Rattle.pua_path.specs.declared.found.Way.{Way}
 use Rattle.pua_path.specs.declared.found.Found.{Found}
 use Rattle.pua_path.specs.declared.found.Found.TheVariants as found
+use Rattle.pua_calls.specs.declared.rules.Rules.{Rules}
 use Rattle.pua_calls.specs.declared.call.Call.{Call}
 use Rattle.pua_policy.specs.declared.place.Place.{Place}
 use Rattle.pua_policy.specs.declared.place.Place.TheVariants.{Dir, Slot}
@@ -60,12 +61,12 @@ object_of t (found.Slot dir name None) = IsMissing
 object_of t (found.Slot dir name (Some x)) = object_of_kind (kind_at t x)
 
 -- a directory is removed by its name alone, and only if it is empty
-abbrev pub rmdir_fault : Tree → ℕ → Way → Option Errno
-rmdir_fault t dir way = option_map misfit_errno (rmdir_misfit t dir way)
+abbrev pub rmdir_fault : Rules → Tree → ℕ → Way → Option Errno
+rmdir_fault whose t dir way = option_map misfit_errno (rmdir_misfit whose t dir way)
 
 -- the last check of a call, by what was found
-abbrev pub object_fault : Tree → Call → Object → Option Errno
-object_fault t call object = option_map misfit_errno (misfit t call object)
+abbrev pub object_fault : Rules → Tree → Call → Object → Option Errno
+object_fault whose t call object = option_map misfit_errno (misfit whose t call object)
 
 abbrev pub allowed_unless : Option Errno → Verdict
 allowed_unless None = Allowed
@@ -102,7 +103,7 @@ if_promised may.Death verdict = Death
 -- the fault of a call on what was found: its cover, its permissions, its kind
 abbrev pub found_fault : Tree → CallTable → ProcessState → Call → Found → Option Errno
 found_fault t table p call object =
-    or_fault (cover_fault (cover t p object) (rule_of table call).perms) (object_fault t call (object_of t object))
+    or_fault (cover_fault (cover t p object) (rule_of table call).perms) (object_fault table.whose t call (object_of t object))
 
 abbrev pub verdict : Tree → CallTable → ProcessState → Call → Found → Verdict
 verdict t table p call object =
@@ -112,7 +113,7 @@ verdict t table p call object =
 abbrev pub covered_verdict : Tree → CallTable → ProcessState → Call → Cover → Object → Verdict
 covered_verdict t table p call left object =
     if_promised (may_any p (rule_of table call).alternatives)
-    (allowed_unless (or_fault (cover_fault left (rule_of table call).perms) (object_fault t call object)))
+    (allowed_unless (or_fault (cover_fault left (rule_of table call).perms) (object_fault table.whose t call object)))
 
 -- the verdict where the path may have failed
 abbrev pub verdict_of : Tree → CallTable → ProcessState → Call → Result Found Errno → Verdict

@@ -6,19 +6,20 @@ ghost use Rattle.std.specs.Result.{result_err};
 ghost use Rattle.pua_tree.specs.Tree.{Tree};
 ghost use Rattle.pua_calls.specs.Calls.{rule_of};
 ghost use Rattle.pua_calls.specs.CallSets.{has};
+ghost use Rattle.pua_calls.specs.declared.rules.Rules.TheVariants.{Standard};
 ghost use Rattle.pua_policy.specs.States.{may_any};
 ghost use Rattle.pua_policy.specs.Objects.{object_seen};
 ghost use Rattle.pua_policy.specs.Verdict.{FoundFits, FoundsFit, verdict, verdict_of};
 ghost use Rattle.pua_policy.specs.Verdict.{covered_verdict, is_allowed, refusal_of, found_fault};
 ghost use Rattle.pua_policy.specs.Verdict.{cover_fault, object_fault, object_of, object_of_kind};
 ghost use Rattle.pua_policy.specs.Verdict.{Object as Judged};
-ghost use Rattle.pua_policy.specs.Misfits.{misfit, misfit_by, rmdir_misfit};
+ghost use Rattle.pua_policy.specs.Misfits.{dotdot_misfit, misfit, misfit_by, rmdir_misfit};
 ghost use Rattle.pua_path.specs.Walks.{found_seen, way_seen};
 
 use crate::answer::{Cover, May, Refusal, Verdict};
 use crate::object::Object;
 use crate::process::Process;
-use pua_calls::{Call, CallTable, Calls, Fits, Misfit, Perms, Promises};
+use pua_calls::{Call, CallTable, Calls, Fits, Misfit, Perms, Promises, Rules};
 use pua_path::{Errno, Found, LentFound, LentWay, Probe};
 use pua_tree::{Kind, NodeId};
 
@@ -152,7 +153,7 @@ pub fn object_verdict_lent<'t, P: Probe<'t>>(
     if let Some(errno) = cover_fault(cover, table.perms(call)) {
         return Err(errno);
     }
-    match object_fault(probe, call, found) {
+    match object_fault(probe, table.rules(), call, found) {
         Some(errno) => Err(errno),
         None => Ok(()),
     }
@@ -192,10 +193,12 @@ pub fn object<'t, P: Probe<'t>>(probe: &mut P, found: &Found) -> Object
     ensures cost { P.count probe.new ≤ P.count probe.old + 1 }
 {
     match found {
-        Found::Whole { dir, way } => match rmdir_misfit(probe, *dir, &way.lent()) {
-            Some(_) => Object::Node(Kind::Dir),
-            None => Object::Removable,
-        },
+        Found::Whole { dir, way } => {
+            match rmdir_misfit(probe, Rules::Standard, *dir, &way.lent()) {
+                Some(_) => Object::Node(Kind::Dir),
+                None => Object::Removable,
+            }
+        }
         Found::Slot { node: Some(id), .. } => Object::at_name(probe.kind(*id)),
         Found::Slot { node: None, .. } => Object::Missing,
     }
@@ -215,48 +218,71 @@ pub fn cover_fault(cover: Cover, perms: Perms) -> Option<Errno>
 }
 
 /// The error of what is wrong with what was found.
-fn object_fault<'t, P: Probe<'t>>(probe: &mut P, call: Call, found: &LentFound<'_>) -> Option<Errno>
-    ensures exact { result ≡ object_fault (P.tree probe.old) call
+fn object_fault<'t, P: Probe<'t>>(
+    probe: &mut P,
+    whose: Rules,
+    call: Call,
+    found: &LentFound<'_>,
+) -> Option<Errno>
+    ensures exact { result ≡ object_fault whose (P.tree probe.old) call
         (object_of (P.tree probe.old) (found_seen found.now)) }
     ensures tree { P.tree probe.new ≡ P.tree probe.old }
     ensures cost { P.count probe.new ≤ P.count probe.old + 1 }
 {
-    let misfit = misfit_lent(probe, call, found)?;
+    let misfit = misfit_lent(probe, whose, call, found)?;
     Some(misfit.errno())
 }
 
 /// What is wrong with what a path named, for a call, the veils aside: the fault of its kind, whose
-/// errno `object_verdict` answers (which kind a call is on: this profile). What was found is of the
-/// probe's tree as it stands. One look at the tree at most.
-pub fn misfit<'t, P: Probe<'t>>(probe: &mut P, call: Call, found: &Found) -> Option<Misfit>
+/// errno `object_verdict` answers by a table of these rules (which kind a call is on: this
+/// profile). What was found is of the probe's tree as it stands. One look at the tree at most.
+pub fn misfit<'t, P: Probe<'t>>(
+    probe: &mut P,
+    whose: Rules,
+    call: Call,
+    found: &Found,
+) -> Option<Misfit>
     ensures exact { result
-        ≡ misfit (P.tree probe.old) call (object_of (P.tree probe.old) found.now) }
+        ≡ misfit whose (P.tree probe.old) call (object_of (P.tree probe.old) found.now) }
     ensures tree { P.tree probe.new ≡ P.tree probe.old }
     ensures cost { P.count probe.new ≤ P.count probe.old + 1 }
 {
-    misfit_lent(probe, call, &found.lent())
+    misfit_lent(probe, whose, call, &found.lent())
 }
 
 /// The same, of what its path named with the name lent.
-fn misfit_lent<'t, P: Probe<'t>>(probe: &mut P, call: Call, found: &LentFound<'_>) -> Option<Misfit>
-    ensures exact { result
-        ≡ misfit (P.tree probe.old) call (object_of (P.tree probe.old) (found_seen found.now)) }
+fn misfit_lent<'t, P: Probe<'t>>(
+    probe: &mut P,
+    whose: Rules,
+    call: Call,
+    found: &LentFound<'_>,
+) -> Option<Misfit>
+    ensures exact { result ≡ misfit whose (P.tree probe.old) call
+        (object_of (P.tree probe.old) (found_seen found.now)) }
     ensures tree { P.tree probe.new ≡ P.tree probe.old }
     ensures cost { P.count probe.new ≤ P.count probe.old + 1 }
 {
     let fits = call.fits();
     match found {
-        LentFound::Whole { dir, way } if fits.by_way => rmdir_misfit(probe, *dir, way),
+        LentFound::Whole { dir, way } if fits.by_way => rmdir_misfit(probe, whose, *dir, way),
         LentFound::Whole { .. } => fits.directory,
         LentFound::Slot { node: Some(id), .. } => slot_misfit(&fits, probe.kind(*id)),
         LentFound::Slot { node: None, .. } => fits.missing,
     }
 }
 
-/// Whether a call is on such an object, the veils aside.
+/// Whether a call is on such an object, the veils aside: the same by all rules.
 fn suits(call: Call, object: Object) -> bool
+    ensures { (whose : Rules) (t : Tree) (judged : Judged) → object ≡ object_seen t judged →
+        result ≡ is_none (object_fault whose t call judged) }
+{
+    suits_by_standard(call, object)
+}
+
+/// Whether it is by the standard rules: by others, only the error is another one.
+fn suits_by_standard(call: Call, object: Object) -> bool
     ensures { (t : Tree) (judged : Judged) → object ≡ object_seen t judged →
-        result ≡ is_none (object_fault t call judged) }
+        result ≡ is_none (object_fault Standard t call judged) }
 {
     let fits = call.fits();
     let misfit = match object {
@@ -269,23 +295,39 @@ fn suits(call: Call, object: Object) -> bool
 }
 
 /// What is wrong with removing a directory.
-fn rmdir_misfit<'t, P: Probe<'t>>(probe: &mut P, dir: NodeId, way: &LentWay<'_>) -> Option<Misfit>
-    ensures exact { result ≡ rmdir_misfit (P.tree probe.old) dir (way_seen way.now) }
+fn rmdir_misfit<'t, P: Probe<'t>>(
+    probe: &mut P,
+    whose: Rules,
+    dir: NodeId,
+    way: &LentWay<'_>,
+) -> Option<Misfit>
+    ensures exact { result ≡ rmdir_misfit whose (P.tree probe.old) dir (way_seen way.now) }
     ensures tree { P.tree probe.new ≡ P.tree probe.old }
     ensures cost { P.count probe.new ≤ P.count probe.old + 1 }
 {
     match way {
         LentWay::Dot => Some(Misfit::ByDot),
-        LentWay::DotDot => Some(Misfit::ByDotDot),
+        LentWay::DotDot => Some(dotdot_misfit(whose, probe.is_empty(dir))),
         LentWay::Top => Some(Misfit::ByNothing),
         LentWay::Named { .. } if probe.is_empty(dir) => None,
         LentWay::Named { .. } => Some(Misfit::IsNotEmpty),
     }
 }
 
+/// What is wrong with removing a directory by `..`, by whether it is empty.
+fn dotdot_misfit(whose: Rules, is_empty: bool) -> Misfit
+    ensures { result ≡ dotdot_misfit whose is_empty }
+{
+    match whose {
+        Rules::Openbsd if !is_empty => Misfit::IsNotEmpty,
+        _ => Misfit::ByDotDot,
+    }
+}
+
 /// What is wrong with a name where no directory stands; None where nothing stands there.
 fn slot_misfit(fits: &Fits, kind: Option<Kind>) -> Option<Misfit>
-    ensures { (t : Tree) → result ≡ misfit_by t fits.now (object_of_kind kind) }
+    ensures { (whose : Rules) (t : Tree) →
+        result ≡ misfit_by whose t fits.now (object_of_kind kind) }
 {
     match kind {
         Some(kind) => fits.on(kind),

@@ -59,29 +59,29 @@ pub fn promise_laws()
 
 /// What a process keeps is what its history left, event by event and after an exec; and what a
 /// history lets a process do is said of what it left.
-#[tactic(auto, using(crate::proofs::Standing::states_are_left))]
+#[tactic(auto, using(crate::proofs::StatesLeft::states_are_left))]
 pub fn standing_law()
     ensures { StatesAreLeft }
 {}
 
-/// What a set is told to lack of another suffices beside it, and whatever suffices has it. Of
-/// promises it is told which set is held, the first one, or what of each lacks; and whether
-/// promises allow a call follows from what is told.
+/// What a set lacks of another suffices beside the set, and whatever suffices has it. The reason
+/// about promises names the set that is held, the first one, or what each set lacks; and whether
+/// promises allow a call follows from the reason.
 pub fn lacking_law()
     ensures sets { LackingsHold }
     ensures promises { PromisingsHold }
     ensures answers { PromisingsAnswer }
 {}
 
-/// The veil that is told to cover an object is the nearest, and would decide with any other
-/// letters; or none stands on the way up; or none is kept. What is left of the object follows from
-/// it.
+/// The veil that a reason names as covering an object is the nearest, and would decide with any
+/// other letters; or none stands on the way up; or none is kept. What is left of the object follows
+/// from the reason.
 #[tactic(auto, using(crate::proofs::NearestVeil::coverings_hold))]
 pub fn covering_law()
     ensures { CoveringsHold }
 {}
 
-/// What is told to be wrong with an object is so.
+/// The misfit that a reason names is one of the object.
 #[tactic(auto, using(crate::proofs::Misfits::misfits_hold))]
 pub fn misfit_law()
     ensures { MisfitsHold }

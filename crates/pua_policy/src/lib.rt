@@ -20,6 +20,6 @@ pub use laws::{
 };
 pub use object::Object;
 pub use place::Place;
-pub use process::{MOST_PLACES, Process};
+pub use process::{MOST_PLACES, Process, error_frees_exec};
 pub use pua_calls::Misfit;
 pub use reason::{Covering, Promising};

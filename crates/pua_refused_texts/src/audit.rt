@@ -48,7 +48,7 @@ fn later_call_told_as_another() {
     };
 }
 
-/// Memory that was refused is told as such.
+/// Memory that was refused is reported as such.
 fn refused_memory_is_a_bad_resume(refused: OutOfMemory) {
     if let AuditFault::BadResume = AuditFault::from(refused) {
         unreachable!()

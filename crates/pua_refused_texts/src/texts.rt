@@ -5,7 +5,7 @@ use pua_texts::{AuditList, write_audit};
 use pua_tree::FileTree;
 use std::alloc::Global;
 
-/// A sink one put of which fails, that behind the first so many.
+/// A sink one put of which fails, that after the first so many.
 #[derive(Drop)]
 struct FailingOnce {
     before: usize,
@@ -29,7 +29,7 @@ impl Sink for FailingOnce {
     }
 }
 
-/// A text is not done where a put failed, whatever was put behind it.
+/// A text is not done where a put failed, whatever was put after it.
 fn text_put_again_after_fault<T: FileTree>(
     alloc: Global,
     list: &mut AuditList<'_, T>,

@@ -68,7 +68,7 @@ module _ (before after : ProcessState) (within : IsWithin before after) where
       (allowed_unless (found_fault t table before call object))
       (may_yes (rule_of table call).alternatives (sound.calls call))
       (ap (λ c. is_allowed (if_promised (may_any after (rule_of table call).alternatives)
-      (allowed_unless (or_fault (cover_fault c (rule_of table call).perms) (object_fault t call (object_of t object))))))
+      (allowed_unless (or_fault (cover_fault c (rule_of table call).perms) (object_fault table.whose t call (object_of t object))))))
       (sym (same_cover after before within.tightens.unveils t object)) ∙ e)
   verdicts_within table sound t call (Err errno) e =
       allowed_before (may_any after (rule_of table call).alternatives) (may_any before (rule_of table call).alternatives)

@@ -22,7 +22,7 @@ pub use Rattle.pua_path.specs.declared.found.Found.TheVariants.{Slot, Whole}
 pub use Rattle.pua_path.specs.declared.found.Last.{Last}
 pub use Rattle.pua_path.specs.declared.text.Ending.{Ending}
 pub use Rattle.pua_path.specs.declared.text.Ending.TheVariants.{Dot, Dropped}
-pub use Rattle.pua_path.specs.declared.traced.TextFault.TheVariants.{LongComponent, LongText, NulInText}
+pub use Rattle.pua_path.specs.declared.traced.PathTextFault.TheVariants.{LongComponent, LongText, NulInText}
 pub use Rattle.pua_policy.specs.States.{Ended, Event, has_error, held_set, ProcessState, is_ended, is_locked, Locked, may_any, Moved, Pledged}
 pub use Rattle.pua_policy.specs.States.{state_after, Unveiled, working_dir}
 pub use Rattle.pua_policy.specs.Verdict.{cover, cover_fault, object_fault, object_named, object_of, or_fault, place_of}

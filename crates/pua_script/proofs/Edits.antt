@@ -10,14 +10,15 @@ use Rattle.pua_tree.specs.declared.node.Kind.TheVariants as kinds
 use Rattle.pua_tree.specs.declared.fault.TreeFault.TheVariants as faults
 use Rattle.pua_policy.specs.Misfits.{misfit_errno}
 use Rattle.pua_calls.specs.declared.fits.Misfit.TheVariants.{IsNotEmpty}
+use Rattle.pua_calls.specs.declared.rules.Rules.{Rules}
 use Rattle.pua_path.specs.declared.found.Way.TheVariants as ways
 use Rattle.pua_policy.specs.Verdict.{object_of_kind}
 use Rattle.pua_calls.specs.declared.call.Call.TheVariants as calls
 
 -- what was found is of the tree, and nothing is wrong with it for a call
-pub record IsFor (t : Tree) (call : Call) (object : Found) : Type 0 where
+pub record IsFor (whose : Rules) (t : Tree) (call : Call) (object : Found) : Type 0 where
   pub name : NameFits t object
-  pub kind : object_fault t call (object_of t object) ≡ None
+  pub kind : object_fault whose t call (object_of t object) ≡ None
 
 -- the row by which something was found can be taken away
 abbrev pub IsRemovable : Tree → Found → Type 0
@@ -46,17 +47,17 @@ is_emptied : (b : Bool) → option_map misfit_errno (cond b None (Some IsNotEmpt
 is_emptied true is = refl
 is_emptied false is = absurd (some_none _ is)
 
-module _ (t : Tree) where
+module _ (whose : Rules) (t : Tree) where
   removable_at : (dir : ℕ) (name : List ℕ) (o : Option Spot) → o ≡ Some (dir, name) → IsOk (cut t dir name) → (spot : Spot) →
       o ≡ Some spot → IsOk (cut t spot.0 spot.1)
   removable_at dir name o here ok spot is = subst (λ s. IsOk (cut t s.0 s.1)) (same_Some _ _ (sym here ∙ is)) ok
 
-  no_rmdir : (o : Option Kind) → object_fault t calls.Rmdir (object_of_kind o) ≡ None → ⊥
+  no_rmdir : (o : Option Kind) → object_fault whose t calls.Rmdir (object_of_kind o) ≡ None → ⊥
   no_rmdir None is = some_none _ is
   no_rmdir (Some kinds.Dir) is = some_none _ is
   no_rmdir (Some _) is = some_none _ is
 
-  pub rmdir_removes : (object : Found) → IsFor t calls.Rmdir object → IsRemovable t object
+  pub rmdir_removes : (object : Found) → IsFor whose t calls.Rmdir object → IsRemovable t object
   rmdir_removes (Whole dir (ways.Named parent name)) for =
       removable_at parent name (Some (parent, name)) refl (cut_ok t parent name dir for.name.named.0 for.name.named.1
       (empty_alone t dir (is_emptied (is_empty t dir) for.kind)))
@@ -66,7 +67,7 @@ module _ (t : Tree) where
   rmdir_removes (Slot dir name None) for = absurd (some_none _ for.kind)
   rmdir_removes (Slot dir name (Some x)) for = absurd (no_rmdir (kind_at t x) for.kind)
 
-  pub unlink_removes : (object : Found) → IsFor t calls.Unlink object → IsRemovable t object
+  pub unlink_removes : (object : Found) → IsFor whose t calls.Unlink object → IsRemovable t object
   unlink_removes (Whole dir way) for = absurd (some_none _ for.kind)
   unlink_removes (Slot dir name None) for = absurd (some_none _ for.kind)
   unlink_removes (Slot dir name (Some x)) for =

@@ -11,8 +11,8 @@ use Rattle.std.specs.Prelude.{not, ◌&&◌}
 use Rattle.pua_path.specs.Paths.{text_fault}
 use Rattle.pua_path.specs.Resolution.{Resolved, Directory, Linked, Plain, Nothing, standing_at, is_followed, slot_or, walk, start_of}
 use Rattle.pua_path.specs.declared.errno.Errno.TheVariants.{EPERM, EACCES, ENOTEMPTY, ENOTDIR, ELOOP}
-use Rattle.pua_path.specs.declared.traced.TextFault.{TextFault}
-use Rattle.pua_path.specs.declared.traced.TextFault.TheVariants.{EmptyText}
+use Rattle.pua_path.specs.declared.traced.PathTextFault.{PathTextFault}
+use Rattle.pua_path.specs.declared.traced.PathTextFault.TheVariants.{EmptyText}
 use Rattle.pua_path.specs.declared.text.Ending.TheVariants as ending
 use Rattle.pua_path.specs.declared.found.Part.{Part}
 use Rattle.pua_path.specs.declared.found.Part.TheVariants as parts
@@ -24,6 +24,7 @@ use Rattle.pua_policy.specs.Misfits.{misfit, misfit_errno}
 use Rattle.pua_policy.specs.Verdict.{Object}
 use Rattle.pua_calls.specs.declared.fits.Misfit.{Misfit}
 use Rattle.pua_calls.specs.declared.fits.Misfit.TheVariants.{Missing, Exists, IsDirectory, IsNoFile, IsNoDirectory, IsNoLink}
+use Rattle.pua_calls.specs.declared.rules.Rules.{Rules}
 use Rattle.pua_calls.specs.declared.fits.Misfit.TheVariants.{IsNoProgram, IsNotEmpty, ByDot, ByDotDot, ByNothing, IsNoSocket, InUse}
 use Rattle.pua_policy.specs.declared.answer.Cover.TheVariants as covers
 use Rattle.pua_policy.specs.declared.answer.UnveilFault.{UnveilFault}
@@ -32,7 +33,9 @@ use Rattle.pua_policy.specs.declared.answer.May.TheVariants as may
 use Rattle.pua_path.specs.declared.errno.Errno.TheVariants.{EEXIST, EISDIR}
 use Rattle.pua_script.specs.Decide.{fails, unless_fault, if_named as decide_named}
 use Rattle.pua_script.specs.Decide.{decide_object}
-use Rattle.pua_script.specs.Decide.{decide_pair, decide_veil, named_by, dots_fault, top_fault}
+use Rattle.pua_script.specs.Decide.{decide_pair, decide_veil, dots_fault, top_fault, before_long, errno_behind, front_errno, named_in, path_named}
+use Rattle.pua_calls.specs.declared.rules.Rules.{Rules}
+use Rattle.pua_calls.specs.declared.rules.Rules.TheVariants.{Standard, Openbsd}
 use Rattle.pua_script.specs.Decide.{unveil_errno}
 
 -- faults other than ENOSPC
@@ -83,7 +86,7 @@ pub none_or : (b : Bool) (errno : Errno) → errno ≢ ENOSPC → Apart (cond b 
 none_or true errno other e = cc
 none_or false errno other e = fault_or true errno None other (λ e. cc) e
 
-text_apart : (o : Option TextFault) → Apart (option_map text_errno o)
+text_apart : (o : Option PathTextFault) → Apart (option_map text_errno o)
 text_apart None = λ e. cc
 text_apart (Some EmptyText) = λ e. cc
 text_apart (Some LongText) = λ e. cc
@@ -155,6 +158,23 @@ named t from end text mode = by (path_fault text) refl (path_apart text)
         (named_from _ (resolve_apart most_links t mode (start_of text from) way.Top (parts_of end text))))
     by (Some errno) e apart = rw e (λ is. apart (e ∙ ap (λ r. Some (errno_of r)) is))
 
+-- by any rules
+named_any : (whose : Rules) (t : Tree) (from : ℕ) (end : Ending) (text : List ℕ) (mode : Last) → Named (path_named whose t from end text mode)
+named_any whose t from end text mode = by whose (resolution_of_text t from end text mode) (named t from end text mode)
+  where
+    front : (errno : Errno) (r : Result Found Errno) → Named (Err errno) → Named r → Named (Err (front_errno errno r))
+    front errno (Ok x) other apart = other
+    front errno (Err fault) other apart = λ e. apart (ap Err (ap errno_of e))
+
+    behind : (errno : Errno) (o : Option (List ℕ)) → Named (Err errno) → Named (Err (errno_behind t from errno o))
+    behind errno None other = other
+    behind errno (Some before) other = front errno _ other (named t from ending.Dot before Followed)
+
+    by : (whose : Rules) (r : Result Found Errno) → Named r → Named (named_in whose t from text r)
+    by whose (Ok x) apart = apart
+    by Standard (Err errno) apart = apart
+    by Openbsd (Err errno) apart = behind errno (before_long text) apart
+
 -- faults of covers and of what was found
 cover_apart : (c : Cover) (perms : ℕ) → Apart (cover_fault c perms)
 cover_apart covers.All perms = λ e. cc
@@ -177,8 +197,8 @@ misfit_apart (Some ByNothing) = λ e. cc
 misfit_apart (Some IsNoSocket) = λ e. cc
 misfit_apart (Some InUse) = λ e. cc
 
-object_apart : (t : Tree) (c : Call) (o : Object) → Apart (object_fault t c o)
-object_apart t c o = misfit_apart (misfit t c o)
+object_apart : (whose : Rules) (t : Tree) (c : Call) (o : Object) → Apart (object_fault whose t c o)
+object_apart whose t c o = misfit_apart (misfit whose t c o)
 
 veil_apart : (o : Option UnveilFault) → Apart (unveil_errno o)
 veil_apart None = λ e. cc
@@ -215,25 +235,26 @@ granted_apart c e = cc
 
 pub object_has_room : (table : CallTable) (t : Tree) (h : ProcessState) (c : Call) (path : List ℕ) (f : Found → Change) →
     HasRoom (decide_object table t (asker_of h) c path (λ x. Ok (f x)))
-object_has_room table t h c path f = named_apart (object_named t h c path) _ (named t (working_dir h) (ending_of c) path (last_of c)) λ x.
-    checked_apart _ _ (or_apart _ _ (cover_apart (cover t h x) (rule_of table c).perms) (object_apart t c (object_of t x)))
+object_has_room table t h c path f = named_apart (path_named table.whose t (working_dir h) (ending_of c) path (last_of c)) _
+    (named_any table.whose t (working_dir h) (ending_of c) path (last_of c)) λ x.
+    checked_apart _ _ (or_apart _ _ (cover_apart (cover t h x) (rule_of table c).perms) (object_apart table.whose t c (object_of t x)))
     (granted_apart (f x))
 
-pub pair_has_room : (pair : PairRule) (t : Tree) (h : ProcessState) (end : Ending) (old_path new_path : List ℕ) (f : Found → Found → Decision) →
-    ((old new : Found) → HasRoom (f old new)) → HasRoom (decide_pair pair t (asker_of h) end old_path new_path f)
-pair_has_room pair t h end old_path new_path f has =
+pub pair_has_room : (whose : Rules) (pair : PairRule) (t : Tree) (h : ProcessState) (end : Ending) (old_path new_path : List ℕ) (f : Found → Found → Decision) →
+    ((old new : Found) → HasRoom (f old new)) → HasRoom (decide_pair whose pair t (asker_of h) end old_path new_path f)
+pair_has_room whose pair t h end old_path new_path f has =
     promised_apart (may_any h pair.old.needs.alternatives) _
     (promised_apart (may_any h pair.new.needs.alternatives) _
-    (named_apart (named_by pair.old t h end old_path) _ (named t (working_dir h) end old_path pair.old.last) λ old.
-    named_apart (named_by pair.new t h end new_path) _ (named t (working_dir h) end new_path pair.new.last) λ new.
+    (named_apart (path_named whose t (working_dir h) end old_path pair.old.last) _ (named_any whose t (working_dir h) end old_path pair.old.last) λ old.
+    named_apart (path_named whose t (working_dir h) end new_path pair.new.last) _ (named_any whose t (working_dir h) end new_path pair.new.last) λ new.
     checked_apart _ _ (or_apart _ _ (cover_apart (cover t h old) pair.old.needs.perms) (cover_apart (cover t h new) pair.new.needs.perms))
     (has old new)))
 
-pub rename_has_room : (t : Tree) (old new : Found) (x : Option ℕ) → HasRoom (decide_rename t old new x)
-rename_has_room t old new None = λ e. cc
-rename_has_room t old new (Some x) =
+pub rename_has_room : (t : Tree) (asks : Bool) (old new : Found) (x : Option ℕ) → HasRoom (decide_rename t asks old new x)
+rename_has_room t asks old new None = λ e. cc
+rename_has_room t asks old new (Some x) =
     checked_apart _ _ (or_apart _ _ (dots_apart old) (or_apart _ _ (dots_apart new) (or_apart _ _ (top_apart old) (top_apart new))))
-    (by (is_same_node x (node_named new)))
+    (checked_apart _ _ (if_apart (asks && not (is_whole old)) ENOTDIR (λ e. cc)) (by (is_same_node x (node_named new))))
   where
     by : (same : Bool) → HasRoom
         (cond {A = Decision} same (Ok NoChange) (unless_fault (or_fault (inside_fault t x (spot_named new)) (kinds_fault t x old new))
@@ -247,7 +268,7 @@ link_has_room old new (Some x) =
     checked_apart _ _ (or_apart _ _ (if_apart (is_whole old) EPERM (λ e. cc)) (if_apart (is_some (node_named new)) EEXIST (λ e. cc)))
     (granted_apart _)
 
-pub veil_has_room : (t : Tree) (h : ProcessState) (path : List ℕ) (perms : Option ℕ) → HasRoom (decide_veil t (asker_of h) path perms)
-veil_has_room t h path None = λ e. cc
-veil_has_room t h path (Some perms) = named_apart _ _ (named t (working_dir h) ending.Dot path Followed) λ x.
+pub veil_has_room : (whose : Rules) (t : Tree) (h : ProcessState) (path : List ℕ) (perms : Option ℕ) → HasRoom (decide_veil whose t (asker_of h) path perms)
+veil_has_room whose t h path None = λ e. cc
+veil_has_room whose t h path (Some perms) = named_apart _ _ (named_any whose t (working_dir h) ending.Dot path Followed) λ x.
     checked_apart _ _ (veil_apart (unveil_fault h (place_of x) perms)) (granted_apart _)

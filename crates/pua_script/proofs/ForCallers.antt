@@ -7,7 +7,7 @@ pub use Rattle.pua_script.proofs.KeepTrees.{replays_keep_trees}
 -- what is read is bytes, and what requests in bytes leave
 pub use Rattle.pua_script.proofs.InBytes.{replays_keep_byte_trees, listings_list_byte_trees, scripts_ask_in_bytes}
 -- the rules that a command names are tables that the laws speak of
-pub use Rattle.pua_script.proofs.Served.{rules_narrow}
+pub use Rattle.pua_script.proofs.WorldsLeft.{rules_narrow}
 -- what requests of others leave, and what a fork copies
 pub use Rattle.pua_script.proofs.Others.{others_leave, others_leave_always, forks_copy}
 -- a process within another: the same covers, and no more is allowed

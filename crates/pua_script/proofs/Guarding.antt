@@ -6,17 +6,18 @@ use Rattle.pua_script.proofs.Common.{working_dir, place_of, cover, cover_fault, 
 use Rattle.pua_script.proofs.Common.{fault_if, is_whole, inside_fault, kinds_fault, Change, NoChange, Decision, if_may, decide_rename}
 use Rattle.pua_script.proofs.Common.{decide_link, asker_of, shifting, OnPath, Symlink, Rename, Link, Unveil, Fork, IsShift, and_parts, sym}
 use Rattle.pua_script.proofs.Common.{subst, is_bytes, Action}
-use Rattle.std.specs.Prelude.{◌||◌}
-use Rattle.pua_path.specs.declared.errno.Errno.TheVariants.{EPERM, EEXIST}
+use Rattle.std.specs.Prelude.{not, ◌&&◌, ◌||◌}
+use Rattle.pua_path.specs.declared.errno.Errno.TheVariants.{EPERM, EEXIST, ENOTDIR}
 use Rattle.pua_path.specs.declared.text.Ending.TheVariants as ending
 use Rattle.pua_path.specs.declared.found.Last.TheVariants.{Followed}
+use Rattle.pua_calls.specs.declared.rules.Rules.{Rules}
 use Rattle.pua_policy.specs.States.{unveil_fault, pledge_fault}
 use Rattle.pua_policy.specs.Verdict.{found_fault}
 use Rattle.pua_calls.specs.declared.call.Call.TheVariants as call
 use Rattle.pua_policy.specs.declared.answer.May.TheVariants as may
-use Rattle.pua_script.specs.Decide.{link_node, unveil_errno, given_set, is_unknown}
+use Rattle.pua_script.specs.Decide.{asks_directory, link_node, unveil_errno, given_set, is_unknown}
 use Rattle.pua_script.specs.Decide.{unless_fault, if_named, adding, change_by}
-use Rattle.pua_script.specs.Decide.{covers_by, decide_veil, decide_pair, ways_fault, named_by}
+use Rattle.pua_script.specs.Decide.{covers_by, decide_veil, decide_pair, ways_fault, named_by, named_in, path_named}
 use Rattle.pua_script.specs.declared.request.Action.TheVariants.{Pledge, Lock, Exit, Uses}
 use Rattle.pua_script.specs.Guards.{OnOne, OnTwo, IsVeil, DecisionsAreGuarded}
 use Rattle.pua_script.specs.Guards.{IsDecided}
@@ -57,38 +58,48 @@ pub second_none : (a b : Option Errno) → or_fault a b ≡ None → b ≡ None
 second_none None b e = e
 second_none (Some errno) b e = cc
 
+-- what a path names by any rules, its text names
+pub named_ok : (whose : Rules) (t : Tree) (from : ℕ) (text : List ℕ) (named : Result Found Errno) (x : Found) →
+    named_in whose t from text named ≡ Ok x → named ≡ Ok x
+named_ok whose t from text (Ok y) x e = e
+named_ok whose t from text (Err errno) x e = cc
+
 module _ (t : Tree) (h : ProcessState) where
   -- a call's object, once its promises are held
   one : (table : CallTable) (c : Call) (path : List ℕ) (g : Found → Change) (change : Change) →
       may_any h (rule_of table c).alternatives ≡ may.Yes
-      → (if_named (object_named t h c path) λ x. unless_fault (found_fault t table h c x) (Ok (g x))) ≡ Ok change
+      → (if_named (named_in table.whose t (working_dir h) path (object_named t h c path)) λ x. unless_fault (found_fault t table h c x) (Ok (g x))) ≡ Ok change
       → (object : Found) × OnOne table t h c path object × (change ≡ g object)
   one table c path g change may e =
-      let at = from_named (object_named t h c path) (λ x. unless_fault (found_fault t table h c x) (Ok (g x))) change e in
+      let named = named_in table.whose t (working_dir h) path (object_named t h c path) in
+      let at = from_named named (λ x. unless_fault (found_fault t table h c x) (Ok (g x))) change e in
       let free = from_checked (found_fault t table h c at.0) (Ok (g at.0)) change at.2 in
       let a = cover_fault (cover t h at.0) (rule_of table c).perms in
-      let b = object_fault t c (object_of t at.0) in
-      (at.0, record { promised = may; found = at.1; covered = first_none a b free.0; fitting = second_none a b free.0 }, is_ok _ _ free.1)
+      let b = object_fault table.whose t c (object_of t at.0) in
+      (at.0, record { promised = may; found = named_ok table.whose t (working_dir h) path (object_named t h c path) at.0 at.1; covered = first_none a b free.0; fitting = second_none a b free.0 }, is_ok _ _ free.1)
 
   -- what both paths named
   abbrev Pair : PairRule → Ending → List ℕ → List ℕ → (Found → Found → Option ℕ → Decision) → Change → Type 0
   Pair rules end old_path new_path f change = (old : Found) × (new : Found) × (x : ℕ) × OnTwo rules t h end old_path new_path old new x ×
       (f old new (Some x) ≡ Ok change)
 
-  pair : (rules : PairRule) (end : Ending) (old new : List ℕ) (f : Found → Found → Option ℕ → Decision) (change : Change) →
+  pair : (whose : Rules) (rules : PairRule) (end : Ending) (old new : List ℕ) (f : Found → Found → Option ℕ → Decision) (change : Change) →
       ((a b : Found) → f a b None ≡ Ok change → ⊥)
-      → decide_pair rules t (asker_of h) end old new (λ a b. f a b (node_named a)) ≡ Ok change → Pair rules end old new f change
-  pair rules end old new f change never e =
+      → decide_pair whose rules t (asker_of h) end old new (λ a b. f a b (node_named a)) ≡ Ok change → Pair rules end old new f change
+  pair whose rules end old new f change never e =
       let may_old = from_promised (may_any h rules.old.needs.alternatives) _ change e in
       let may_new = from_promised (may_any h rules.new.needs.alternatives) _ change may_old.1 in
-      let first = from_named (named_by rules.old t h end old) (λ a. if_named (named_by rules.new t h end new) λ b. unless_fault
+      let named_old = path_named whose t (working_dir h) end old rules.old.last in
+      let named_new = path_named whose t (working_dir h) end new rules.new.last in
+      let first = from_named named_old (λ a. if_named named_new λ b. unless_fault
       (covers_by rules t (asker_of h) a b) (f a b (node_named a))) change may_new.1 in
       let a = first.0 in
-      let second = from_named (named_by rules.new t h end new)
+      let second = from_named named_new
       (λ b. unless_fault (covers_by rules t (asker_of h) a b) (f a b (node_named a))) change first.2 in
       let b = second.0 in
       let free = from_checked (covers_by rules t (asker_of h) a b) (f a b (node_named a)) change second.2 in
-      by a b (node_named a) refl may_old.0 may_new.0 first.1 second.1 free.0 free.1
+      by a b (node_named a) refl may_old.0 may_new.0 (named_ok whose t (working_dir h) old (named_by rules.old t h end old) a first.1)
+      (named_ok whose t (working_dir h) new (named_by rules.new t h end new) b second.1) free.0 free.1
     where
       by : (a b : Found) (o : Option ℕ) → node_named a ≡ o → may_any h rules.old.needs.alternatives ≡ may.Yes →
           may_any h rules.new.needs.alternatives ≡ may.Yes → named_by rules.old t h end old ≡ Ok a → named_by rules.new t h end new ≡ Ok b
@@ -111,11 +122,12 @@ module _ (t : Tree) (h : ProcessState) where
         e,
       )
 
-  renamed : (a b : Found) (x : ℕ) (change : Change) → decide_rename t a b (Some x) ≡ Ok change →
+  renamed : (asks : Bool) (a b : Found) (x : ℕ) (change : Change) → decide_rename t asks a b (Some x) ≡ Ok change →
       (ways_fault a b ≡ None) × ((change ≡ NoChange) ⊎ IsShift t a b x change)
-  renamed a b x change e =
+  renamed asks a b x change e =
       let free = from_checked (ways_fault a b) _ change e in
-      (free.0, by (is_same_node x (node_named b)) refl free.1)
+      let fit = from_checked (fault_if (asks && not (is_whole a)) ENOTDIR) _ change free.1 in
+      (free.0, by (is_same_node x (node_named b)) refl fit.1)
     where
       kinds : Option Errno
       kinds = or_fault (inside_fault t x (spot_named b)) (kinds_fault t x a b)
@@ -133,11 +145,11 @@ module _ (t : Tree) (h : ProcessState) where
             is = is_ok _ _ last.1;
           })
 
-  veiled : (path : List ℕ) (letters : Option ℕ) (change : Change) → may_any h (unveil ∷ []) ≡ may.Yes → is_locked h ≡ false →
-      decide_veil t (asker_of h) path letters ≡ Ok change → IsVeil t h path letters change
-  veiled path None change may unlocked e = cc
-  veiled path (Some perms) change may unlocked e =
-      let at = from_named (resolution_of_text t (working_dir h) ending.Dot path Followed) _ change e in
+  veiled : (whose : Rules) (path : List ℕ) (letters : Option ℕ) (change : Change) → may_any h (unveil ∷ []) ≡ may.Yes → is_locked h ≡ false →
+      decide_veil whose t (asker_of h) path letters ≡ Ok change → IsVeil t h path letters change
+  veiled whose path None change may unlocked e = cc
+  veiled whose path (Some perms) change may unlocked e =
+      let at = from_named (path_named whose t (working_dir h) ending.Dot path Followed) _ change e in
       let free = from_checked (unveil_errno (unveil_fault h (place_of at.0) perms)) _ change at.2 in
       record {
         object = at.0;
@@ -145,7 +157,7 @@ module _ (t : Tree) (h : ProcessState) where
         promised = may;
         unlocked = unlocked;
         known = refl;
-        found = at.1;
+        found = named_ok whose t (working_dir h) path (resolution_of_text t (working_dir h) ending.Dot path Followed) at.0 at.1;
         room = free.0;
         is = is_ok _ _ free.1;
       }
@@ -160,11 +172,12 @@ decisions_are_guarded table t h (Symlink target path) change e =
     let at = one t h table call.Symlink path (adding (link_node target)) change may.0 text.1 in
     (at.0, at.1, text.0, at.2)
 decisions_are_guarded table t h (Rename old new) change e =
-    let p = pair t h table.rename ending.Dropped old new (decide_rename t) change (λ a b never. cc) e in
-    let r = renamed t h p.0 p.1 p.2 change p.4 in
+    let asks = asks_directory table.whose old new in
+    let p = pair t h table.whose table.rename ending.Dropped old new (decide_rename t asks) change (λ a b never. cc) e in
+    let r = renamed t h asks p.0 p.1 p.2 change p.4 in
     record { old = p.0; new = p.1; node = p.2; two = p.3; ways = r.0; moves = r.1 }
 decisions_are_guarded table t h (Link old new) change e =
-    let p = pair t h table.link ending.Dot old new decide_link change (λ a b never. cc) e in
+    let p = pair t h table.whose table.link ending.Dot old new decide_link change (λ a b never. cc) e in
     let free = from_checked (or_fault (fault_if (is_whole p.0) EPERM) (fault_if (is_some (node_named p.1)) EEXIST)) _ change p.4 in
     let a = fault_if (is_whole p.0) EPERM in
     let b = fault_if (is_some (node_named p.1)) EEXIST in
@@ -179,12 +192,12 @@ decisions_are_guarded table t h (Link old new) change e =
     }
 decisions_are_guarded table t h (Pledge p x) change e =
     let known = from_checked (fault_if (is_unknown p || is_unknown x) EINVAL) _ change e in
-    let free = from_checked (pledge_fault h (given_set p) (given_set x)) _ change known.1 in
+    let free = from_checked (pledge_fault table.whose h (given_set p) (given_set x)) _ change known.1 in
     record { known = not_faulty _ EINVAL known.0; within = free.0; is = is_ok _ _ free.1 }
 decisions_are_guarded table t h (Unveil path perms) change e =
     let may = from_promised (may_any h (unveil ∷ [])) _ change e in
     let unlocked = from_checked (fault_if (is_locked h) EPERM) _ change may.1 in
-    veiled t h path perms change may.0 (not_faulty _ EPERM unlocked.0) unlocked.1
+    veiled t h table.whose path perms change may.0 (not_faulty _ EPERM unlocked.0) unlocked.1
 decisions_are_guarded table t h Lock change e =
     let may = from_promised (may_any h (unveil ∷ [])) _ change e in (may.0, is_ok _ _ may.1)
 decisions_are_guarded table t h (Fork new) change e =
@@ -218,13 +231,13 @@ refusals_lack_no_room table t h (OnPath c path) = promised_apart _ _ (object_has
 refusals_lack_no_room table t h (Symlink target path) =
     promised_apart _ _ (checked_apart _ _ (path_apart target) (object_has_room table t h call.Symlink path (adding (link_node target))))
 refusals_lack_no_room table t h (Rename old new) =
-    pair_has_room table.rename t h ending.Dropped old new _ λ a b. rename_has_room t a b (node_named a)
-refusals_lack_no_room table t h (Link old new) = pair_has_room table.link t h ending.Dot old new _ λ a b. link_has_room a b (node_named a)
+    pair_has_room table.whose table.rename t h ending.Dropped old new _ λ a b. rename_has_room t (asks_directory table.whose old new) a b (node_named a)
+refusals_lack_no_room table t h (Link old new) = pair_has_room table.whose table.link t h ending.Dot old new _ λ a b. link_has_room a b (node_named a)
 refusals_lack_no_room table t h (Pledge promises execpromises) =
     checked_apart _ _ (if_apart (is_unknown promises || is_unknown execpromises) EINVAL (λ e. cc))
     (checked_apart _ _ (none_or _ EPERM (λ e. cc)) (granted_apart _))
 refusals_lack_no_room table t h (Unveil path perms) =
-    promised_apart _ _ (checked_apart _ _ (if_apart (is_locked h) EPERM (λ e. cc)) (veil_has_room t h path perms))
+    promised_apart _ _ (checked_apart _ _ (if_apart (is_locked h) EPERM (λ e. cc)) (veil_has_room table.whose t h path perms))
 refusals_lack_no_room table t h Lock = promised_apart _ _ (granted_apart _)
 refusals_lack_no_room table t h (Fork new) = promised_apart _ _ (granted_apart _)
 refusals_lack_no_room table t h Exit = granted_apart _

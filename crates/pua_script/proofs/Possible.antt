@@ -15,6 +15,7 @@ use Rattle.pua_path.proofs.ForCallers.{resolutions_fit}
 use Rattle.pua_calls.specs.declared.call.Call.TheVariants as call
 use Rattle.pua_script.specs.Guards.{IsPossible}
 use Rattle.pua_script.specs.Laws.{DecisionsArePossible}
+use Rattle.pua_calls.specs.declared.rules.Rules.{Rules}
 use Rattle.pua_script.proofs.Edits.{IsFor, IsRemovable, empty_alone, rmdir_removes, unlink_removes}
 use Rattle.pua_script.proofs.Linking.{named_lives}
 use Rattle.pua_script.proofs.Guarding.{decisions_are_guarded, second_none, not_faulty, grounds}
@@ -67,10 +68,10 @@ module _ (t : Tree) where
   stands : (x : Found) → NameFits t x → (s : Spot) (o : Option ℕ) → spot_named x ≡ Some s → node_named x ≡ o → StandsAtSpot t (Some s) o
   stands x fits s o at is = subst (λ r. StandsAtSpot t r o) at (subst (StandsAtSpot t (spot_named x)) is fits.named)
 
-  removes : (c : Call) (x : Found) → takes c ≡ true → IsFor t c x → IsRemovable t x
-  removes call.Rmdir x taken for = rmdir_removes t x for
-  removes call.Unlink x taken for = unlink_removes t x for
-  removes _ x taken for = cc
+  removes : (whose : Rules) (c : Call) (x : Found) → takes c ≡ true → IsFor whose t c x → IsRemovable t x
+  removes whose call.Rmdir x taken for = rmdir_removes whose t x for
+  removes whose call.Unlink x taken for = unlink_removes whose t x for
+  removes whose _ x taken for = cc
 
   module _ (well : WellFormed t) (h : ProcessState) (table : CallTable) (action : Action) where
     possible_by : (c : Change) → Grounds table t h action c → IsPossible t c
@@ -79,7 +80,7 @@ module _ (t : Tree) where
         (stands g.object fits spot None g.at g.free, g.target)
     possible_by (CutRow spot) g =
         let fits = name_fits t well (working_dir h) (ending_of g.call) g.path (last_of g.call) g.object g.on.found in
-        removes g.call g.object g.taken (record { name = fits; kind = g.on.fitting }) spot g.at
+        removes table.whose g.call g.object g.taken (record { name = fits; kind = g.on.fitting }) spot g.at
     possible_by (ShiftRow from to) g =
         let fits_old = name_fits t well (working_dir h) Dropped g.old_path table.rename.old.last g.old g.two.found_old in
         let fits_new = name_fits t well (working_dir h) Dropped g.new_path table.rename.new.last g.new g.two.found_new in

@@ -11,7 +11,7 @@ use Rattle.pua_script.proofs.Entries.{found_here}
 use Rattle.pua_script.specs.Worlds.{state_left}
 use Rattle.pua_script.specs.Family.{is_okay}
 use Rattle.pua_script.specs.Tightening.{EachRequestNarrows}
-use Rattle.pua_script.proofs.Narrowing.{is_step, GoesOn, Fine, fails, kills, leaves, copies, fine_effect, confined_after}
+use Rattle.pua_script.proofs.ConfinedRequest.{is_step, GoesOn, Fine, fails, kills, leaves, copies, fine_effect, confined_after}
 use Rattle.pua_script.proofs.Others.{IsNew, copied_apart, effect_is_new, others_leave}
 use Rattle.pua_script.proofs.Allowing.{IsWithin, allows_no_more}
 

@@ -1,14 +1,15 @@
 -- What a request decides to change, by the tree and what the one that asks keeps: all checks in their order. Of other
 -- processes, and of the room that a change needs, nothing is known here.
-use Rattle.std.specs.Prelude.{ℕ, Bool, true, false, not, ◌||◌, if◌then◌else◌, List, [], ◌∷◌, Option, Some, None, option_map, Result, Ok}
-use Rattle.std.specs.Prelude.{Err, is_some}
+use Rattle.std.specs.Prelude.{ℕ, Bool, true, false, not, ◌&&◌, ◌||◌, if◌then◌else◌, List, [], ◌∷◌, Option, Some, None, option_map, Result, Ok}
+use Rattle.std.specs.Prelude.{Err, is_some, suc, zero, ◌+◌, ◌==◌, take}
 use Rattle.pua_tree.specs.Tree.{Tree, Node, Spot, is_empty}
 use Rattle.pua_tree.specs.Edits.{is_inside, is_same_node}
-use Rattle.pua_path.specs.Paths.{path_fault}
+use Rattle.pua_tree.specs.Limits.{most_name}
+use Rattle.pua_path.specs.Paths.{path_fault, text_fault, ends_in_slash}
 use Rattle.pua_path.specs.Resolution.{resolution_of_text}
 use Rattle.pua_path.specs.Fits.{spot_named, node_named}
 use Rattle.pua_calls.specs.Promises.{proc, unveil}
-use Rattle.pua_calls.specs.Calls.{CallTable, NameRule, PairRule, rule_of, last_of, ending_of, effect_of}
+use Rattle.pua_calls.specs.Calls.{CallTable, NameRule, PairRule, rule_of, last_of, ending_of, effect_of, execpromises_by}
 use Rattle.pua_policy.specs.States.{ProcessState, Event, Pledged, Unveiled, Locked, Moved, Ended, working_dir, may_any, pledge_fault}
 use Rattle.pua_policy.specs.States.{unveil_fault}
 use Rattle.pua_policy.specs.Verdict.{place_of, cover, cover_fault, or_fault, object_of, refusal_of}
@@ -18,6 +19,8 @@ use Rattle.pua_calls.specs.declared.fits.Misfit.TheVariants.{Missing, Exists, Is
 use Rattle.pua_calls.specs.declared.fits.Misfit.TheVariants.{ByDotDot, ByNothing}
 use Rattle.pua_tree.specs.declared.node.Kind.{Kind}
 use Rattle.pua_tree.specs.declared.node.Kind.TheVariants as kind
+use Rattle.pua_path.specs.declared.traced.PathTextFault.{PathTextFault}
+use Rattle.pua_path.specs.declared.traced.PathTextFault.TheVariants.{LongComponent}
 use Rattle.pua_path.specs.declared.errno.Errno.{Errno}
 use Rattle.pua_path.specs.declared.errno.Errno.TheVariants.{EPERM, E2BIG, EINVAL}
 use Rattle.pua_path.specs.declared.text.Ending.{Ending}
@@ -28,6 +31,8 @@ use Rattle.pua_path.specs.declared.found.Found.{Found}
 use Rattle.pua_path.specs.declared.found.Found.TheVariants.{Whole, Slot}
 use Rattle.pua_path.specs.declared.found.Last.{Last}
 use Rattle.pua_calls.specs.declared.rules.ExecPromises.{ExecPromises}
+use Rattle.pua_calls.specs.declared.rules.Rules.{Rules}
+use Rattle.pua_calls.specs.declared.rules.Rules.TheVariants.{Standard, Openbsd}
 use Rattle.pua_policy.specs.declared.place.Place.{Place}
 use Rattle.pua_calls.specs.declared.effect.Effect.{Effect}
 use Rattle.pua_calls.specs.declared.effect.Effect.TheVariants as effect
@@ -88,12 +93,12 @@ pub record Telling (E R : Type 0) : Type 0 where
 pub record Asker (E R : Type 0) : Type 0 where
   -- none of these sets of promises is held
   pub promises : List ℕ → Option R
-  -- a path names nothing
-  pub path : Side → Tree → Ending → List ℕ → Last → Result Found E
+  -- by these rules a path names nothing
+  pub path : Rules → Side → Tree → Ending → List ℕ → Last → Result Found E
   -- the veils leave an object less than these permissions
   pub cover : Side → Tree → Found → ℕ → Option E
-  -- a pledge asks for more than was given
-  pub beyond : Option ℕ → Option ℕ → Option E
+  -- by these rules a pledge asks for more than was given
+  pub beyond : Rules → Option ℕ → Option ℕ → Option E
   -- the veils are locked
   pub locked : Option E
   -- a place may not have these permissions
@@ -158,7 +163,7 @@ making None spot there = NoChange
 abbrev pub change_in : CallTable → Effect → Found → Change
 change_in table effect.Removes object = removing object
 change_in table effect.Enters object = going object
-change_in table effect.Starts object = BeginProgram table.execpromises
+change_in table effect.Starts object = BeginProgram (execpromises_by table.whose)
 change_in table does object = making (made_in does) (spot_named object) (node_named object)
 
 abbrev pub change_by : CallTable → Call → Found → Change
@@ -224,9 +229,9 @@ is_unknown _ = false
 -- what a call on a path changes, whose promises are held
 abbrev pub object_by : {E R : Type 0} → Telling E R → CallTable → Tree → Asker E R → Call → List ℕ → (Found → Outcome R) → Outcome R
 object_by told table t asker call path further =
-    on_named told.failed (asker.path Sole t (ending_of call) path (last_of call)) λ object.
+    on_named told.failed (asker.path table.whose Sole t (ending_of call) path (last_of call)) λ object.
     unless_failed told.failed (or_fault (asker.cover Sole t object (rule_of table call).perms)
-    (option_map (told.misfit Sole object) (misfit t call (object_of t object)))) (further object)
+    (option_map (told.misfit Sole object) (misfit table.whose t call (object_of t object)))) (further object)
 
 abbrev pub call_by : {E R : Type 0} → Telling E R → CallTable → Tree → Asker E R → Call → List ℕ → Outcome R
 call_by told table t asker call path =
@@ -240,15 +245,21 @@ symlink_by told table t asker target path =
     (unless_failed told.failed (told.target target)
     (object_by told table t asker call.Symlink path (λ object. Ok (adding (link_node target) object))))
 
--- a rename of what both paths named, once both are covered
-abbrev pub rename_by : {E R : Type 0} → Telling E R → Tree → Found → Found → Option ℕ → Outcome R
-rename_by told t old new None = Err (told.failed (told.misfit Old old Missing))
-rename_by told t old new (Some x) =
+-- whether a slash at the end of either text of a rename asks for a directory: by OpenBSD's rules alone
+abbrev pub asks_directory : Rules → List ℕ → List ℕ → Bool
+asks_directory Standard old new = false
+asks_directory Openbsd old new = ends_in_slash old || ends_in_slash new
+
+-- a rename of what both paths named, once both are covered, where a directory is asked for or not
+abbrev pub rename_by : {E R : Type 0} → Telling E R → Tree → Bool → Found → Found → Option ℕ → Outcome R
+rename_by told t asks old new None = Err (told.failed (told.misfit Old old Missing))
+rename_by told t asks old new (Some x) =
     unless_failed told.failed (ways_by told.misfit old new)
+    (unless_failed told.failed (fault_if (asks && not (is_whole old)) (told.misfit Old old IsNoDirectory))
     (if is_same_node x (node_named new) then Ok NoChange
     else unless_failed told.failed (or_fault (inside_by (told.inside old new) t x (spot_named new))
     (kinds_by (told.misfit New new) t old new))
-    (Ok (shifting (spot_named old) (spot_named new))))
+    (Ok (shifting (spot_named old) (spot_named new)))))
 
 -- a further name for what the old path named, once both are covered
 abbrev pub link_by : {E R : Type 0} → Telling E R → Found → Found → Option ℕ → Outcome R
@@ -260,35 +271,35 @@ abbrev pub covers_by : {E R : Type 0} → PairRule → Tree → Asker E R → Fo
 covers_by pair t asker old new = or_fault (asker.cover Old t old pair.old.needs.perms) (asker.cover New t new pair.new.needs.perms)
 
 -- what two paths named, where the veils leave enough of both: the old path first each time
-abbrev pub objects_by : {E R : Type 0} → Telling E R → PairRule → Tree → Asker E R → Ending → List ℕ → List ℕ →
+abbrev pub objects_by : {E R : Type 0} → Telling E R → Rules → PairRule → Tree → Asker E R → Ending → List ℕ → List ℕ →
     (Found → Found → Outcome R) → Outcome R
-objects_by told pair t asker ending old_path new_path further =
-    on_named told.failed (asker.path Old t ending old_path pair.old.last) λ old.
-    on_named told.failed (asker.path New t ending new_path pair.new.last) λ new.
+objects_by told whose pair t asker ending old_path new_path further =
+    on_named told.failed (asker.path whose Old t ending old_path pair.old.last) λ old.
+    on_named told.failed (asker.path whose New t ending new_path pair.new.last) λ new.
     unless_failed told.failed (covers_by pair t asker old new) (further old new)
 
 -- two paths: the promises of both names first
-abbrev pub pair_by : {E R : Type 0} → Telling E R → PairRule → Tree → Asker E R → Ending → List ℕ → List ℕ → (Found → Found → Outcome R) →
-    Outcome R
-pair_by told pair t asker ending old_path new_path further =
+abbrev pub pair_by : {E R : Type 0} → Telling E R → Rules → PairRule → Tree → Asker E R → Ending → List ℕ → List ℕ →
+    (Found → Found → Outcome R) → Outcome R
+pair_by told whose pair t asker ending old_path new_path further =
     unless_refused (asker.promises pair.old.needs.alternatives)
-    (unless_refused (asker.promises pair.new.needs.alternatives) (objects_by told pair t asker ending old_path new_path further))
+    (unless_refused (asker.promises pair.new.needs.alternatives) (objects_by told whose pair t asker ending old_path new_path further))
 
 -- a veil on a place, after the veils kept so far
 abbrev pub veiling_by : {E R : Type 0} → Telling E R → Asker E R → Place → ℕ → Outcome R
 veiling_by told asker place perms = unless_failed told.failed (asker.place place perms) (Ok (AddEvent (Unveiled place perms)))
 
 -- the letters of an unveil, then its path, then the place
-abbrev pub veil_by : {E R : Type 0} → Telling E R → Tree → Asker E R → List ℕ → Option ℕ → Outcome R
-veil_by told t asker path None = Err (told.failed told.unknown_letter)
-veil_by told t asker path (Some perms) =
-    on_named told.failed (asker.path Sole t ending.Dot path Followed) λ object. veiling_by told asker (place_of object) perms
+abbrev pub veil_by : {E R : Type 0} → Telling E R → Rules → Tree → Asker E R → List ℕ → Option ℕ → Outcome R
+veil_by told whose t asker path None = Err (told.failed told.unknown_letter)
+veil_by told whose t asker path (Some perms) =
+    on_named told.failed (asker.path whose Sole t ending.Dot path Followed) λ object. veiling_by told asker (place_of object) perms
 
 -- an unveil of a path: the promise and the lock first
-abbrev pub unveil_by : {E R : Type 0} → Telling E R → Tree → Asker E R → List ℕ → Option ℕ → Outcome R
-unveil_by told t asker path perms =
+abbrev pub unveil_by : {E R : Type 0} → Telling E R → Rules → Tree → Asker E R → List ℕ → Option ℕ → Outcome R
+unveil_by told whose t asker path perms =
     unless_refused (asker.promises (unveil ∷ [])) (unless_failed told.failed asker.locked
-    (veil_by told t asker path perms))
+    (veil_by told whose t asker path perms))
 
 abbrev pub lock_by : {E R : Type 0} → Asker E R → Outcome R
 lock_by asker = unless_refused (asker.promises (unveil ∷ [])) (Ok (AddEvent Locked))
@@ -301,24 +312,25 @@ abbrev pub uses_by : {E R : Type 0} → Asker E R → List ℕ → Outcome R
 uses_by asker sets = unless_refused (asker.promises sets) (Ok NoChange)
 
 -- what is given and given up, after what was before
-abbrev pub pledging_by : {E R : Type 0} → Telling E R → Asker E R → Option ℕ → Option ℕ → Outcome R
-pledging_by told asker promises execpromises =
-    unless_failed told.failed (asker.beyond promises execpromises) (Ok (AddEvent (Pledged promises execpromises)))
+abbrev pub pledging_by : {E R : Type 0} → Telling E R → Asker E R → Rules → Option ℕ → Option ℕ → Outcome R
+pledging_by told asker whose promises execpromises =
+    unless_failed told.failed (asker.beyond whose promises execpromises) (Ok (AddEvent (Pledged promises execpromises)))
 
-abbrev pub pledge_by : {E R : Type 0} → Telling E R → Asker E R → Given → Given → Outcome R
-pledge_by told asker promises execpromises =
+abbrev pub pledge_by : {E R : Type 0} → Telling E R → Asker E R → Rules → Given → Given → Outcome R
+pledge_by told asker whose promises execpromises =
     unless_failed told.failed (fault_if (is_unknown promises || is_unknown execpromises) (told.unknown_promise (not (is_unknown promises))))
-    (pledging_by told asker (given_set promises) (given_set execpromises))
+    (pledging_by told asker whose (given_set promises) (given_set execpromises))
 
 -- what a living process's request changes, or what is told of why it is refused: all checks in their order
 abbrev pub decide_by : {E R : Type 0} → Telling E R → CallTable → Tree → Asker E R → Action → Outcome R
 decide_by told table t asker (OnPath call path) = call_by told table t asker call path
 decide_by told table t asker (Symlink target path) = symlink_by told table t asker target path
 decide_by told table t asker (Rename old new) =
-    pair_by told table.rename t asker ending.Dropped old new (λ a b. rename_by told t a b (node_named a))
-decide_by told table t asker (Link old new) = pair_by told table.link t asker ending.Dot old new (λ a b. link_by told a b (node_named a))
-decide_by told table t asker (Pledge promises execpromises) = pledge_by told asker promises execpromises
-decide_by told table t asker (Unveil path perms) = unveil_by told t asker path perms
+    pair_by told table.whose table.rename t asker ending.Dropped old new
+    (λ a b. rename_by told t (asks_directory table.whose old new) a b (node_named a))
+decide_by told table t asker (Link old new) = pair_by told table.whose table.link t asker ending.Dot old new (λ a b. link_by told a b (node_named a))
+decide_by told table t asker (Pledge promises execpromises) = pledge_by told asker table.whose promises execpromises
+decide_by told table t asker (Unveil path perms) = unveil_by told table.whose t asker path perms
 decide_by told table t asker Lock = lock_by asker
 decide_by told table t asker (Fork new) = fork_by asker new
 decide_by told table t asker Exit = Ok (AddEvent Ended)
@@ -341,16 +353,60 @@ refusals = record {
   unknown_letter = EINVAL;
 }
 
-abbrev pub Asking : Type 0
-Asking = Asker Errno Refusal
+-- how many bytes stand before a text's first component that is too long, of which `start` stand before the component of whose bytes
+-- `run` were read; all of them before the last component where none is too long
+abbrev pub component_start : ℕ → ℕ → List ℕ → ℕ
+component_start start run [] = start
+component_start start run (b ∷ more) =
+    if b == 47 then component_start (suc (start + run)) zero more
+    else (if run == most_name then start else component_start start (suc run) more)
+
+-- a text, or one dot where it has no byte
+abbrev pub or_dot : List ℕ → List ℕ
+or_dot [] = 46 ∷ []
+or_dot (b ∷ more) = b ∷ more
+
+-- what stands before a component that is too long, where that is the text's fault: a directory's path
+abbrev pub before_long : List ℕ → Option (List ℕ)
+before_long text = by (text_fault text)
+  where
+    by : Option PathTextFault → Option (List ℕ)
+    by (Some LongComponent) = Some (or_dot (take (component_start 0 0 text) text))
+    by _ = None
+
+-- the errno of what stands before it, if that names no directory
+abbrev pub front_errno : {X : Type 0} → Errno → Result X Errno → Errno
+front_errno errno (Ok directory) = errno
+front_errno errno (Err front) = front
+
+abbrev pub errno_behind : Tree → ℕ → Errno → Option (List ℕ) → Errno
+errno_behind t from errno None = errno
+errno_behind t from errno (Some front) = front_errno errno (resolution_of_text t from ending.Dot front Followed)
+
+-- the errno of a path that names nothing: by OpenBSD's rules a component that is too long is judged where it stands, behind the faults
+-- of what stands before it
+abbrev pub errno_by : Rules → Tree → ℕ → List ℕ → Errno → Errno
+errno_by Standard t from text errno = errno
+errno_by Openbsd t from text errno = errno_behind t from errno (before_long text)
+
+-- what a path names by these rules, by what its text names
+abbrev pub named_in : Rules → Tree → ℕ → List ℕ → Result Found Errno → Result Found Errno
+named_in whose t from text (Ok object) = Ok object
+named_in whose t from text (Err errno) = Err (errno_by whose t from text errno)
+
+abbrev pub path_named : Rules → Tree → ℕ → Ending → List ℕ → Last → Result Found Errno
+path_named whose t from ending text last = named_in whose t from text (resolution_of_text t from ending text last)
+
+abbrev pub Requester : Type 0
+Requester = Asker Errno Refusal
 
 -- a process that asks, by what it keeps
-abbrev pub asker_of : ProcessState → Asking
+abbrev pub asker_of : ProcessState → Requester
 asker_of p = record {
   promises = λ sets. refusal_of (may_any p sets);
-  path = λ side t ending text last. resolution_of_text t p.dir ending text last;
+  path = λ whose side t ending text last. path_named whose t p.dir ending text last;
   cover = λ side t object perms. cover_fault (cover t p object) perms;
-  beyond = pledge_fault p;
+  beyond = λ whose promises execpromises. pledge_fault whose p promises execpromises;
   locked = fault_if p.locked EPERM;
   place = λ place perms. unveil_errno (unveil_fault p place perms);
 }
@@ -387,50 +443,50 @@ inside_fault t x spot = inside_by EINVAL t x spot
 abbrev pub named_by : NameRule → Tree → ProcessState → Ending → List ℕ → Result Found Errno
 named_by name t h ending path = resolution_of_text t (working_dir h) ending path name.last
 
-abbrev pub decide_object : CallTable → Tree → Asking → Call → List ℕ → (Found → Decision) → Decision
+abbrev pub decide_object : CallTable → Tree → Requester → Call → List ℕ → (Found → Decision) → Decision
 decide_object table t asker call path further = object_by refusals table t asker call path further
 
-abbrev pub decide_call : CallTable → Tree → Asking → Call → List ℕ → Decision
+abbrev pub decide_call : CallTable → Tree → Requester → Call → List ℕ → Decision
 decide_call table t asker call path = call_by refusals table t asker call path
 
-abbrev pub decide_symlink : CallTable → Tree → Asking → List ℕ → List ℕ → Decision
+abbrev pub decide_symlink : CallTable → Tree → Requester → List ℕ → List ℕ → Decision
 decide_symlink table t asker target path = symlink_by refusals table t asker target path
 
-abbrev pub decide_rename : Tree → Found → Found → Option ℕ → Decision
-decide_rename t old new node = rename_by refusals t old new node
+abbrev pub decide_rename : Tree → Bool → Found → Found → Option ℕ → Decision
+decide_rename t asks old new node = rename_by refusals t asks old new node
 
 abbrev pub decide_link : Found → Found → Option ℕ → Decision
 decide_link old new node = link_by refusals old new node
 
-abbrev pub decide_objects : PairRule → Tree → Asking → Ending → List ℕ → List ℕ → (Found → Found → Decision) → Decision
-decide_objects pair t asker ending old_path new_path further = objects_by refusals pair t asker ending old_path new_path further
+abbrev pub decide_objects : Rules → PairRule → Tree → Requester → Ending → List ℕ → List ℕ → (Found → Found → Decision) → Decision
+decide_objects whose pair t asker ending old_path new_path further = objects_by refusals whose pair t asker ending old_path new_path further
 
-abbrev pub decide_pair : PairRule → Tree → Asking → Ending → List ℕ → List ℕ → (Found → Found → Decision) → Decision
-decide_pair pair t asker ending old_path new_path further = pair_by refusals pair t asker ending old_path new_path further
+abbrev pub decide_pair : Rules → PairRule → Tree → Requester → Ending → List ℕ → List ℕ → (Found → Found → Decision) → Decision
+decide_pair whose pair t asker ending old_path new_path further = pair_by refusals whose pair t asker ending old_path new_path further
 
-abbrev pub veiling : Asking → Place → ℕ → Decision
+abbrev pub veiling : Requester → Place → ℕ → Decision
 veiling asker place perms = veiling_by refusals asker place perms
 
-abbrev pub decide_veil : Tree → Asking → List ℕ → Option ℕ → Decision
-decide_veil t asker path perms = veil_by refusals t asker path perms
+abbrev pub decide_veil : Rules → Tree → Requester → List ℕ → Option ℕ → Decision
+decide_veil whose t asker path perms = veil_by refusals whose t asker path perms
 
-abbrev pub decide_unveil : Tree → Asking → List ℕ → Option ℕ → Decision
-decide_unveil t asker path perms = unveil_by refusals t asker path perms
+abbrev pub decide_unveil : Rules → Tree → Requester → List ℕ → Option ℕ → Decision
+decide_unveil whose t asker path perms = unveil_by refusals whose t asker path perms
 
-abbrev pub decide_lock : Asking → Decision
+abbrev pub decide_lock : Requester → Decision
 decide_lock asker = lock_by asker
 
-abbrev pub decide_fork : Asking → ℕ → Decision
+abbrev pub decide_fork : Requester → ℕ → Decision
 decide_fork asker new = fork_by asker new
 
-abbrev pub decide_uses : Asking → List ℕ → Decision
+abbrev pub decide_uses : Requester → List ℕ → Decision
 decide_uses asker sets = uses_by asker sets
 
-abbrev pub pledging : Asking → Option ℕ → Option ℕ → Decision
-pledging asker promises execpromises = pledging_by refusals asker promises execpromises
+abbrev pub pledging : Requester → Rules → Option ℕ → Option ℕ → Decision
+pledging asker whose promises execpromises = pledging_by refusals asker whose promises execpromises
 
-abbrev pub decide_pledge : Asking → Given → Given → Decision
-decide_pledge asker promises execpromises = pledge_by refusals asker promises execpromises
+abbrev pub decide_pledge : Requester → Rules → Given → Given → Decision
+decide_pledge asker whose promises execpromises = pledge_by refusals asker whose promises execpromises
 
 -- what a process's request changes, or why it is refused, by what the process keeps
 abbrev pub decide : CallTable → Tree → ProcessState → Action → Decision

@@ -1,5 +1,5 @@
 -- Worked rows on scripts: a listing's lines, a script's lines, and the answers.
-use Rattle.std.specs.Prelude.{◌≡◌, ℕ, Bool, true, false, List, [], ◌∷◌, ◌++◌, Result, Ok, Err, codes, refl}
+use Rattle.std.specs.Prelude.{◌≡◌, ℕ, Bool, true, false, List, [], ◌∷◌, ◌++◌, Result, Ok, Err, codes, refl, replicate}
 use Rattle.pua_tree.specs.Examples.{text_of_lines}
 use Rattle.pua_tree.specs.Listing.{listing}
 use Rattle.pua_tree.specs.Tree.{Tree}
@@ -144,6 +144,14 @@ abbrev pub aliases_written : List (List ℕ)
 aliases_written = codes "1 unveil /mail r" ∷ codes "1 unveil /spool rwc" ∷ codes "1 unveil - -" ∷ codes "1 open-w /mail/aliases"
     ∷ codes "1 link /mail/aliases /spool/a" ∷ codes "1 open-w /spool/a" ∷ []
 
+-- a component that is too long: in a directory that isn't there, in a file, in a directory, in the working directory; and of two paths
+abbrev pub long_name : List ℕ
+long_name = replicate 256 97
+
+abbrev pub long_names : List (List ℕ)
+long_names = (codes "1 stat /no/" ++ long_name) ∷ (codes "1 unveil /f/" ++ (long_name ++ codes " r"))
+    ∷ (codes "1 mkdir /d/" ++ long_name) ∷ (codes "1 create " ++ long_name) ∷ (codes "1 rename /f /no/" ++ long_name) ∷ []
+
 -- by the rules of OpenBSD and the standard ones: rename and link need what the table says of them, promises before paths
 pub record PairRows : Type 0 where
   pub letters_of_link : answers_by_openbsd ordered_tree read_and_made ≡ Okay ∷ Okay ∷ Okay ∷ []
@@ -164,6 +172,19 @@ pub record PairRows : Type 0 where
   -- another table changes nothing of the order of further checks
   pub directory_linked : answers_by_openbsd example (codes "1 link /t /u" ∷ codes "1 rename /etc /tmp" ∷ []) ≡ Failed EPERM
       ∷ Failed ENOTEMPTY ∷ []
+  -- but that what is no directory isn't renamed by a path with a slash at its end
+  pub slash_of_rename : answers_by_openbsd ordered_tree (codes "1 rename /f/ /y" ∷ codes "1 rename /f /y/" ∷ codes "1 rename /d/ /y/" ∷ [])
+      ≡ Failed ENOTDIR ∷ Failed ENOTDIR ∷ Okay ∷ []
+  pub standard_slash_of_rename : answers_of ordered_tree (codes "1 rename /f/ /y" ∷ codes "1 rename /y /f/" ∷ []) ≡ Okay ∷ Okay ∷ []
+  pub dots_before_slash : answers_by_openbsd ordered_tree (codes "1 rename /f/ /d/." ∷ codes "1 rename /no/ /y" ∷ []) ≡ Failed EINVAL
+      ∷ Failed ENOENT ∷ []
+  pub slash_before_same : answers_by_openbsd ordered_tree (codes "1 rename /f /f/" ∷ codes "1 rename /f/ /d" ∷ []) ≡ Failed ENOTDIR
+      ∷ Failed ENOTDIR ∷ []
+  -- a component that is too long is judged where it stands
+  pub long_where_they_stand : answers_by_openbsd ordered_tree long_names ≡ Failed ENOENT ∷ Failed ENOTDIR ∷ Failed ENAMETOOLONG
+      ∷ Failed ENAMETOOLONG ∷ Failed ENOENT ∷ []
+  pub standard_long : answers_of ordered_tree long_names ≡ Failed ENAMETOOLONG ∷ Failed ENAMETOOLONG ∷ Failed ENAMETOOLONG
+      ∷ Failed ENAMETOOLONG ∷ Failed ENAMETOOLONG ∷ []
 
 pub pair_rows : PairRows
 pair_rows = record {
@@ -179,6 +200,12 @@ pair_rows = record {
   aliases = refl;
   standard_aliases = refl;
   directory_linked = refl;
+  slash_of_rename = refl;
+  standard_slash_of_rename = refl;
+  dots_before_slash = refl;
+  slash_before_same = refl;
+  long_where_they_stand = refl;
+  standard_long = refl;
 }
 
 -- a socket, which a listing has as a file, a link to it, and a program

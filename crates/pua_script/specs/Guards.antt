@@ -16,6 +16,7 @@ use Rattle.pua_path.specs.declared.text.Ending.{Ending}
 use Rattle.pua_path.specs.declared.text.Ending.TheVariants as ending
 use Rattle.pua_path.specs.declared.found.Last.TheVariants.{Followed}
 use Rattle.pua_path.specs.declared.found.Found.{Found}
+use Rattle.pua_calls.specs.declared.rules.Rules.{Rules}
 use Rattle.pua_calls.specs.declared.call.Call.{Call}
 use Rattle.pua_calls.specs.declared.call.Call.TheVariants as call
 use Rattle.pua_policy.specs.declared.answer.May.TheVariants as may
@@ -28,7 +29,7 @@ pub record OnOne (table : CallTable) (t : Tree) (h : ProcessState) (call : Call)
   pub promised : may_any h (rule_of table call).alternatives ≡ may.Yes
   pub found : object_named t h call path ≡ Ok object
   pub covered : cover_fault (cover t h object) (rule_of table call).perms ≡ None
-  pub fitting : object_fault t call (object_of t object) ≡ None
+  pub fitting : object_fault table.whose t call (object_of t object) ≡ None
 
 -- two paths: the promises and the letters of both names, and the node that the old one named
 pub record OnTwo (pair : PairRule) (t : Tree) (h : ProcessState) (ending : Ending) (old_path new_path : List ℕ) (old new : Found) (x : ℕ) : Type
@@ -75,9 +76,9 @@ pub record IsVeil (t : Tree) (h : ProcessState) (path : List ℕ) (letters : Opt
   pub room : unveil_errno (unveil_fault h (place_of object) perms) ≡ None
   pub is : change ≡ AddEvent (Unveiled (place_of object) perms)
 
-pub record IsPledge (h : ProcessState) (promises execpromises : Given) (change : Change) : Type 0 where
+pub record IsPledge (whose : Rules) (h : ProcessState) (promises execpromises : Given) (change : Change) : Type 0 where
   pub known : is_unknown promises || is_unknown execpromises ≡ false
-  pub within : pledge_fault h (given_set promises) (given_set execpromises) ≡ None
+  pub within : pledge_fault whose h (given_set promises) (given_set execpromises) ≡ None
   pub is : change ≡ AddEvent (Pledged (given_set promises) (given_set execpromises))
 
 -- which checks a request passed that changes this
@@ -87,7 +88,7 @@ IsDecided table t h (Symlink target path) change = (object : Found) × OnOne tab
     × (change ≡ adding (link_node target) object)
 IsDecided table t h (Rename old new) change = IsRename table.rename t h old new change
 IsDecided table t h (Link old new) change = IsLink table.link t h old new change
-IsDecided table t h (Pledge promises execpromises) change = IsPledge h promises execpromises change
+IsDecided table t h (Pledge promises execpromises) change = IsPledge table.whose h promises execpromises change
 IsDecided table t h (Unveil path perms) change = IsVeil t h path perms change
 IsDecided table t h Lock change = (may_any h (unveil ∷ []) ≡ may.Yes) × (change ≡ AddEvent Locked)
 IsDecided table t h (Fork new) change = (may_any h (proc ∷ []) ≡ may.Yes) × (change ≡ CopyAs new)

@@ -3,7 +3,6 @@ use Rattle.std.specs.Prelude.{ℕ, List, Bool, Option, Some, None, Result, Ok, E
 use Rattle.pua_tree.specs.Tree.{Node, Tree, Spot}
 use Rattle.pua_tree.specs.declared.node.Kind.TheVariants as kind
 use Rattle.pua_path.specs.Fits.{FoundFits, StandsAsNamed}
-use Rattle.pua_path.specs.Resolution.{resolution_of_text}
 use Rattle.pua_path.specs.declared.text.Ending.{Ending}
 use Rattle.pua_path.specs.declared.found.Found.{Found}
 use Rattle.pua_calls.specs.Calls.{PairRule, effect_of}
@@ -14,9 +13,10 @@ use Rattle.pua_calls.specs.declared.call.Call.{Call}
 use Rattle.pua_policy.specs.States.{Locked, Moved, Ended, ProcessState}
 use Rattle.pua_policy.specs.Verdict.{place_of}
 use Rattle.pua_policy.specs.declared.answer.Refusal.{Refusal}
-use Rattle.pua_script.specs.Decide.{NoChange, AddNode, CutRow, ShiftRow, TieRow, BeginProgram, AddEvent, Asking, Change, Decision, pledging}
+use Rattle.pua_script.specs.Decide.{NoChange, AddNode, CutRow, ShiftRow, TieRow, BeginProgram, AddEvent, Requester, Change, Decision, pledging}
 use Rattle.pua_script.specs.Decide.{veiling}
-use Rattle.pua_script.specs.Decide.{plain_node, link_node, made_in, making, cutting, if_named, unless_fault, covers_by, asker_of}
+use Rattle.pua_script.specs.Decide.{plain_node, link_node, made_in, making, cutting, if_named, unless_fault, covers_by, asker_of, path_named}
+use Rattle.pua_calls.specs.declared.rules.Rules.{Rules}
 use Rattle.pua_script.specs.declared.granted.Granted.{Granted}
 use Rattle.pua_script.specs.declared.granted.Granted.TheVariants as granted
 use Rattle.pua_script.specs.declared.granted.NewNode.{NewNode}
@@ -41,14 +41,14 @@ node_made new_nodes.Directory = plain_node kind.Dir
 node_made (new_nodes.Link target) = link_node target.now.bytes
 
 -- what was granted, as a decision: of a pledge and an unveil the process itself judges the last check
-abbrev pub decision_by : Asking → Granted → Decision
+abbrev pub decision_by : Requester → Granted → Decision
 decision_by asker granted.NoChange = Ok NoChange
 decision_by asker (granted.AddNode dir name node) = Ok (AddNode (dir, name.now) (node_made node))
 decision_by asker (granted.CutRow dir name) = Ok (CutRow (dir, name.now))
 decision_by asker (granted.ShiftRow from name to new_name) = Ok (ShiftRow (from, name.now) (to, new_name.now))
 decision_by asker (granted.TieRow dir name x) = Ok (TieRow (dir, name.now) x)
 decision_by asker (granted.BeginProgram left) = Ok (BeginProgram left)
-decision_by asker (granted.Pledge promises execpromises) = pledging asker promises execpromises
+decision_by asker (granted.Pledge whose promises execpromises) = pledging asker whose promises execpromises
 decision_by asker (granted.Unveil object perms) = veiling asker (place_of object.now) perms
 decision_by asker granted.Lock = Ok (AddEvent Locked)
 decision_by asker (granted.Enter dir) = Ok (AddEvent (Moved dir))
@@ -78,10 +78,10 @@ tied (Ok (Some tie)) = Ok (TieRow (tie.dir, tie.name.bytes.now) tie.node)
 tied (Err refusal) = Err refusal
 
 -- further checks of what both paths of a request name, where both are covered with what their names need
-abbrev pub if_covered : PairRule → Tree → ProcessState → Ending → List ℕ → List ℕ → (Found → Found → Decision) → Decision
-if_covered need t p ending old new further =
-    if_named (resolution_of_text t p.dir ending old need.old.last) λ from.
-    if_named (resolution_of_text t p.dir ending new need.new.last) λ to.
+abbrev pub if_covered : Rules → PairRule → Tree → ProcessState → Ending → List ℕ → List ℕ → (Found → Found → Decision) → Decision
+if_covered whose need t p ending old new further =
+    if_named (path_named whose t p.dir ending old need.old.last) λ from.
+    if_named (path_named whose t p.dir ending new need.new.last) λ to.
     unless_fault (covers_by need t (asker_of p) from to) (further from to)
 
 -- further checks of what was judged
@@ -90,6 +90,6 @@ on_judged (Ok x) further = further x
 on_judged (Err refusal) further = Err refusal
 
 -- what was granted, or refused, as a decision
-abbrev pub decision_for : Asking → Result Granted Refusal → Decision
+abbrev pub decision_for : Requester → Result Granted Refusal → Decision
 decision_for asker (Ok granted) = decision_by asker granted
 decision_for asker (Err refusal) = Err refusal

@@ -9,7 +9,7 @@ ghost use Rattle.pua_policy.specs.States.{ProcessState};
 ghost use Rattle.pua_script.specs.Decide.{asker_of};
 ghost use Rattle.pua_script.specs.Judged.{decision_for, is_edit};
 ghost use Rattle.pua_script.specs.Replay.{come_of};
-ghost use Rattle.pua_calls.specs.Calls.{CallTable as Rules, rule_of};
+ghost use Rattle.pua_calls.specs.Calls.{rule_of};
 ghost use Rattle.pua_policy.specs.States.{may_any};
 ghost use Rattle.pua_policy.specs.Verdict.{refusal_of};
 ghost use Rattle.pua_script.specs.Worlds.{Acts, Attempts, is_fork};
@@ -25,7 +25,7 @@ use crate::judged::{
 use crate::link::{judge_link, naming};
 use crate::pair::{node_named, promised_pair, spot_named};
 use crate::process::{decide_lock, decide_pledge, decide_uses, refuse};
-use crate::rename::{judge_rename, moving};
+use crate::rename::{asks_directory, judge_rename, moving};
 use crate::request::Action;
 use pua_calls::{Call, CallTable, Perms};
 use pua_policy::judge::promised_for;
@@ -54,9 +54,10 @@ pub(crate) fn act<T: FileTree>(
         }
         Action::Rename(old, new) => rename(tree, table, process, old.bytes(), new.bytes()),
         Action::Link(old, new) => link(tree, table, process, old.bytes(), new.bytes()),
-        Action::Unveil(path, perms) => unveil(tree, process, path.bytes(), *perms),
+        Action::Unveil(path, perms) => unveil(tree, table, process, path.bytes(), *perms),
         Action::Pledge(promises, execpromises) => {
-            answer(tree, process, &decide_pledge(promises, execpromises))
+            let granted = decide_pledge(table.rules(), promises, execpromises);
+            answer(tree, process, &granted)
         }
         Action::Lock => {
             let granted = decide_lock(process);
@@ -200,7 +201,8 @@ fn rename<'p, T: FileTree>(
         Ok(()) => (),
         Err(refusal) => return answer(tree, process, &Err(refusal)),
     }
-    let shift = match judge_rename(tree, process, need, old, new) {
+    let asks = asks_directory(table.rules(), old, new);
+    let shift = match judge_rename(tree, table, process, need, asks, old, new) {
         Ok(Some(shift)) => shift,
         Ok(None) => return answer(tree, process, &Ok(Granted::NoChange)),
         Err(refusal) => return answer(tree, process, &Err(refusal)),
@@ -231,7 +233,7 @@ fn link<'p, T: FileTree>(
         Ok(()) => (),
         Err(refusal) => return answer(tree, process, &Err(refusal)),
     }
-    let tie = match judge_link(tree, process, need, old, new) {
+    let tie = match judge_link(tree, table, process, need, old, new) {
         Ok(Some(tie)) => tie,
         Ok(None) => return answer(tree, process, &Ok(Granted::NoChange)),
         Err(refusal) => return answer(tree, process, &Err(refusal)),
@@ -245,19 +247,19 @@ fn link<'p, T: FileTree>(
 /// Puts a veil on what a path names.
 fn unveil<T: FileTree>(
     tree: &mut T,
+    table: &CallTable,
     process: &mut Process,
     path: &[u8],
     perms: Option<Perms>,
 ) -> Result<Answer, WorldFault>
-    ensures exact { (table : Rules) →
-        Acts table (T.content tree.old) process.old (Unveil path.now perms)
+    ensures exact { Acts table.now (T.content tree.old) process.old (Unveil path.now perms)
         result (T.content tree.new) process.new }
     ensures unchanged { OnErr result
         ((T.content tree.new ≡ T.content tree.old) × (process.new ≡ process.old)) }
 {
     match judge_letters(process, perms) {
         Ok(perms) => {
-            let object = veil_named(tree, process, path);
+            let object = veil_named(tree, table, process, path);
             answer(tree, process, &grant_unveil(&object, perms))
         }
         Err(refusal) => answer(tree, process, &Err(refusal)),

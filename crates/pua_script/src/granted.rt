@@ -12,7 +12,7 @@ ghost use Rattle.pua_script.specs.Worlds.{Attempts, AttemptsEdit, Does, Edits};
 
 use crate::answer::Answer;
 use crate::fault::WorldFault;
-use pua_calls::{ExecPromises, Perms, Promises};
+use pua_calls::{ExecPromises, Perms, Promises, Rules};
 use pua_path::{Errno, Found, PathText};
 use pua_policy::{Place, Process, UnveilFault};
 use pua_tree::{FileTree, Kind, Name, NodeId, TreeFault};
@@ -56,8 +56,8 @@ pub(crate) enum Granted<'a> {
     TieRow(NodeId, &'a Name, NodeId),
     /// The process becomes that of a new program, to which so much of execpromises is left.
     BeginProgram(ExecPromises),
-    /// Promises and execpromises are given up, if the process may pledge so.
-    Pledge(Option<Promises>, Option<Promises>),
+    /// Promises and execpromises are given up, if the process may pledge so by these rules.
+    Pledge(Rules, Option<Promises>, Option<Promises>),
     /// A veil is put on the place of what was found, if the veils kept so far allow it.
     Unveil(&'a Found, Perms),
     /// The process allows no further veil.
@@ -93,7 +93,9 @@ pub(crate) fn make<T: FileTree>(
             process.exec_by(left);
             Ok(Answer::Okay)
         }
-        Granted::Pledge(promises, execpromises) => Ok(pledge(process, promises, execpromises)),
+        Granted::Pledge(rules, promises, execpromises) => {
+            Ok(pledge(process, rules, promises, execpromises))
+        }
         Granted::Unveil(found, perms) => unveil(process, found, perms),
         Granted::Lock => {
             process.lock();
@@ -187,14 +189,15 @@ fn tie<T: FileTree>(
 /// Pledges: `EPERM` where the process may not (pledge(2)).
 fn pledge(
     process: &mut Process,
+    rules: Rules,
     promises: Option<Promises>,
     execpromises: Option<Promises>,
 ) -> Answer
     ensures { (w : World) → Does w.tree process.old
-        (come_of w process.old (pledging (asker_of process.old) promises execpromises)) result w.tree
-        process.new }
+        (come_of w process.old (pledging (asker_of process.old) rules promises execpromises))
+        result w.tree process.new }
 {
-    match process.pledge(promises, execpromises) {
+    match process.pledge(rules, promises, execpromises) {
         Ok(()) => Answer::Okay,
         Err(errno) => Answer::Failed(errno),
     }

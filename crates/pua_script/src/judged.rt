@@ -3,21 +3,22 @@
 ghost use Rattle.std.specs.Prelude.{◌≡◌, ℕ, List, Some, Ok, IfOk, false};
 ghost use Rattle.pua_tree.specs.Tree.{Tree};
 ghost use Rattle.pua_path.specs.Paths.{path_fault};
-ghost use Rattle.pua_path.specs.Resolution.{resolution_of_text};
 ghost use Rattle.pua_path.specs.Walks.{found_seen, founds_seen};
 ghost use Rattle.pua_path.specs.declared.found.Found as founds;
 ghost use Rattle.pua_path.specs.declared.found.Last.TheVariants.{Followed};
 ghost use Rattle.pua_path.specs.declared.text.Ending.TheVariants.{Dot};
-ghost use Rattle.pua_calls.specs.Calls.{CallTable as Rules, rule_of};
+ghost use Rattle.pua_calls.specs.Calls.{rule_of};
 ghost use Rattle.pua_calls.specs.declared.call.Call.TheVariants.{Symlink};
+ghost use Rattle.pua_calls.specs.declared.rules.Rules.{Rules as AnyRules};
 ghost use Rattle.pua_policy.specs.States.{may_any};
 ghost use Rattle.pua_policy.specs.Verdict.{place_of};
-ghost use Rattle.pua_script.specs.Decide.{Asking, Decision, asker_of, change_by, cutting};
+ghost use Rattle.pua_script.specs.Decide.{Requester, Decision, asker_of, change_by, cutting};
 ghost use Rattle.pua_script.specs.Decide.{decide_object, decide_unveil, decide_veil, if_may};
-ghost use Rattle.pua_script.specs.Decide.{if_named, placing, unless_fault, veiling};
+ghost use Rattle.pua_script.specs.Decide.{if_named, path_named, placing, unless_fault, veiling};
 ghost use Rattle.pua_script.specs.Judged.{NameFits, decision_for, decision_by, edit_by, is_edit};
 ghost use Rattle.pua_script.specs.Judged.{node_made, on_judged};
 
+use crate::front::errno_by;
 use crate::granted::{Granted, NewNode};
 use pua_calls::needs::ending;
 use pua_calls::{Call, CallTable, Effect, Perms, Promises};
@@ -26,19 +27,21 @@ use pua_policy::judge::{object_verdict_lent, promised, promised_for};
 use pua_policy::{Process, Refusal};
 use pua_tree::{FileTree, Kind, Name, NodeId};
 
-/// What a path names from a directory.
+/// What a path names from a directory, by the rules that a table is read over.
 pub(crate) fn named<'t, P: Probe<'t>>(
     probe: &mut P,
+    table: &CallTable,
     from: NodeId,
     path: &[u8],
     ending: Ending,
     last: Last,
 ) -> Result<Found, Errno>
-    ensures exact { result ≡ resolution_of_text (P.tree probe.old) from ending path.now last }
+    ensures exact { result
+        ≡ path_named table.now.whose (P.tree probe.old) from ending path.now last }
     ensures fits { IfOk result (NameFits (P.tree probe.old)) }
     ensures tree { P.tree probe.new ≡ P.tree probe.old }
 {
-    match named_lent(probe, from, path, ending, last) {
+    match named_lent(probe, table, from, path, ending, last) {
         Ok(lent) => Ok(lent.found()),
         Err(errno) => Err(errno),
     }
@@ -48,27 +51,28 @@ pub(crate) fn named<'t, P: Probe<'t>>(
 #[inline(always)]
 pub(crate) fn named_lent<'a, 't: 'a, P: Probe<'t>>(
     probe: &mut P,
+    table: &CallTable,
     from: NodeId,
     path: &'a [u8],
     ending: Ending,
     last: Last,
 ) -> Result<LentFound<'a>, Errno>
     ensures exact { founds_seen result
-        ≡ resolution_of_text (P.tree probe.old) from ending path.now last }
+        ≡ path_named table.now.whose (P.tree probe.old) from ending path.now last }
     ensures fits { IfOk (founds_seen result) (NameFits (P.tree probe.old)) }
     ensures tree { P.tree probe.new ≡ P.tree probe.old }
 {
     probe.known();
     match PathText::read(path, ending) {
         Ok(text) => resolve_lent(probe, from, &text, last),
-        Err(errno) => Err(errno),
+        Err(errno) => Err(errno_by(probe, table.rules(), from, path, errno)),
     }
 }
 
 /// What an allowed call changes that makes no name and takes none away. Of what was found it keeps
 /// no more than a directory's number, so no name is copied.
 pub(crate) fn looking<'g>(table: &CallTable, call: Call, found: &LentFound<'_>) -> Granted<'g>
-    ensures { is_edit call ≡ false → (asker : Asking) →
+    ensures { is_edit call ≡ false → (asker : Requester) →
         decision_by asker result ≡ Ok (change_by table.now call (found_seen found.now)) }
 {
     match call.effect() {
@@ -95,7 +99,8 @@ pub(crate) fn judge_object<'t, T: FileTree>(
         ≡ if_named (founds_seen result) further }
 {
     let mut probe = Counted::new(tree);
-    let lent = match named_lent(&mut probe, process.dir(), path, ending(call), call.last()) {
+    let (dir, last) = (process.dir(), call.last());
+    let lent = match named_lent(&mut probe, table, dir, path, ending(call), last) {
         Ok(lent) => lent,
         Err(errno) => return Err(errno),
     };
@@ -112,7 +117,7 @@ pub(crate) fn editing<'a>(
     name: &'a Name,
     there: Option<NodeId>,
 ) -> Granted<'a>
-    ensures { (asker : Asking) →
+    ensures { (asker : Requester) →
         decision_by asker result ≡ Ok (edit_by call (Some (dir, name.now)) there) }
 {
     match call.effect() {
@@ -131,7 +136,7 @@ pub(crate) fn adding<'a>(
     name: &'a Name,
     there: Option<NodeId>,
 ) -> Granted<'a>
-    ensures { (asker : Asking) → decision_by asker result
+    ensures { (asker : Requester) → decision_by asker result
         ≡ Ok (placing (node_made node.entry) (Some (dir, name.now)) there) }
 {
     match there {
@@ -142,7 +147,7 @@ pub(crate) fn adding<'a>(
 
 /// The row of what has a name.
 fn removing<'a>(dir: NodeId, name: &'a Name, there: Option<NodeId>) -> Granted<'a>
-    ensures { (asker : Asking) →
+    ensures { (asker : Requester) →
         decision_by asker result ≡ Ok (cutting (Some (dir, name.now)) there) }
 {
     match there {
@@ -173,9 +178,9 @@ pub(crate) fn judge_target<'a>(
 /// The permissions that an unveil is for: the promise, the lock, and the letters are judged before
 /// its path is read.
 pub(crate) fn judge_letters(process: &Process, perms: Option<Perms>) -> Result<Perms, Refusal>
-    ensures { (t : Tree) (path : List ℕ) →
-        on_judged result (λ letters. decide_veil t (asker_of process.now) path (Some letters))
-        ≡ decide_unveil t (asker_of process.now) path perms }
+    ensures { (whose : AnyRules) (t : Tree) (path : List ℕ) →
+        on_judged result (λ letters. decide_veil whose t (asker_of process.now) path (Some letters))
+        ≡ decide_unveil whose t (asker_of process.now) path perms }
 {
     promised(process, Promises::UNVEIL)?;
     if process.locked() {
@@ -190,14 +195,22 @@ pub(crate) fn judge_letters(process: &Process, perms: Option<Perms>) -> Result<P
 /// What the path of an unveil names. A link at the path's end is followed.
 pub(crate) fn veil_named<T: FileTree>(
     tree: &T,
+    table: &CallTable,
     process: &Process,
     path: &[u8],
 ) -> Result<Found, Errno>
-    ensures { result ≡ resolution_of_text (T.content tree.now) process.now.dir Dot path.now
+    ensures { result ≡ path_named table.now.whose (T.content tree.now) process.now.dir Dot path.now
         Followed }
 {
     let mut probe = Counted::new(tree);
-    named(&mut probe, process.dir(), path, Ending::Dot, Last::Followed)
+    named(
+        &mut probe,
+        table,
+        process.dir(),
+        path,
+        Ending::Dot,
+        Last::Followed,
+    )
 }
 
 /// A veil on the place of what was found.
@@ -205,7 +218,7 @@ pub(crate) fn grant_unveil(
     judged: &Result<Found, Errno>,
     perms: Perms,
 ) -> Result<Granted<'_>, Refusal>
-    ensures { (asker : Asking) →
+    ensures { (asker : Requester) →
         decision_for asker result
         ≡ if_named judged.now (λ object. veiling asker (place_of object) perms) }
 {

@@ -6,6 +6,7 @@ mod answer;
 mod any_of;
 mod fault;
 mod fork;
+mod front;
 mod futures;
 mod granted;
 mod judged;
@@ -24,6 +25,7 @@ mod world;
 pub use answer::Answer;
 pub use any_of::AnyOf;
 pub use fault::{ScriptFault, WorldFault};
+pub use front::before_long;
 pub use futures::{
     bytes_law, confined_law, error_table_examples, families_law, others_law, steps_law, table_law,
 };
@@ -33,6 +35,7 @@ pub use laws::{
 };
 pub use limits::{MOST_NUMBER, MOST_PROCESSES, MOST_SCRIPT_LINES};
 pub use line::{read_request, read_request_by};
+pub use rename::asks_directory;
 pub use request::{Action, Given, PathBytes, Request};
 pub use script::{Script, read_script, read_script_by};
 pub use world::World;

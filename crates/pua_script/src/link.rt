@@ -4,12 +4,12 @@ ghost use Rattle.std.specs.Prelude.{◌≡◌, Ok};
 ghost use Rattle.pua_path.specs.Fits.{node_named, spot_named};
 ghost use Rattle.pua_path.specs.Walks.{found_seen};
 ghost use Rattle.pua_path.specs.declared.text.Ending.TheVariants.{Dot};
-ghost use Rattle.pua_script.specs.Decide.{Asking, TieRow, decide_link, tying};
+ghost use Rattle.pua_script.specs.Decide.{Requester, TieRow, decide_link, tying};
 ghost use Rattle.pua_script.specs.Judged.{decision_by, if_covered, tied};
 
 use crate::granted::Granted;
 use crate::pair::{is_whole, judge_pair, node_named, spot_named};
-use pua_calls::PairNeed;
+use pua_calls::{CallTable, PairNeed};
 use pua_path::{Ending, Errno, LentFound};
 use pua_policy::{Process, Refusal};
 use pua_tree::{FileTree, LentName, Name, NodeId};
@@ -26,16 +26,18 @@ pub(crate) struct Tie<'a> {
 /// unless something is wrong with what both paths named; None where nothing is to get one.
 pub(crate) fn judge_link<'t, T: FileTree>(
     tree: &'t T,
+    table: &CallTable,
     process: &Process,
     need: &PairNeed,
     old: &'t [u8],
     new: &'t [u8],
 ) -> Result<Option<Tie<'t>>, Refusal>
-    ensures { tied result ≡ if_covered need.now (T.content tree.now) process.now Dot old.now new.now
+    ensures { tied result ≡ if_covered table.now.whose need.now (T.content tree.now) process.now Dot
+        old.now new.now
         (λ from to. decide_link from to (node_named from)) }
 {
     let ending = Ending::Dot;
-    match judge_pair(tree, process, need, ending, old, new) {
+    match judge_pair(tree, table, process, need, ending, old, new) {
         Ok(pair) => decide_tie(&pair.from, &pair.to),
         Err(errno) => Err(Refusal::Failed(errno)),
     }
@@ -75,7 +77,7 @@ fn tying<'a>(node: NodeId, to: &LentFound<'a>) -> Option<Tie<'a>>
 
 /// A node is to get a further name.
 pub(crate) fn naming<'a>(dir: NodeId, name: &'a Name, node: NodeId) -> Granted<'a>
-    ensures { (asker : Asking) → decision_by asker result ≡ Ok (TieRow (dir, name.now) node) }
+    ensures { (asker : Requester) → decision_by asker result ≡ Ok (TieRow (dir, name.now) node) }
 {
     Granted::TieRow(dir, name, node)
 }

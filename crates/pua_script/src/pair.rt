@@ -2,17 +2,16 @@
 
 ghost use Rattle.std.specs.Prelude.{◌≡◌, IfOk, option_map};
 ghost use Rattle.pua_path.specs.Fits.{spot_named, node_named};
-ghost use Rattle.pua_path.specs.Resolution.{resolution_of_text};
 ghost use Rattle.pua_path.specs.Walks.{found_seen, founds_seen};
 ghost use Rattle.pua_path.specs.declared.found.Found as found;
 ghost use Rattle.pua_policy.specs.States.{may_any};
 ghost use Rattle.pua_policy.specs.Verdict.{FoundFits};
 ghost use Rattle.pua_script.specs.Decide.{Decision, asker_of, covers_by, if_may, if_named};
-ghost use Rattle.pua_script.specs.Decide.{is_whole};
+ghost use Rattle.pua_script.specs.Decide.{is_whole, path_named};
 ghost use Rattle.pua_script.specs.Judged.{NameFits, if_covered, on_judged, spot_now};
 
 use crate::judged::named_lent;
-use pua_calls::{NameNeed, PairNeed};
+use pua_calls::{CallTable, NameNeed, PairNeed};
 use pua_path::{Counted, Ending, Errno, LentFound, LentWay};
 use pua_policy::judge::{cover_fault, promised_any};
 use pua_policy::{Process, Refusal};
@@ -48,6 +47,7 @@ pub(crate) fn promised_pair(process: &Process, need: &PairNeed) -> Result<(), Re
 /// of links.
 pub(crate) fn judge_pair<'t, T: FileTree>(
     tree: &'t T,
+    table: &CallTable,
     process: &Process,
     need: &PairNeed,
     ending: Ending,
@@ -55,15 +55,16 @@ pub(crate) fn judge_pair<'t, T: FileTree>(
     new: &'t [u8],
 ) -> Result<Pair<'t>, Errno>
     ensures exact { (further : found.Found → found.Found → Decision) →
-        if_covered need.now (T.content tree.now) process.now ending old.now new.now further
+        if_covered table.now.whose need.now (T.content tree.now) process.now ending old.now new.now
+        further
         ≡ if_named result (λ pair. further (found_seen pair.from) (found_seen pair.to)) }
     ensures fits { IfOk result (λ pair. NameFits (T.content tree.now) (found_seen pair.to)) }
 {
-    let from = match side_named(tree, process, need.old_name(), ending, old) {
+    let from = match side_named(tree, table, process, need.old_name(), ending, old) {
         Ok(from) => from,
         Err(errno) => return Err(errno),
     };
-    let to = match side_named(tree, process, need.new_name(), ending, new) {
+    let to = match side_named(tree, table, process, need.new_name(), ending, new) {
         Ok(to) => to,
         Err(errno) => return Err(errno),
     };
@@ -76,17 +77,19 @@ pub(crate) fn judge_pair<'t, T: FileTree>(
 /// What one of the two paths names, by what its name needs.
 fn side_named<'t, T: FileTree>(
     tree: &'t T,
+    table: &CallTable,
     process: &Process,
     need: &NameNeed,
     ending: Ending,
     path: &'t [u8],
 ) -> Result<LentFound<'t>, Errno>
     ensures exact { founds_seen result
-        ≡ resolution_of_text (T.content tree.now) process.now.dir ending path.now need.now.last }
+        ≡ path_named table.now.whose (T.content tree.now) process.now.dir ending path.now
+        need.now.last }
     ensures fits { IfOk (founds_seen result) (NameFits (T.content tree.now)) }
 {
     let mut probe = Counted::new(tree);
-    named_lent(&mut probe, process.dir(), path, ending, need.last())
+    named_lent(&mut probe, table, process.dir(), path, ending, need.last())
 }
 
 /// What is wrong with the covers of both names, the old one first.

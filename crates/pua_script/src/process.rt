@@ -4,7 +4,7 @@
 ghost use Rattle.std.specs.Prelude.{◌≡◌};
 ghost use Rattle.pua_tree.specs.Tree.{Tree};
 ghost use Rattle.pua_policy.specs.States.{ProcessState};
-ghost use Rattle.pua_script.specs.Decide.{Asking, asker_of, decide_lock, decide_pledge};
+ghost use Rattle.pua_script.specs.Decide.{Requester, asker_of, decide_lock, decide_pledge};
 ghost use Rattle.pua_script.specs.Decide.{decide_uses, given_set, is_unknown};
 ghost use Rattle.pua_script.specs.Judged.{decision_for};
 ghost use Rattle.pua_script.specs.Replay.{refusal_effect};
@@ -13,7 +13,7 @@ ghost use Rattle.pua_script.specs.Worlds.{Does};
 use crate::answer::Answer;
 use crate::granted::Granted;
 use crate::request::Given;
-use pua_calls::Promises;
+use pua_calls::{Promises, Rules};
 use pua_path::Errno;
 use pua_policy::judge::{promised, promised_any};
 use pua_policy::{Process, Refusal};
@@ -34,16 +34,17 @@ pub(crate) fn refuse(process: &mut Process, refusal: Refusal) -> Answer
 
 /// What a pledge is to change. An unknown keyword in either argument is judged before what is held.
 pub(crate) fn decide_pledge<'a>(
+    rules: Rules,
     promises: &Given,
     execpromises: &Given,
 ) -> Result<Granted<'a>, Refusal>
-    ensures { (asker : Asking) →
-        decision_for asker result ≡ decide_pledge asker promises.now execpromises.now }
+    ensures { (asker : Requester) →
+        decision_for asker result ≡ decide_pledge asker rules promises.now execpromises.now }
 {
     if is_unknown(promises) || is_unknown(execpromises) {
         return Err(Refusal::Failed(Errno::EINVAL));
     }
-    Ok(Granted::Pledge(given_set(promises), given_set(execpromises)))
+    Ok(Granted::Pledge(rules, given_set(promises), given_set(execpromises)))
 }
 
 fn is_unknown(given: &Given) -> bool

@@ -2,18 +2,19 @@
 
 ghost use Rattle.std.specs.Prelude.{◌≡◌, ℕ, Ok, IfOk};
 ghost use Rattle.pua_tree.specs.Edits.{is_same_node};
+ghost use Rattle.pua_path.specs.Paths.{ends_in_slash};
 ghost use Rattle.pua_path.specs.Fits.{StandsAsNamed, spot_named, node_named};
 ghost use Rattle.pua_path.specs.Walks.{found_seen};
 ghost use Rattle.pua_path.specs.declared.text.Ending.TheVariants.{Dropped};
 ghost use Rattle.pua_policy.specs.Verdict.{or_fault};
-ghost use Rattle.pua_script.specs.Decide.{Asking, ShiftRow, decide_rename, dots_fault};
-ghost use Rattle.pua_script.specs.Decide.{inside_fault, is_whole, kinds_fault, shifting};
-ghost use Rattle.pua_script.specs.Decide.{top_fault, ways_fault};
+ghost use Rattle.pua_script.specs.Decide.{Requester, ShiftRow, asks_directory, decide_rename};
+ghost use Rattle.pua_script.specs.Decide.{dots_fault, inside_fault, is_whole, kinds_fault};
+ghost use Rattle.pua_script.specs.Decide.{shifting, top_fault, ways_fault};
 ghost use Rattle.pua_script.specs.Judged.{decision_by, if_covered, shifted};
 
 use crate::granted::Granted;
 use crate::pair::{Pair, is_whole, judge_pair, node_named, spot_named};
-use pua_calls::PairNeed;
+use pua_calls::{CallTable, PairNeed, Rules};
 use pua_path::{Ending, Errno, LentFound, LentWay};
 use pua_policy::{Process, Refusal};
 use pua_tree::{FileTree, Kind, LentName, Name, NodeId};
@@ -27,31 +28,58 @@ pub(crate) struct Shift<'a> {
     pub(crate) new_name: LentName<'a>,
 }
 
+/// Whether a slash at the end of either path of a rename asks for a directory: by OpenBSD's rules
+/// alone.
+pub fn asks_directory(rules: Rules, old: &[u8], new: &[u8]) -> bool
+    ensures { result ≡ asks_directory rules old.now new.now }
+{
+    match rules {
+        Rules::Standard => false,
+        Rules::Openbsd => ends_in_slash(old) || ends_in_slash(new),
+    }
+}
+
+fn ends_in_slash(text: &[u8]) -> bool
+    ensures { result ≡ ends_in_slash text.now }
+{
+    match text.split_last() {
+        Some((last, _)) => *last == b'/',
+        None => false,
+    }
+}
+
 /// What a rename is to change whose promises are held: the row of what its old path named moves,
-/// unless something is wrong with what both paths named; None where nothing is to move.
+/// unless something is wrong with what both paths named; None where nothing is to move. `asks`:
+/// whether a directory is asked for, so that what is none is `ENOTDIR`.
 pub(crate) fn judge_rename<'t, T: FileTree>(
     tree: &'t T,
+    table: &CallTable,
     process: &Process,
     need: &PairNeed,
+    asks: bool,
     old: &'t [u8],
     new: &'t [u8],
 ) -> Result<Option<Shift<'t>>, Refusal>
-    ensures { shifted result ≡ if_covered need.now (T.content tree.now) process.now Dropped
-        old.now new.now
-        (λ from to. decide_rename (T.content tree.now) from to (node_named from)) }
+    ensures { shifted result ≡ if_covered table.now.whose need.now (T.content tree.now) process.now
+        Dropped old.now new.now
+        (λ from to. decide_rename (T.content tree.now) asks from to (node_named from)) }
 {
-    match judge_pair(tree, process, need, Ending::Dropped, old, new) {
-        Ok(pair) => decide_shift(tree, &pair),
+    match judge_pair(tree, table, process, need, Ending::Dropped, old, new) {
+        Ok(pair) => decide_shift(tree, asks, &pair),
         Err(errno) => Err(Refusal::Failed(errno)),
     }
 }
 
 /// The row of what was found, unless something is wrong with it or with the place that it would
 /// get.
-fn decide_shift<'a, T: FileTree>(tree: &T, pair: &Pair<'a>) -> Result<Option<Shift<'a>>, Refusal>
+fn decide_shift<'a, T: FileTree>(
+    tree: &T,
+    asks: bool,
+    pair: &Pair<'a>,
+) -> Result<Option<Shift<'a>>, Refusal>
     ensures { StandsAsNamed (T.content tree.now) (found_seen pair.now.to) → shifted result
-        ≡ decide_rename (T.content tree.now) (found_seen pair.now.from) (found_seen pair.now.to)
-        (node_named (found_seen pair.now.from)) }
+        ≡ decide_rename (T.content tree.now) asks (found_seen pair.now.from)
+        (found_seen pair.now.to) (node_named (found_seen pair.now.from)) }
 {
     let (from, to) = (&pair.from, &pair.to);
     let Some(node) = node_named(from) else {
@@ -59,6 +87,9 @@ fn decide_shift<'a, T: FileTree>(tree: &T, pair: &Pair<'a>) -> Result<Option<Shi
     };
     if let Some(errno) = ways_fault(from, to) {
         return Err(Refusal::Failed(errno));
+    }
+    if asks && !is_whole(from) {
+        return Err(Refusal::Failed(Errno::ENOTDIR));
     }
     if is_node(node, to) {
         return Ok(None);
@@ -92,7 +123,7 @@ pub(crate) fn moving<'a>(
     to: NodeId,
     new_name: &'a Name,
 ) -> Granted<'a>
-    ensures { (asker : Asking) →
+    ensures { (asker : Requester) →
         decision_by asker result ≡ Ok (ShiftRow (from, name.now) (to, new_name.now)) }
 {
     Granted::ShiftRow(from, name, to, new_name)

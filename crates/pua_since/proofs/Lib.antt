@@ -9,7 +9,7 @@ pub mod Veiled
 pub mod Unveiled
 pub mod Known
 pub mod Placing
-pub mod Telling
+pub mod RunWithReasons
 pub mod Unchanged
 pub mod Sincing
 pub mod Forks

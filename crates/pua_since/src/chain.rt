@@ -1,4 +1,4 @@
-//! What decides one request behind a script.
+//! What decides one request after a script.
 
 ghost use Rattle.std.specs.Prelude.{◌≡◌, ◌++◌, ◌∷◌, [], List, IfOk, OnOk, flat_map, map};
 ghost use Rattle.std.specs.Prelude.{option_map, string_bytes};
@@ -22,7 +22,7 @@ use pua_tree::{FileTree, OutOfMemory};
 use pua_why::{Fact, TreePaths, facts, push_fact};
 use std::alloc::{AllocError, Global};
 
-/// What decides a request behind a script: a line for the promises that let it through, for each
+/// What decides a request after a script: a line for the promises that let it through, for each
 /// link that its paths follow, for what they name and for the veil that covers that, in the order
 /// of the checks and as far as it passes them; and as the last line its answer, with the reason,
 /// since which line that is so, and what opens the path all the same, as
@@ -53,16 +53,16 @@ pub fn chain_text<T: FileTree>(
     Ok(lines_of(alloc, rules, before, request, passed, answer, &dates)?)
 }
 
-/// Since which lines what is told of a request is so; None where it was from the start.
+/// Since which lines the parts of a chain hold; None where one held from the start.
 #[derive(Drop)]
 struct Dates {
     /// The reason of its answer.
     answer: Option<usize>,
-    /// Of each fact that tells a veil, that it is so at its place; None of the others.
+    /// Of each fact about a veil, since when the veil has its letters; None of the others.
     facts: Vec<Option<usize>>,
 }
 
-/// Since which lines the facts of a request and its reason are so behind these requests, which are
+/// Since which lines the facts of a request and its reason hold after these requests, which are
 /// served in this world.
 fn dates_of<T: FileTree>(
     alloc: Global,
@@ -91,8 +91,8 @@ fn dates_of<T: FileTree>(
     })
 }
 
-/// Adds a question for each fact of a process that tells a veil, whose answers are wanted behind so
-/// many lines, and answers its place for each of these facts.
+/// Adds a question for each fact of a process about a veil, whose answers are wanted after so many
+/// lines, and answers the question's place for each of these facts.
 fn watch_facts<'a, T: FileTree>(
     alloc: Global,
     world: &World<T>,
@@ -117,8 +117,8 @@ fn watch_facts<'a, T: FileTree>(
     Ok(veils)
 }
 
-/// Adds a question for a fact of a process, if it tells a veil, whose answer is wanted behind so
-/// many lines, and answers its place.
+/// Adds a question for a fact of a process, if it is about a veil, whose answer is wanted after so
+/// many lines, and answers the question's place.
 fn watch_fact<'a, T: FileTree>(
     alloc: Global,
     world: &World<T>,
@@ -142,8 +142,7 @@ fn watch_fact<'a, T: FileTree>(
     Ok(Some(place))
 }
 
-/// Since which lines the questions at these places are told what they are; None where there is
-/// none.
+/// Since which lines the questions at these places have their answers; None where there is none.
 fn fact_lines(
     alloc: Global,
     watches: &Watches<'_>,
@@ -159,14 +158,14 @@ fn fact_lines(
     Ok(lines)
 }
 
-/// Since which line the question at a place is told what it is; None where there is none.
+/// Since which line the question at a place has its answer; None where there is none.
 fn fact_line(watches: &Watches<'_>, place: Option<usize>) -> Option<usize>
     ensures { result ≡ fact_line watches.now.watches.items place }
 {
     watches.line(place?)
 }
 
-/// The place of the veil that a fact tells.
+/// The place of the veil that a fact is about.
 fn veil_told(fact: &Fact) -> Option<&Place>
     ensures { option_map (λ place. place.now) result ≡ veil_told (fact_seen fact.now) }
 {

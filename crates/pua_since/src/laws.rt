@@ -3,7 +3,7 @@
 ghost use Rattle.pua_since.specs.Examples.{ChangeRows, SinceRows, TouchRows};
 
 /// Examples of requests that may have changed a world, of what they touch, and of the lines since
-/// which something is so.
+/// which something holds.
 #[tactic(auto, using(crate::specs::Examples::change_rows, crate::specs::Examples::touch_rows, crate::specs::Examples::since_rows))]
 pub fn since_examples()
     ensures changes { ChangeRows }

@@ -1,8 +1,8 @@
-//! Since which line of a script something is so, and the texts that tell it: the lines of a run
-//! with their reasons, and the chain of what decides one request.
+//! Since which line of a script something holds, and the texts with that line: those of a run with
+//! reasons, and the chain of what decides one request.
 //!
-//! A script is served once more, and each question is asked again behind each line that may have
-//! changed what it is told.
+//! A script is served once more, and each question is asked again after each line that may have
+//! changed its answer.
 #![tactic(auto)]
 
 mod chain;

@@ -14,7 +14,7 @@ use std::alloc::{AllocError, Global};
 use std::fmt::Write;
 
 /// Adds what a request is answered in a world, and if that is not `ok`, why, since which line, if
-/// that is told, and by which promise a kernel opens the path all the same, if one does by these
+/// there is one, and by which promise a kernel opens the path all the same, if one does by these
 /// rules.
 pub(crate) fn push_answer<T: FileTree>(
     alloc: Global,
@@ -85,8 +85,8 @@ fn push_spaced(text: &mut String, words: &str) -> Result<(), AllocError>
     text.push_str(words)
 }
 
-/// Since which line a reason is told. That a process was never made was so from the start, and
-/// since when a tree is full is not told.
+/// Since which line a reason holds. That a process was never made held from the start, and a full
+/// tree has no such line.
 fn date_of(reason: &Reason<'_>, line: Option<usize>) -> Option<usize>
     ensures { result ≡ date_of (reason_seen reason.now) line }
 {

@@ -61,7 +61,7 @@ pub(crate) fn watch_lines<'a, T: FileTree>(
     Ok(places)
 }
 
-/// The place of the question of a line behind so many others: of an earlier one with the same
+/// The place of the question of a line after so many others: of an earlier one with the same
 /// bytes, or its own.
 fn place_of<'a, 'l, T: FileTree>(
     alloc: Global,
@@ -135,8 +135,8 @@ pub(crate) fn lines_text<T: FileTree>(
     Ok(text)
 }
 
-/// Since which line the next of these questions is told what it is, which is asked about a request
-/// that is answered so; None where that is `ok`, so that it has no question.
+/// Since which line the next of these questions has its answer, which is asked about a request with
+/// this answer; None where that is `ok`, so that it has no question.
 fn next_line(watches: &Watches<'_>, answer: Answer, left: &mut Iter<'_, usize>) -> Option<usize>
     ensures line { result ≡ question_line watches.now.watches.items answer (iter_rest left.old) }
     ensures left { iter_rest left.new ≡ places_left answer (iter_rest left.old) }
@@ -173,10 +173,10 @@ fn push_line<T: FileTree>(
 }
 
 /// The text of a run of a script with reasons: a line for each of its requests, with its number,
-/// what it is answered, and if that is not `ok`, why, since which line that is so, unless it was so
-/// from the start, and by which promise a kernel opens the path all the same, if one does by these
-/// rules. The script was read from these bytes by these rules, and its requests were answered so,
-/// in a world as this one, which serves them. The only error is that a growth was refused.
+/// what it is answered, and if that is not `ok`, why, since which line the reason holds, unless it
+/// held from the start, and by which promise a kernel opens the path all the same, if one does by
+/// these rules. The script was read from these bytes by these rules, and its requests were answered
+/// so, in a world as this one, which serves them. The only error is that a growth was refused.
 pub fn reason_text<T: FileTree>(
     alloc: Global,
     rules: Rules,

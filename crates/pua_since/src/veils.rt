@@ -55,9 +55,9 @@ fn add_veils<'w>(
     Ok(())
 }
 
-/// What [`reason_text`](crate::reason_text) tells, and since which line each of these veils, with
-/// the number of its process, has the letters that it has behind the script, or has none there:
-/// None where that was so from the start. The only error is that a growth was refused.
+/// The text of [`reason_text`](crate::reason_text), and since which line each of these veils, with
+/// the number of its process, has the letters that it has after the script, or has none there: None
+/// where that held from the start. The only error is that a growth was refused.
 pub fn dated_text<T: FileTree>(
     alloc: Global,
     rules: Rules,
@@ -90,7 +90,7 @@ pub fn dated_text<T: FileTree>(
     Ok((text, lines_at(alloc, &watches, own.as_slice())?))
 }
 
-/// Adds a question for each of these veils, whose answers are wanted behind so many lines, and
+/// Adds a question for each of these veils, whose answers are wanted after so many lines, and
 /// answers their places.
 fn watch_veils<'a, T: FileTree>(
     alloc: Global,
@@ -116,7 +116,7 @@ fn watch_veils<'a, T: FileTree>(
     Ok(own)
 }
 
-/// Since which lines the questions at these places are told what they are.
+/// Since which lines the questions at these places have their answers.
 pub(crate) fn lines_at(
     alloc: Global,
     watches: &Watches<'_>,

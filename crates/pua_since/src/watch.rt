@@ -1,4 +1,4 @@
-//! A question that is asked of each world of a replay, and since which line it is told the same.
+//! A question that is asked of each world of a replay, and since which line its answer is the same.
 
 ghost use Rattle.std.specs.Prelude.{◌≡◌, IfOk, OnOk, max};
 ghost use Rattle.pua_script.specs.Worlds.{world_of};
@@ -23,7 +23,7 @@ pub(crate) enum Question<'a> {
     Veil(&'a Place),
 }
 
-/// What a world tells.
+/// A world's answer.
 #[derive(Drop)]
 pub(crate) enum Told {
     /// The key of a reason.
@@ -32,17 +32,17 @@ pub(crate) enum Told {
     Veil(Option<Perms>),
 }
 
-/// A question, what it was told last, and since which line it is told that.
+/// A question, its last answer, and since which line it has this answer.
 #[derive(Drop)]
 pub(crate) struct Watch<'a> {
     /// The process that it is about, where the answer is wanted. In the world that is asked that is
     /// whoever the process was there: itself, or a forebear.
     process: u32,
     question: Question<'a>,
-    /// Behind how many lines the answer is wanted at last.
+    /// After how many lines the answer is wanted at last.
     last: usize,
     told: Told,
-    /// The line since which that is told; None where it was told from the start.
+    /// The line since which it has this answer; None where it had it from the start.
     line: Option<usize>,
 }
 
@@ -77,21 +77,21 @@ impl<'a> Watch<'a> {
         self.process
     }
 
-    /// Since which line it is told what it was told last.
+    /// Since which line it has its last answer.
     pub(crate) fn line(&self) -> Option<usize>
         ensures { result ≡ self.now.line }
     {
         self.line
     }
 
-    /// Has the answer wanted behind so many lines too.
+    /// Has the answer wanted after so many lines too.
     pub(crate) fn extend(&mut self, last: usize)
         ensures { self.new ≡ record self.old { last = max self.old.last last } }
     {
         self.last = self.last.max(last);
     }
 
-    /// Asks a world again, behind this line, if the answer is still wanted there and what the line
+    /// Asks a world again, after this line, if the answer is still wanted there and what the line
     /// touched may concern whoever its process was there. The only error is that a growth was
     /// refused.
     pub(crate) fn ask<T: FileTree>(
@@ -121,7 +121,7 @@ impl<'a> Watch<'a> {
     }
 }
 
-/// Whether what was touched may change what is told of a question that this process asks.
+/// Whether what was touched may change the answer to a question that this process asks.
 fn is_concerned(touched: Touched, asker: u32) -> bool
     ensures { result ≡ is_concerned touched asker }
 {
@@ -132,7 +132,7 @@ fn is_concerned(touched: Touched, asker: u32) -> bool
 }
 
 impl Told {
-    /// Whether both tell the same.
+    /// Whether both are the same.
     fn is_same(&self, other: &Told) -> bool
         ensures { result ≡ is_same_told self.now other.now }
     {
@@ -144,7 +144,7 @@ impl Told {
     }
 }
 
-/// What a world tells of a question about a process. The only error is that a growth was refused.
+/// A world's answer to a question about a process. The only error is that a growth was refused.
 fn told_of<T: FileTree>(
     alloc: Global,
     world: &World<T>,

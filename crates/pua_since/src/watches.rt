@@ -51,7 +51,7 @@ impl<'a> Watches<'a> {
         })
     }
 
-    /// Adds a question about a process, whose answer is wanted behind so many lines, and answers
+    /// Adds a question about a process, whose answer is wanted after so many lines, and answers
     /// its place. It is asked of the world in which the replay begins.
     pub(crate) fn add<T: FileTree>(
         &mut self,
@@ -75,7 +75,7 @@ impl<'a> Watches<'a> {
         Ok(place)
     }
 
-    /// Has the answer to a question wanted behind so many lines too, if there is one at this place.
+    /// Has the answer to a question wanted after so many lines too, if there is one at this place.
     pub(crate) fn extend(&mut self, place: usize, last: usize)
         ensures place { (process : ℕ) (question : Asking) (before : ℕ) →
             IsTopicAt self.old.watches.items place process question before →
@@ -89,8 +89,8 @@ impl<'a> Watches<'a> {
         }
     }
 
-    /// Since which line the question at this place is told what it is told now; None where it was
-    /// from the start, or where there is no such question.
+    /// Since which line the question at this place has its answer of now; None where it had it from
+    /// the start, or where there is no such question.
     pub(crate) fn line(&self, place: usize) -> Option<usize>
         ensures { result ≡ line_at self.now.watches.items place }
     {
@@ -98,7 +98,7 @@ impl<'a> Watches<'a> {
     }
 
     /// Serves the next request of the replay, on this line, which was answered so, and asks each
-    /// question again that may be told something else behind it.
+    /// question again that may have another answer after it.
     pub(crate) fn serve<T: FileTree>(
         &mut self,
         alloc: Global,
@@ -163,7 +163,7 @@ impl<'a> Watches<'a> {
     }
 
     /// Asks each question again that what was touched may concern, and whose answer is wanted
-    /// behind this line.
+    /// after this line.
     fn ask_again<T: FileTree>(
         &mut self,
         alloc: Global,

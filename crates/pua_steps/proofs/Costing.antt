@@ -7,7 +7,7 @@ use Rattle.pua_steps.proofs.Common.{IsReady, AreOpen, rests_of, State, Visit, Fr
 use Rattle.std.specs.Prelude.{MatchOption}
 use Rattle.pua_steps.specs.declared.live.Live as table
 use Rattle.pua_steps.proofs.Closing.{visits_stay}
-use Rattle.pua_steps.proofs.Listing.{all_within, list_known, list_rises}
+use Rattle.pua_steps.proofs.WalkLists.{all_within, list_known, list_rises}
 use Rattle.pua_steps.proofs.Narrowing.{prunes, lists_live}
 use Rattle.pua_steps.proofs.Gap.{Fits, IsRest, few_visits}
 

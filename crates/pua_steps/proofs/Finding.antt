@@ -8,7 +8,7 @@ use Rattle.pua_steps.specs.Table.{with_letter}
 use Rattle.pua_steps.specs.declared.live.Live as table
 use Rattle.pua_steps.proofs.Visits.{some_at, all_at, visit_is}
 use Rattle.std.proofs.lemmas.List.{drop-drop}
-use Rattle.pua_steps.proofs.Listing.{all_within, list_rises}
+use Rattle.pua_steps.proofs.WalkLists.{all_within, list_rises}
 use Rattle.pua_steps.proofs.Splitting.{Cut, cut_at, split_missed, split_found}
 
 abbrev pub no_entry : Entry

@@ -3,7 +3,7 @@
 -- the pairs of a table are of its letters, and of calls that there are
 pub use Rattle.pua_steps.proofs.Within.{reach_is_within}
 -- all states to which words lead
-pub use Rattle.pua_steps.proofs.Stepping.{all_reached}
+pub use Rattle.pua_steps.proofs.LinkSets.{all_reached}
 -- sums of the same
 pub use Rattle.pua_steps.proofs.Counting.{total_same}
 -- lemmas of lists

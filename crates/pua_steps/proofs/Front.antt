@@ -3,7 +3,7 @@ use Rattle.pua_steps.proofs.Common.{ℕ, ◌≤◌, ◌≡◌, List, [], ◌∷�
 use Rattle.pua_steps.proofs.Common.{Option, option_to_list, IsLonger}
 use Rattle.std.proofs.lemmas.List.{take-append-le, take-take}
 use Rattle.pua_steps.specs.Ready.{StaysFront}
-use Rattle.pua_steps.proofs.Listing.{longer_length}
+use Rattle.pua_steps.proofs.WalkLists.{longer_length}
 
 pub front_none : (n : ℕ) (word : List ℕ) → n ≤ length word → StaysFront n word n word
 front_none n word h = record { less = omega arith; front = record { before = h; after = h; same = refl } }

@@ -3,7 +3,7 @@ use Rattle.pua_steps.proofs.Common.{ℕ, zero, suc, ◌+◌, ◌-◌, ◌*◌, �
 use Rattle.pua_steps.proofs.Common.{refl, ap, arith, sym, ◌∙◌, length, suc-mul, mul-le-mul_right, flat_map, IfSome, AllByRecursion}
 use Rattle.pua_steps.proofs.Common.{calls_of, Graph, Word, below, some_pair, TrailEvent, Live, pairs_of, under, under_all, with_calls}
 use Rattle.pua_steps.proofs.Common.{deeper, branches, pending, ahead, looks, State, Visit}
-use Rattle.pua_steps.proofs.Lines.{Prunes, pairs-deeper}
+use Rattle.pua_steps.proofs.TrailPairs.{Prunes, pairs-deeper}
 
 -- the visits before the first pair, or all of them
 abbrev pub lead : List TrailEvent → ℕ

@@ -8,11 +8,11 @@ use Rattle.pua_steps.proofs.Common.{is_useful, list_of, narrow_of, State, Visit,
 use Rattle.pua_steps.specs.Graph.{graph_reach}
 use Rattle.pua_steps.specs.declared.live.Live as table
 use Rattle.pua_steps.proofs.Filling.{below_none, below_end, below_some, entry_gives}
-use Rattle.pua_steps.proofs.Lines.{Prunes, pairs-fresh}
+use Rattle.pua_steps.proofs.TrailPairs.{Prunes, pairs-fresh}
 use Rattle.pua_steps.proofs.Turns.{alike}
 use Rattle.pua_steps.proofs.Seeks.{deeper_entrance}
 use Rattle.pua_steps.proofs.Closing.{Stays, visits_stay, no_pair, live_is}
-use Rattle.pua_steps.proofs.Listing.{list_known}
+use Rattle.pua_steps.proofs.WalkLists.{list_known}
 
 -- without calls on other letters the visits are those of the entries
 gap_none : (next n : ℕ) → gap 0 next n ≡ []

@@ -18,7 +18,7 @@ use Rattle.pua_steps.proofs.Moves.{pending_push, pending_back}
 use Rattle.pua_steps.proofs.Turns.{nothing_pending}
 use Rattle.pua_steps.proofs.Sets.{no_calls}
 use Rattle.pua_steps.proofs.Filling.{below_none, below_some}
-use Rattle.pua_steps.proofs.Lines.{Prunes, pairs-append, pairs-under, pairs-with_calls, pairs-deeper, pairs-branches}
+use Rattle.pua_steps.proofs.TrailPairs.{Prunes, pairs-append, pairs-under, pairs-with_calls, pairs-deeper, pairs-branches}
 use Rattle.pua_steps.proofs.Base.{filter-map, filter-none}
 
 -- lists

@@ -14,19 +14,19 @@ use crate::steps::Entry;
 /// lists, which no contract says to be equal to these, since none tells what room a new vector has.
 /// So where the lists are as they were, the count went on from what it was.
 #[derive(Drop)]
-pub struct Counted {
+pub struct CountedLists {
     lists: Lists,
     /// How many letters were read; it stays at its greatest value once there.
     reads: u64,
 }
 
-impl Counted {
+impl CountedLists {
     /// Lists of which no letter was read.
-    pub(crate) fn new(lists: Lists) -> Counted
+    pub(crate) fn new(lists: Lists) -> CountedLists
         ensures lists { result.lists ≡ lists }
         ensures reads { result.reads ≡ 0 }
     {
-        Counted { lists, reads: 0 }
+        CountedLists { lists, reads: 0 }
     }
 
     /// How many letters were read so far. It stays at its greatest value once there.
@@ -46,7 +46,7 @@ impl Counted {
         self.lists.span(left, dir)
     }
 
-    /// The entry at a place among those of all lists, which is counted. None behind the last one.
+    /// The entry at a place among those of all lists, which is counted. None after the last one.
     #[inline]
     pub(crate) fn read(&mut self, place: usize) -> Option<Entry>
         ensures lists { self.new.lists ≡ self.old.lists }

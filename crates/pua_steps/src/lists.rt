@@ -186,7 +186,7 @@ impl Lists {
     }
 
     /// The entry at a place among those of all lists, if there is one. It is not counted: once
-    /// lists are in a `Counted`, that alone comes here.
+    /// lists are in a `CountedLists`, that alone comes here.
     pub(crate) fn entry(&self, place: usize) -> Option<Entry>
         ensures { result ≡ slice_get self.now.entries.items place }
     {

@@ -5,13 +5,13 @@ ghost use Rattle.std.specs.Prelude.{◌≡◌, ◌≤◌, ◌+◌, ◌*◌, leng
 ghost use Rattle.pua_steps.specs.Lists.{AreListsOf, IsOpen};
 ghost use Rattle.pua_steps.specs.Table.{IsTable};
 
-use crate::counted::Counted;
+use crate::counted::CountedLists;
 use crate::frame::Frame;
 use crate::tables::Tables;
 use crate::walk::Walk;
 
 /// An entry of a list that is read is counted.
-fn entry_read_uncounted(counted: &mut Counted, place: usize, end: usize) {
+fn entry_read_uncounted(counted: &mut CountedLists, place: usize, end: usize) {
     let before = counted.reads();
     let entry = counted.entry(place, end);
     if entry.is_some() && before < u64::MAX && counted.reads() <= before {

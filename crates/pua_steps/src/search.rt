@@ -5,11 +5,11 @@ ghost use Rattle.std.specs.List.{AllByRecursion, slice_get};
 ghost use Rattle.pua_steps.specs.Lists.{within};
 ghost use Rattle.pua_steps.specs.Table.{Rising, first_of, is_before, with_letter};
 
-use crate::counted::Counted;
+use crate::counted::CountedLists;
 use crate::lists::Span;
 use crate::steps::Entry;
 
-impl Counted {
+impl CountedLists {
     /// The entry at a place, which is counted, or None from `end` on.
     #[inline]
     pub(crate) fn entry(&mut self, place: usize, end: usize) -> Option<Entry>

@@ -9,7 +9,7 @@ ghost use Rattle.pua_steps.specs.Order.{IsSplit};
 ghost use Rattle.pua_steps.specs.Ready.{IsLetterGiven, IsScanned, IsCounted, is_idle};
 ghost use Rattle.pua_steps.specs.Table.{IsTable, IsEntry, IsState, IsVisit, end_of};
 
-use crate::counted::Counted;
+use crate::counted::CountedLists;
 use crate::frame::Frame;
 use crate::state::State;
 use crate::steps::{Entry, has_gap};
@@ -42,7 +42,7 @@ impl Visit {
     }
 }
 
-impl Counted {
+impl CountedLists {
     /// Counts a letter that comes after all entries of a list, so that none was read for it.
     fn count_past(&mut self, entry: Option<Entry>)
         ensures lists { self.new.lists ≡ self.old.lists }

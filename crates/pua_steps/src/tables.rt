@@ -8,7 +8,7 @@ ghost use Rattle.pua_steps.specs.Lists.{AreListsOf, span_of};
 ghost use Rattle.pua_steps.specs.Reached.{live_count};
 ghost use Rattle.pua_steps.specs.Table.{IsState, IsTable, graph_of, missing_at};
 
-use crate::counted::Counted;
+use crate::counted::CountedLists;
 use crate::frame::Frame;
 use crate::lists::{Lists, Span};
 use crate::live::Live;
@@ -17,13 +17,13 @@ use crate::steps::Steps;
 use std::alloc::{AllocError, Global};
 
 /// The tables that a walk reads, and how many of their letters were read. They are made of a table
-/// of steps, which they keep: nothing gives it back, and what it tells of a letter is read by
+/// of steps, which they keep: nothing gives it back, and what it has for a letter is read by
 /// `counted` alone.
 #[derive(Drop)]
 pub struct Tables {
     steps: Steps,
     live: Live,
-    pub(crate) counted: Counted,
+    pub(crate) counted: CountedLists,
 }
 
 impl Tables {
@@ -44,7 +44,7 @@ impl Tables {
         Ok(Tables {
             steps,
             live,
-            counted: Counted::new(lists),
+            counted: CountedLists::new(lists),
         })
     }
 

@@ -33,5 +33,5 @@ pub use Rattle.pua_texts.specs.Lines.{pair_lines, with_end}
 pub use Rattle.pua_texts.specs.ObjectLines.{lists_of}
 pub use Rattle.pua_texts.specs.States.{or_equals, path_or_hyphen, place_dir, place_names, veil_lines}
 pub use Rattle.pua_texts.specs.VeilDates.{veil_dates}
-pub use Rattle.pua_texts.specs.WhyLines.{Posed, why_lists_of, world_left}
+pub use Rattle.pua_texts.specs.WhyLines.{ServedScript, why_lists_of, world_left}
 pub use Rattle.pua_texts.specs.WhyLists.{covering_behind, veils_behind}

@@ -2,7 +2,7 @@
 use Rattle.pua_texts.proofs.Common.{◌≡◌, ℕ, ◌+◌, ◌<◌, List, [], ◌∷◌, ◌++◌, map, take, drop, length, get_or, refl, ap, ◌∙◌, arith}
 use Rattle.pua_texts.proofs.Common.{Option, Some, None, flat_map, option_map_or, drop_more, length-map, map-append}
 use Rattle.pua_texts.proofs.Common.{ProcessState, Place, kept_at, veil_date, veils_at, veil_dates}
-use Rattle.pua_texts.proofs.Common.{Posed, world_left}
+use Rattle.pua_texts.proofs.Common.{ServedScript, world_left}
 use Rattle.std.proofs.Common.{inl, inr, min}
 use Rattle.std.proofs.lemmas.List.{length-append}
 use Rattle.std.proofs.Math.Seq.{take-append_seam, drop-append_seam}
@@ -15,7 +15,7 @@ use Rattle.pua_why.specs.Texts.{has_veil_on}
 use Rattle.pua_since.specs.Dates.{letters_date, veils_of}
 use Rattle.pua_since.specs.Watched.{kept_in}
 
-module _ (p : Posed) (process : ℕ) (h : ProcessState) (is : kept_at (world_left p) process ≡ Some h) (once : EachOnce h.veils) where
+module _ (p : ServedScript) (process : ℕ) (h : ProcessState) (is : kept_at (world_left p) process ≡ Some h) (once : EachOnce h.veils) where
   at_place : (place : Place) → kept_in (world_left p) process place ≡ perms_kept h place
   at_place place = ap (λ o. option_map_or (λ h. perms_kept h place) o None) is
 
@@ -30,7 +30,7 @@ module _ (p : Posed) (process : ℕ) (h : ProcessState) (is : kept_at (world_lef
   pub dates_are : map (veil_date p.table p.world p.asks) (veils_of process (Some h)) ≡ veil_dates p process h.veils
   dates_are = each_dated h.veils (λ u a. a)
 
-pub length_dates : (p : Posed) (process : ℕ) (vs : List (Place × ℕ)) → length (veil_dates p process vs) ≡ length vs
+pub length_dates : (p : ServedScript) (process : ℕ) (vs : List (Place × ℕ)) → length (veil_dates p process vs) ≡ length vs
 length_dates p process vs = length-map vs (λ veil. since (has_veil_on veil.0 veil.1) p.table p.world 1 p.asks process)
 
 -- a front of a list, and the rest
@@ -45,7 +45,7 @@ module _ {A : Type 0} (left own rest : List A) (count : ℕ) (is : left ≡ own 
   rest_dropped = (λ i. drop (count_is i) (is i)) ∙ drop-append_seam own rest
 
 -- the dates that are left, at the next of some numbers
-module _ (p : Posed) (s : WorldState) (numbers : List ℕ) (i d : ℕ) (within : i < length numbers) (left : List (Option ℕ)) where
+module _ (p : ServedScript) (s : WorldState) (numbers : List ℕ) (i d : ℕ) (within : i < length numbers) (left : List (Option ℕ)) where
   abbrev dates : List ℕ → List (Option ℕ)
   dates ns = map (veil_date p.table p.world p.asks) (flat_map (veils_at s) ns)
 

@@ -2,7 +2,7 @@
 use Rattle.pua_texts.proofs.Common.{◌≡◌, ℕ, ◌+◌, ◌<◌, ◌≤◌, List, [], ◌∷◌, ◌++◌, Bool, true, false, cond, map, drop, take, length, flat_map}
 use Rattle.pua_texts.proofs.Common.{get_or, slice_index_or, refl, sym, ap, ◌∙◌, arith, Option, Some, None, filter, bit_or, if◌then◌else◌}
 use Rattle.pua_texts.proofs.Common.{append_assoc, Bor, drop_more, take_more, map-append, length-map, drop_of_length-le, Tree, CallTable, calls, codes}
-use Rattle.pua_texts.proofs.Common.{has, ProcessState, Call, Stat, Place, resting_on, covering_behind, veils_behind, Posed, world_left, veil_dates}
+use Rattle.pua_texts.proofs.Common.{has, ProcessState, Call, Stat, Place, resting_on, covering_behind, veils_behind, ServedScript, world_left, veil_dates}
 use Rattle.std.proofs.Common.{suc, zero}
 use Rattle.std.specs.Prelude.{slice_get}
 use Rattle.std.specs.Int.Bits.{or_zero_r}
@@ -23,7 +23,7 @@ use Rattle.pua_texts.proofs.States.{shown}
 use Rattle.pua_calls.proofs.ForCallers.{or_assoc}
 
 -- the columns of a veil are those of what it covers
-pub column_is : (p : Posed) (process : ℕ) (vs : List (Place × ℕ)) (veil : Option ℕ) →
+pub column_is : (p : ServedScript) (process : ℕ) (vs : List (Place × ℕ)) (veil : Option ℕ) →
     veil_column (veils_behind p process vs) (codes " - - -" ++ 10 ∷ []) veil ≡ covering_behind p process (covering_by vs veil)
 column_is p process vs None = by (has_veil vs)
   where
@@ -75,7 +75,7 @@ module _ (table : CallTable) (h : ProcessState) (set : ℕ) where
   rest_done resting i past = ap (λ cs. bit_or resting (rests cs)) (drop_of_length-le calls past) ∙ or_zero_r resting
 
 -- the columns of the next veil stand behind those so far
-pub column_next : (p : Posed) (process : ℕ) (lent : List (Bor Place × Bor ℕ)) (veil : Bor Place × Bor ℕ) (i : ℕ) (line : Option ℕ)
+pub column_next : (p : ServedScript) (process : ℕ) (lent : List (Bor Place × Bor ℕ)) (veil : Bor Place × Bor ℕ) (i : ℕ) (line : Option ℕ)
     (lines : List (Option ℕ)) (columns : List (List ℕ)) (column : List ℕ)
     → i < length lent → veil ≡ slice_index_or lent i veil → lines ≡ veil_dates p process (map shown lent) → line ≡ get_or lines i None
     → column ≡ veil_behind (world_left p).tree veil.0.now veil.1.now line
@@ -97,12 +97,12 @@ column_next p process lent veil i line lines columns column within is dated line
         ∙ ap date (get_or-map shown lent i veil (shown veil) within ∙ ap shown (sym is))
 
 -- what stands behind a line with reasons
-abbrev pub behind : Posed → ℕ → ProcessState → Line → List ℕ
+abbrev pub behind : ServedScript → ℕ → ProcessState → Line → List ℕ
 behind p process h line =
     columns p.table p.world p.asks process h line.calls (covering_of (world_left p).tree h line.subject) ++ 10 ∷ []
 
 -- the column of the promises of some calls and that of a veil stand behind a line
-pub behind_is : (p : Posed) (process : ℕ) (h : ProcessState) (vs : List (Place × ℕ)) (cs : EndingsState) (line : Line) (resting number : ℕ)
+pub behind_is : (p : ServedScript) (process : ℕ) (h : ProcessState) (vs : List (Place × ℕ)) (cs : EndingsState) (line : Line) (resting number : ℕ)
     (veil : Option ℕ) → AreColumnsOf p process vs cs → get_or cs.resting number [] ≡ 32 ∷ promises_text resting
     → resting ≡ resting_on p.table h line.calls → covering_by vs veil ≡ covering_of (world_left p).tree h line.subject
     → columns_of cs number veil ≡ behind p process h line
@@ -114,7 +114,7 @@ behind_is p process h vs cs line resting number veil are is rests covers =
     (32 ∷ veil_columns p.table p.world p.asks process (covering_of (world_left p).tree h line.subject)) (10 ∷ []))
 
 -- and so the lines are those with reasons
-pub lines_behind : (p : Posed) (process : ℕ) (h : ProcessState) (lines : List Line) →
+pub lines_behind : (p : ServedScript) (process : ℕ) (h : ProcessState) (lines : List Line) →
     flat_map (λ line. line_text (world_left p).tree line ++ behind p process h line) lines ≡ flat_map (why_line p process h) lines
 lines_behind p process h lines = λ i.
     flat_map (λ line. sym (append_assoc (line_text (world_left p).tree line) (columns p.table p.world p.asks process h line.calls

@@ -17,13 +17,13 @@ use Rattle.pua_texts.specs.ObjectLines.{heading_now}
 use Rattle.pua_texts.specs.declared.state.Heading.{Heading}
 
 -- the table of calls, the world before a script, and its requests
-pub record Posed : Type 0 where
+pub record ServedScript : Type 0 where
   pub table : CallTable
   pub world : World
   pub asks : List Asked
 
 -- the world that the script leaves
-abbrev pub world_left : Posed → World
+abbrev pub world_left : ServedScript → World
 world_left p = world_after p.table p.world p.asks
 
 -- what covers what a line is about
@@ -31,19 +31,19 @@ abbrev pub covering_of : Tree → ProcessState → Subject → Covering
 covering_of t h (At object) = covering t h object
 covering_of t h (Others dir) = covering_in t h dir
 
-abbrev pub why_line : Posed → ℕ → ProcessState → Line → List ℕ
+abbrev pub why_line : ServedScript → ℕ → ProcessState → Line → List ℕ
 why_line p process h line =
     with_end (line_text (world_left p).tree line ++ columns p.table p.world p.asks process h line.calls
     (covering_of (world_left p).tree h line.subject))
 
 -- the list of a process with reasons: its heading, its state, and a line for each object on which it is allowed a call
-abbrev pub why_list : Heading → Posed → ProcessState → List ℕ
+abbrev pub why_list : Heading → ServedScript → ProcessState → List ℕ
 why_list head p h =
     head_lines (world_left p).tree head h ++ flat_map (why_line p head.number h) (objects (world_left p).tree p.table h)
 
 -- a number that was never made has no list
-abbrev pub why_list_of : Rules → Posed → ℕ → List ℕ
+abbrev pub why_list_of : Rules → ServedScript → ℕ → List ℕ
 why_list_of rules p process = option_map_or (why_list (heading_now rules process) p) (kept_at (world_left p) process) []
 
-abbrev pub why_lists_of : Rules → Posed → List ℕ → List ℕ
+abbrev pub why_lists_of : Rules → ServedScript → List ℕ → List ℕ
 why_lists_of rules p numbers = flat_map (why_list_of rules p) numbers

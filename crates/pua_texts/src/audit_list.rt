@@ -1,4 +1,4 @@
-//! The pairs of an audit, written in blocks behind the front of a text.
+//! The pairs of an audit, written in blocks after the front of a text.
 
 ghost use Rattle.std.specs.Prelude.{◌≡◌, ◌≢◌, ◌++◌, Ok, Err, IfOk, IfErr, map, option_map};
 ghost use Rattle.pua_policy.specs.States.{ProcessState};

@@ -41,7 +41,7 @@ const AHEAD: usize = 1_024;
 /// made, so nothing that is added takes memory. Contracts see the bytes.
 #[derive(Drop)]
 pub(crate) struct Block {
-    /// The bytes, and zeros or bytes of before behind them: others are copied over those.
+    /// The bytes, and zeros or bytes of before after them: others are copied over those.
     bytes: Vec<u8>,
     /// How many are still to be put.
     len: usize,
@@ -100,7 +100,7 @@ impl Block {
         self.len = self.len.min(len);
     }
 
-    /// Puts all bytes where a line might not fit behind them, and is empty then.
+    /// Puts all bytes where a line might not fit after them, and is empty then.
     pub(crate) fn make_room<S: Sink>(&mut self, sink: &mut S) -> Result<(), PutFault>
         ensures handed { OnOk result (HandsOn self.old self.new (S.written sink.old)
             (S.written sink.new)) }
@@ -113,7 +113,7 @@ impl Block {
         self.make_room_for(MOST_LINE, sink)
     }
 
-    /// Puts all bytes where so many might not fit behind them, and is empty then.
+    /// Puts all bytes where so many might not fit after them, and is empty then.
     #[inline(always)]
     fn make_room_for<S: Sink>(&mut self, count: usize, sink: &mut S) -> Result<(), PutFault>
         ensures handed { OnOk result (HandsOn self.old self.new (S.written sink.old)
@@ -209,7 +209,7 @@ impl Block {
     }
 }
 
-/// Sets zeros behind bytes where there are fewer than so many, but no more than a block has room
+/// Sets zeros after bytes where there are fewer than so many, but no more than a block has room
 /// for.
 #[inline(always)]
 fn fill_to(bytes: &mut Vec<u8>, len: usize)
@@ -221,7 +221,7 @@ fn fill_to(bytes: &mut Vec<u8>, len: usize)
     }
 }
 
-/// Sets zeros behind bytes, so many that few such calls fill a block. Memory behind them is left
+/// Sets zeros after bytes, so many that few such calls fill a block. Memory after them is left
 /// alone: a short text needs none of it.
 #[cold]
 #[inline(never)]

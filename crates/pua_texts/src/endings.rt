@@ -1,4 +1,4 @@
-//! What stands behind the calls of a line: LF alone, or the promises on which they rest, and the
+//! What stands after the calls of a line: LF alone, or the promises on which they rest, and the
 //! veil that covers what the line is about.
 
 ghost use Rattle.std.specs.Prelude.{◌≡◌, ◌<◌, ◌++◌, ◌∷◌, [], IfOk, IfSome, codes, get_or, length, map};
@@ -24,7 +24,7 @@ struct Resting {
     text: String,
 }
 
-/// What stands behind the calls of lines, by the number of promises, and by a veil. Contracts see
+/// What stands after the calls of lines, by the number of promises, and by a veil. Contracts see
 /// the texts.
 #[derive(Drop)]
 pub(crate) struct Endings {
@@ -122,7 +122,7 @@ impl Endings {
         None
     }
 
-    /// Adds what stands behind the calls of a line whose promises have this number, and that this
+    /// Adds what stands after the calls of a line whose promises have this number, and that this
     /// veil covers.
     pub(crate) fn add_to<S: Sink>(
         &self,

@@ -1,5 +1,5 @@
 //! The list for ever of a process: its heading, its state, and what it can ever touch; alone, or
-//! with a text behind the calls of each line.
+//! with a text after the calls of each line.
 
 ghost use Rattle.std.specs.Prelude.{◌≡◌, ◌++◌, [], ℕ, IfOk, List, map, string_bytes};
 ghost use Rattle.pua_calls.specs.Calls.{CallTable};
@@ -45,7 +45,7 @@ pub fn begin_ever<'t>(
     list_with(alloc, rules, number, process, list, lines, columns)
 }
 
-/// The same list with a text behind the calls of each row, which ends the line. The only error is
+/// The same list with a text after the calls of each row, which ends the line. The only error is
 /// that a growth was refused.
 pub fn begin_ever_with<'t>(
     alloc: Global,

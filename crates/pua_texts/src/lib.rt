@@ -38,7 +38,7 @@ pub use ever_list::{begin_ever, begin_ever_with};
 pub use fault::TextFault;
 pub use laws::state_law;
 pub use lists::write_lists;
-pub use members::{Joint, Member};
+pub use members::{Joined, Member};
 pub use object_lists::begin_objects;
 pub use process_list::ProcessList;
 pub use together_list::begin_together;

@@ -26,7 +26,7 @@ use pua_tree::{Kind, Name};
 pub(crate) struct ListLine<'t> {
     /// How many of the names that lead to what the line before is about lead here too.
     pub(crate) depth: usize,
-    /// The name behind those, if there is one.
+    /// The name after those, if there is one.
     pub(crate) name: Option<&'t Name>,
     /// What it is about.
     pub(crate) thing: EverThing,

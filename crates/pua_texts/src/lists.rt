@@ -10,7 +10,7 @@ use crate::block::Block;
 use crate::calls_text::CallsTexts;
 use crate::fault::TextFault;
 use crate::named_lines::NamedLines;
-use crate::places::Places;
+use crate::places::VeilPaths;
 use crate::process_list::ProcessList;
 use pua_io::{PutFault, Sink};
 use pua_tree::{FileTree, OutOfMemory};
@@ -31,7 +31,7 @@ pub fn write_lists<'t, T: FileTree, S: Sink>(
         (front.now ++ lists_text (T.content tree.now) lists.entry.items)
         result sink.old sink.new }
 {
-    let mut places = Places::new(alloc, tree)?;
+    let mut places = VeilPaths::new(alloc, tree)?;
     let mut lines = NamedLines::new(alloc)?;
     let mut texts = CallsTexts::new(alloc)?;
     let mut block = Block::new(alloc)?;
@@ -64,7 +64,7 @@ fn add_lists<'t, T: FileTree, S: Sink>(
     block: &mut Block,
     front: &str,
     lists: &mut VecDeque<ProcessList<'t>>,
-    places: &mut Places<'t, T>,
+    places: &mut VeilPaths<'t, T>,
     lines: &mut NamedLines<'t>,
     texts: &mut CallsTexts,
     sink: &mut S,

@@ -15,7 +15,7 @@ pub struct Member<'t> {
 /// The process that stands for several, as [`join`](pua_ever::join) makes it, and what it can ever
 /// touch.
 #[derive(Clone, Copy)]
-pub struct Joint<'t, 'l> {
+pub struct Joined<'t, 'l> {
     /// The process that stands for them.
     pub one: &'t Process,
     /// Its list for ever.

@@ -132,7 +132,7 @@ impl<'t> NamedLines<'t> {
     }
 
     /// The path from the root to what the last line is about: its first names as they are printed,
-    /// and those behind them.
+    /// and those after them.
     pub(crate) fn path(&self) -> (&[u8], &[&'t Name])
         ensures path { result.0.now ++ spelling (from_root (map (λ name. name.now) result.1.now))
             ≡ spelling (from_root self.now.word) }

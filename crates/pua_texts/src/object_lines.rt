@@ -12,7 +12,7 @@ ghost use Rattle.pua_texts.specs.EndingsState.{plain};
 ghost use Rattle.pua_objects.specs.ListItems.{IsToldIn, items_told};
 ghost use Rattle.pua_texts.specs.ListLines.{lines_text};
 ghost use Rattle.pua_texts.specs.ObjectLines.{object_lines};
-ghost use Rattle.pua_texts.specs.WhyLines.{Posed as Asking, why_line, world_left};
+ghost use Rattle.pua_texts.specs.WhyLines.{ServedScript, why_line, world_left};
 ghost use Rattle.pua_texts.specs.WhyLists.{AreColumnsOf};
 
 use crate::endings::Endings;
@@ -24,7 +24,7 @@ use pua_policy::{AllowedCalls, Process, Promising};
 use pua_tree::OutOfMemory;
 use std::alloc::Global;
 
-/// The lines of these items, behind which stands LF. The only error is that a growth was refused.
+/// The lines of these items, after which stands LF. The only error is that a growth was refused.
 pub(crate) fn object_lines<'t>(
     alloc: Global,
     process: &Process,
@@ -62,7 +62,7 @@ pub(crate) fn why_lines<'t>(
     items: &[ListItem<'t>],
     columns: &mut Endings,
 ) -> Result<Vec<ListLine<'t>>, OutOfMemory>
-    ensures { IfOk result (λ lines. (p : Asking) (number : ℕ) → table.now ≡ p.table →
+    ensures { IfOk result (λ lines. (p : ServedScript) (number : ℕ) → table.now ≡ p.table →
         AllByRecursion (IsToldIn (world_left p).tree process.now) items.now →
         AreColumnsOf p number process.now.veils columns.old →
         lines_text columns.new [] lines.items ≡ flat_map (why_line p number process.now)

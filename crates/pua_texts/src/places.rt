@@ -13,12 +13,12 @@ use std::marker::Model;
 /// The paths of a tree. Contracts see the tree and the names that lead to the place that was found
 /// last.
 #[derive(Drop)]
-pub(crate) struct Places<'t, T: FileTree> {
+pub(crate) struct VeilPaths<'t, T: FileTree> {
     tree: &'t T,
     paths: TreePaths<'t, T>,
 }
 
-impl<'t, T: FileTree> Model for Places<'t, T> {
+impl<'t, T: FileTree> Model for VeilPaths<'t, T> {
     ghost use Rattle.std.specs.Prelude.{◌≡◌};
     ghost use Rattle.pua_why.specs.TreePaths.{PathsState};
 
@@ -29,14 +29,14 @@ impl<'t, T: FileTree> Model for Places<'t, T> {
     ghost invariant = { λ a. a.paths.tree ≡ T.content a.tree.now };
 }
 
-impl<'t, T: FileTree> Places<'t, T> {
+impl<'t, T: FileTree> VeilPaths<'t, T> {
     /// The places in this tree. The only error is that a growth was refused: later calls take no
     /// memory.
-    pub(crate) fn new(alloc: Global, tree: &'t T) -> Result<Places<'t, T>, OutOfMemory>
+    pub(crate) fn new(alloc: Global, tree: &'t T) -> Result<VeilPaths<'t, T>, OutOfMemory>
         ensures { IfOk result (λ places. places.tree ≡ T.content tree.now) }
     {
         let paths = TreePaths::new(alloc, tree)?;
-        Ok(Places { tree, paths })
+        Ok(VeilPaths { tree, paths })
     }
 
     /// Looks for where a place stands now, and keeps the names that lead there from the root.

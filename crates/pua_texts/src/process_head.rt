@@ -7,7 +7,7 @@ ghost use Rattle.pua_texts.specs.Lists.{head_of};
 ghost use Rattle.pua_texts.specs.States.{living_veils};
 
 use crate::block::Block;
-use crate::places::Places;
+use crate::places::VeilPaths;
 use crate::state::{Heading, state_text};
 use crate::veil_line::add_veils;
 use pua_calls::Perms;
@@ -67,7 +67,7 @@ impl<'t> ProcessHead<'t> {
     pub(crate) fn add_to<T: FileTree, S: Sink>(
         &self,
         block: &mut Block,
-        places: &mut Places<'t, T>,
+        places: &mut VeilPaths<'t, T>,
         sink: &mut S,
     ) -> Result<(), PutFault>
         ensures head { PassesOn S.written S.failed (head_text places.old.tree self.now)

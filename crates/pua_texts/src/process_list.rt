@@ -9,7 +9,7 @@ use crate::calls_text::CallsTexts;
 use crate::endings::Endings;
 use crate::list_line::{ListLine, add_lines};
 use crate::named_lines::{ListLines, NamedLines};
-use crate::places::Places;
+use crate::places::VeilPaths;
 use crate::process_head::ProcessHead;
 use pua_io::{PutFault, Sink};
 use pua_tree::{FileTree, OutOfMemory};
@@ -38,7 +38,7 @@ impl<'t> Model for ProcessList<'t> {
 }
 
 impl<'t> ProcessList<'t> {
-    /// A list of these lines, behind which stand these columns. The only error is that a growth was
+    /// A list of these lines, after which stand these columns. The only error is that a growth was
     /// refused.
     pub(crate) fn new(
         alloc: Global,
@@ -64,7 +64,7 @@ impl<'t> ProcessList<'t> {
     pub(crate) fn add_to<T: FileTree, S: Sink>(
         self,
         block: &mut Block,
-        places: &mut Places<'t, T>,
+        places: &mut VeilPaths<'t, T>,
         lines: &mut NamedLines<'t>,
         texts: &mut CallsTexts,
         sink: &mut S,

@@ -24,7 +24,7 @@ pub(crate) enum Time {
     Ever(ExecBound),
 }
 
-/// What is told of a list beside the state of its process.
+/// What the head of a list says beside the state of its process.
 #[derive(Clone, Copy)]
 pub(crate) struct Heading {
     pub(crate) time: Time,

@@ -12,7 +12,7 @@ use crate::endings::Endings;
 use crate::ever_list::ever_lines;
 use crate::lists::alone;
 use crate::member_states::states_text;
-use crate::members::{Joint, Member};
+use crate::members::{Joined, Member};
 use crate::process_head::ProcessHead;
 use crate::process_list::ProcessList;
 use crate::state::{Time, push_bounds};
@@ -29,7 +29,7 @@ pub fn begin_together<'t, 'l>(
     alloc: Global,
     rules: Rules,
     members: &'l [Member<'t>],
-    joint: Option<Joint<'t, 'l>>,
+    joint: Option<Joined<'t, 'l>>,
 ) -> Result<VecDeque<ProcessList<'t>>, OutOfMemory>
     ensures { IfOk result (λ lists. (t : Tree) (table : CallTable) →
         IsJointOf t table (one_of table (named_by members.now)) joint.entry →
@@ -43,7 +43,7 @@ fn begin_list<'t>(
     alloc: Global,
     rules: Rules,
     members: &[Member<'_>],
-    joint: Option<Joint<'t, '_>>,
+    joint: Option<Joined<'t, '_>>,
 ) -> Result<ProcessList<'t>, OutOfMemory>
     ensures { IfOk result (λ list. (t : Tree) (table : CallTable) →
         IsJointOf t table (one_of table (named_by members.now)) joint.entry →

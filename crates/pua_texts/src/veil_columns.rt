@@ -1,11 +1,11 @@
-//! The columns of veils, behind the lines of what they cover.
+//! The columns of veils, after the lines of what they cover.
 
 ghost use Rattle.std.specs.Prelude.{◌≡◌, ◌++◌, ◌∷◌, [], ℕ, Option, None, IfOk, OnOk, decimal, map};
 ghost use Rattle.std.specs.Prelude.{slice_index_or, string_bytes, unwrap_or};
 ghost use Rattle.pua_why.specs.Texts.{letters_text, place_text};
 ghost use Rattle.pua_texts.specs.VeilDates.{veil_dates};
 ghost use Rattle.pua_texts.specs.WhyLists.{AreColumnsOf, veil_behind, veils_behind};
-ghost use Rattle.pua_texts.specs.WhyLines.{Posed as Asking, world_left};
+ghost use Rattle.pua_texts.specs.WhyLines.{ServedScript, world_left};
 
 use crate::endings::Endings;
 use pua_calls::Perms;
@@ -23,7 +23,7 @@ pub(crate) fn veil_columns<T: FileTree>(
     process: &Process,
     lines: &[Option<usize>],
 ) -> Result<Endings, OutOfMemory>
-    ensures { IfOk result (λ columns. (p : Asking) (number : ℕ) →
+    ensures { IfOk result (λ columns. (p : ServedScript) (number : ℕ) →
         T.content tree.now ≡ (world_left p).tree →
         lines.now ≡ veil_dates p number process.now.veils →
         AreColumnsOf p number process.now.veils columns) }
@@ -41,7 +41,7 @@ fn veil_texts<T: FileTree>(
     veils: &[(&Place, &Perms)],
     lines: &[Option<usize>],
 ) -> Result<Vec<String>, OutOfMemory>
-    ensures { IfOk result (λ texts. (p : Asking) (number : ℕ) →
+    ensures { IfOk result (λ texts. (p : ServedScript) (number : ℕ) →
         paths.old.tree ≡ (world_left p).tree →
         lines.now ≡ veil_dates p number (map (λ veil. (veil.0.now, veil.1.now)) veils.now) →
         map string_bytes texts.items
@@ -61,7 +61,7 @@ fn veil_texts<T: FileTree>(
     Ok(texts)
 }
 
-/// The line at an index; None behind the last.
+/// The line at an index; None after the last.
 fn line_at(lines: &[Option<usize>], index: usize) -> Option<usize>
     ensures { result ≡ slice_index_or lines.now index None }
 {

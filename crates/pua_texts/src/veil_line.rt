@@ -7,7 +7,7 @@ ghost use Rattle.pua_texts.specs.States.{or_equals, path_or_hyphen, veil_lines};
 
 use crate::block::Block;
 use crate::list_line::add_path;
-use crate::places::Places;
+use crate::places::VeilPaths;
 use pua_calls::Perms;
 use pua_io::{PutFault, Sink};
 use pua_policy::Place;
@@ -18,7 +18,7 @@ use pua_why::letters;
 pub(crate) fn add_veils<'t, T: FileTree, S: Sink>(
     block: &mut Block,
     veils: &[(&'t Place, &'t Perms)],
-    places: &mut Places<'t, T>,
+    places: &mut VeilPaths<'t, T>,
     sink: &mut S,
 ) -> Result<(), PutFault>
     ensures lines { PassesOn S.written S.failed

@@ -6,7 +6,7 @@ ghost use Rattle.pua_script.specs.Worlds.{world_of};
 ghost use Rattle.pua_since.specs.Dates.{veil_date, veils_at};
 ghost use Rattle.pua_texts.specs.ListLines.{list_text, lists_text};
 ghost use Rattle.pua_texts.specs.VeilDates.{veil_dates};
-ghost use Rattle.pua_texts.specs.WhyLines.{Posed as Asking, why_list, why_lists_of, world_left};
+ghost use Rattle.pua_texts.specs.WhyLines.{ServedScript, why_list, why_lists_of, world_left};
 
 use crate::object_lines::why_lines;
 use crate::process_head::ProcessHead;
@@ -22,8 +22,8 @@ use std::alloc::Global;
 use std::collections::VecDeque;
 
 /// The lists of these processes with reasons, one after another, of which those are left out that
-/// were never made, where their veils are so since these lines; their states say whose rules the
-/// table of calls is by. The only error is that a growth was refused.
+/// were never made; their veils have their letters since these lines; their states say whose rules
+/// the table of calls is by. The only error is that a growth was refused.
 pub fn begin_reasons<'t, T: FileTree>(
     alloc: Global,
     world: &'t World<T>,
@@ -31,7 +31,7 @@ pub fn begin_reasons<'t, T: FileTree>(
     numbers: &[u32],
     lines: &[Option<usize>],
 ) -> Result<VecDeque<ProcessList<'t>>, OutOfMemory>
-    ensures { IfOk result (λ lists. (p : Asking) → world_of world.now ≡ world_left p →
+    ensures { IfOk result (λ lists. (p : ServedScript) → world_of world.now ≡ world_left p →
         world.now.table ≡ p.table → lines.now
         ≡ map (veil_date p.table p.world p.asks) (flat_map (veils_at world.now) numbers.now) →
         lists_text (world_left p).tree lists.items ≡ why_lists_of rules p numbers.now) }
@@ -56,7 +56,7 @@ pub fn begin_reasons<'t, T: FileTree>(
     Ok(lists)
 }
 
-/// Splits the lines that are left behind those of the veils of a process. The only error is that a
+/// Splits the lines that are left after those of the veils of a process. The only error is that a
 /// growth was refused.
 fn split_lines<'l>(
     alloc: Global,
@@ -81,7 +81,7 @@ fn begin_list<'t, T: FileTree>(
     process: &'t Process,
     lines: &[Option<usize>],
 ) -> Result<ProcessList<'t>, OutOfMemory>
-    ensures { IfOk result (λ list. (p : Asking) →
+    ensures { IfOk result (λ list. (p : ServedScript) →
         T.content tree.now ≡ (world_left p).tree → table.now ≡ p.table →
         lines.now ≡ veil_dates p heading.number process.now.veils →
         list_text (world_left p).tree list ≡ why_list heading p process.now) }

@@ -2,7 +2,7 @@
 use Rattle.std.proofs.Common.{◌≡◌, ℕ, List, refl, sym, ap, Bool, true, false, cond}
 use Rattle.std.specs.Prelude.{Option, Some, None, Ok, option_map}
 use Rattle.pua_tree.specs.Tree.{Tree}
-use Rattle.pua_path.specs.Resolution.{resolution_of_text}
+use Rattle.pua_calls.specs.declared.rules.Rules.{Rules}
 use Rattle.pua_path.specs.declared.errno.Errno.{Errno}
 use Rattle.pua_path.specs.declared.errno.Errno.TheVariants.{EACCES, ENOENT}
 use Rattle.pua_path.specs.declared.found.Found.{Found}
@@ -16,10 +16,10 @@ use Rattle.pua_policy.specs.Misfits.{misfit}
 use Rattle.pua_policy.specs.Verdict.{or_fault, object_of, cover, cover_fault}
 use Rattle.pua_policy.specs.declared.answer.Cover.{Cover}
 use Rattle.pua_policy.proofs.ForCallers.{holds_through}
-use Rattle.pua_script.specs.Decide.{Sole, Change, Decision, refusals, asker_of, object_by, objects_by, on_named}
+use Rattle.pua_script.specs.Decide.{Sole, Change, Decision, refusals, asker_of, object_by, objects_by, on_named, path_named}
 use Rattle.pua_tight.specs.Narrower.{StateWithin}
 use Rattle.pua_tight.proofs.Within.{CoverWithin, all, nothing, only, cover_within, fault_within}
-use Rattle.pua_tight.proofs.Agreeing.{Agree, Misses, some_is, none_some, back_by, check, misses_or, named_check, two_covers}
+use Rattle.pua_tight.proofs.MiddleDecision.{Agree, Misses, some_is, none_some, back_by, check, misses_or, named_check, two_covers}
 
 pub cover_back : {c d : Cover} → CoverWithin c d → (perms : ℕ) (s : Errno) → cover_fault d perms ≡ Some s → cover_fault c perms ≡ Some s
 cover_back all perms s e = e
@@ -44,13 +44,13 @@ pub record Covered (t : Tree) (l m s : ProcessState) : Type 0 where
   pub outer : (x : Found) (perms : ℕ) (u : Errno) → cover_fault (cover t l x) perms ≡ Some u → cover_fault (cover t s x) perms ≡ None → u ≡ EACCES
 
 module _ (t : Tree) (l m s : ProcessState) (c : Covered t l m s) where
-  pub at_path : (end : Ending) (text : List ℕ) (last : Last) (f g h : Found → Decision) → ((x : Found) → Agree (f x) (g x) (h x)) →
-      Agree (on_named refusals.failed (resolution_of_text t l.dir end text last) f)
-      (on_named refusals.failed (resolution_of_text t m.dir end text last) g)
-      (on_named refusals.failed (resolution_of_text t s.dir end text last) h)
-  at_path end text last f g h = named_check (resolution_of_text t l.dir end text last) (resolution_of_text t m.dir end text last)
-      (resolution_of_text t s.dir end text last) (ap (λ d. resolution_of_text t d end text last) c.first)
-      (ap (λ d. resolution_of_text t d end text last) c.later.dir) f g h
+  pub at_path : (whose : Rules) (end : Ending) (text : List ℕ) (last : Last) (f g h : Found → Decision) → ((x : Found) → Agree (f x) (g x) (h x)) →
+      Agree (on_named refusals.failed (path_named whose t l.dir end text last) f)
+      (on_named refusals.failed (path_named whose t m.dir end text last) g)
+      (on_named refusals.failed (path_named whose t s.dir end text last) h)
+  at_path whose end text last f g h = named_check (path_named whose t l.dir end text last) (path_named whose t m.dir end text last)
+      (path_named whose t s.dir end text last) (ap (λ d. path_named whose t d end text last) c.first)
+      (ap (λ d. path_named whose t d end text last) c.later.dir) f g h
 
   abbrev fault : ProcessState → Found → ℕ → Option Errno
   fault z x perms = cover_fault (cover t z x) perms
@@ -61,21 +61,21 @@ module _ (t : Tree) (l m s : ProcessState) (c : Covered t l m s) where
   pub object_agrees : (table : CallTable) (call : Call) (path : List ℕ) (f : Found → Change) →
       Agree (object_by refusals table t (asker_of l) call path (λ x. Ok (f x))) (object_by refusals table t (asker_of m) call path (λ x. Ok (f x)))
       (object_by refusals table t (asker_of s) call path (λ x. Ok (f x)))
-  object_agrees table call path f = at_path (ending_of call) path (last_of call) (checked l) (checked m) (checked s)
-      (λ x. misses_or (fault l x perms) (fault m x perms) (fault s x perms) (option_map (refusals.misfit Sole x) (misfit t call (object_of t x)))
+  object_agrees table call path f = at_path table.whose (ending_of call) path (last_of call) (checked l) (checked m) (checked s)
+      (λ x. misses_or (fault l x perms) (fault m x perms) (fault s x perms) (option_map (refusals.misfit Sole x) (misfit table.whose t call (object_of t x)))
       (c.misses x perms) (passes x perms) (Ok (f x)))
     where
       perms : ℕ
       perms = (rule_of table call).perms
 
       checked : ProcessState → Found → Decision
-      checked z x = check (or_fault (fault z x perms) (option_map (refusals.misfit Sole x) (misfit t call (object_of t x)))) (Ok (f x))
+      checked z x = check (or_fault (fault z x perms) (option_map (refusals.misfit Sole x) (misfit table.whose t call (object_of t x)))) (Ok (f x))
 
-  pub pair_agrees : (pair : PairRule) (end : Ending) (old new : List ℕ) (f : Found → Found → Decision) →
-      Agree (objects_by refusals pair t (asker_of l) end old new f) (objects_by refusals pair t (asker_of m) end old new f)
-      (objects_by refusals pair t (asker_of s) end old new f)
-  pair_agrees pair end old new f = at_path end old pair.old.last (second l) (second m) (second s)
-      (λ x. at_path end new pair.new.last (third l x) (third m x) (third s x)
+  pub pair_agrees : (whose : Rules) (pair : PairRule) (end : Ending) (old new : List ℕ) (f : Found → Found → Decision) →
+      Agree (objects_by refusals whose pair t (asker_of l) end old new f) (objects_by refusals whose pair t (asker_of m) end old new f)
+      (objects_by refusals whose pair t (asker_of s) end old new f)
+  pair_agrees whose pair end old new f = at_path whose end old pair.old.last (second l) (second m) (second s)
+      (λ x. at_path whose end new pair.new.last (third l x) (third m x) (third s x)
       (λ y. two_covers (fault l x one) (fault m x one) (fault s x one) (fault l y two) (fault m y two) (fault s y two)
       (c.misses x one) (passes x one) (c.misses y two) (passes y two) (c.outer x one)
       (cover_lack (cover_within c.later.veils t y) two) (cover_back (cover_within c.later.veils t y) two) (f x y)))
@@ -90,4 +90,4 @@ module _ (t : Tree) (l m s : ProcessState) (c : Covered t l m s) where
       third z x y = check (or_fault (fault z x one) (fault z y two)) (f x y)
 
       second : ProcessState → Found → Decision
-      second z x = on_named refusals.failed (resolution_of_text t z.dir end new pair.new.last) (third z x)
+      second z x = on_named refusals.failed (path_named whose t z.dir end new pair.new.last) (third z x)

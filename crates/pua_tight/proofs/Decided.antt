@@ -3,7 +3,7 @@ use Rattle.std.proofs.Common.{◌≡◌, ℕ, List, [], ◌∷◌, refl, sym, ap
 use Rattle.std.specs.Prelude.{Option, Some, None, Result, Ok, Err, option_map, nat_le, IsTrue}
 use Rattle.pua_tree.specs.Tree.{Tree}
 use Rattle.pua_path.specs.Paths.{path_fault}
-use Rattle.pua_path.specs.Resolution.{resolution_of_text}
+use Rattle.pua_calls.specs.declared.rules.Rules.{Rules}
 use Rattle.pua_path.specs.Fits.{node_named}
 use Rattle.pua_path.specs.declared.errno.Errno.{Errno}
 use Rattle.pua_path.specs.declared.errno.Errno.TheVariants.{EPERM}
@@ -16,7 +16,9 @@ use Rattle.pua_calls.specs.Calls.{CallTable, PairRule, rule_of, last_of, ending_
 use Rattle.pua_calls.specs.Promises.{holds, proc, unveil, error}
 use Rattle.pua_calls.specs.declared.call.Call.{Call}
 use Rattle.pua_calls.specs.declared.call.Call.TheVariants as call
-use Rattle.pua_policy.specs.States.{ProcessState, Unveiled, Pledged, working_dir, may_any, place_fault, has_error, veil_at}
+use Rattle.pua_calls.specs.declared.rules.Rules.{Rules}
+use Rattle.pua_calls.specs.declared.rules.Rules.TheVariants.{Standard, Openbsd}
+use Rattle.pua_policy.specs.States.{ProcessState, Unveiled, Pledged, working_dir, may_any, place_fault, error_frees_exec, has_error, veil_at}
 use Rattle.pua_policy.specs.States.{is_within, unveil_fault, most_places, held_set}
 use Rattle.pua_policy.specs.Misfits.{misfit}
 use Rattle.pua_policy.specs.Verdict.{or_fault, object_of, place_of, refusal_of}
@@ -25,10 +27,10 @@ use Rattle.pua_policy.specs.declared.answer.May.{May}
 use Rattle.pua_policy.specs.declared.answer.May.TheVariants as may
 use Rattle.pua_policy.specs.declared.answer.Refusal.{Refusal}
 use Rattle.pua_policy.specs.declared.answer.UnveilFault.TheVariants.{NotPermitted, TooManyPlaces}
-use Rattle.pua_script.specs.Decide.{Change, AddEvent, Decision, Asking, Side, Sole, Old, New, refusals, asker_of, decide, decide_by, call_by}
-use Rattle.pua_script.specs.Decide.{object_by, symlink_by, pair_by, objects_by, covers_by, rename_by, link_by, veil_by, veiling_by}
+use Rattle.pua_script.specs.Decide.{Change, AddEvent, Decision, Requester, Side, Sole, Old, New, refusals, asker_of, decide, decide_by, call_by}
+use Rattle.pua_script.specs.Decide.{object_by, symlink_by, pair_by, objects_by, covers_by, rename_by, asks_directory, link_by, veil_by, veiling_by}
 use Rattle.pua_script.specs.Decide.{pledge_by, pledging_by, unless_refused, unless_failed, on_named, change_by, adding, link_node, fault_if}
-use Rattle.pua_script.specs.Decide.{is_unknown, given_set, unveil_errno}
+use Rattle.pua_script.specs.Decide.{is_unknown, given_set, unveil_errno, path_named}
 use Rattle.pua_script.specs.declared.request.Given.{Given}
 use Rattle.pua_script.specs.declared.request.Action.{Action}
 use Rattle.pua_script.specs.declared.request.Action.TheVariants.{OnPath, Symlink, Rename, Link, Pledge, Unveil, Lock, Fork, Exit, Uses}
@@ -39,11 +41,12 @@ use Rattle.pua_tight.proofs.Sets.{or_more, and_more, two_bools, asked_within}
 use Rattle.pua_tight.proofs.Within.{held_within, kept_within, as_many, cover_within, fault_within, may_within}
 
 -- each check that the first passes the second passes, and paths name the same to both
-pub record Easier (a b : Asking) : Type 0 where
+pub record Easier (a b : Requester) : Type 0 where
   pub promises : (sets : List ℕ) → a.promises sets ≡ None → b.promises sets ≡ None
-  pub path : (side : Side) (t : Tree) (end : Ending) (text : List ℕ) (last : Last) → a.path side t end text last ≡ b.path side t end text last
+  pub path : (whose : Rules) (side : Side) (t : Tree) (end : Ending) (text : List ℕ) (last : Last) →
+      a.path whose side t end text last ≡ b.path whose side t end text last
   pub cover : (side : Side) (t : Tree) (object : Found) (perms : ℕ) → a.cover side t object perms ≡ None → b.cover side t object perms ≡ None
-  pub beyond : (p e : Option ℕ) → a.beyond p e ≡ None → b.beyond p e ≡ None
+  pub beyond : (whose : Rules) (p e : Option ℕ) → a.beyond whose p e ≡ None → b.beyond whose p e ≡ None
   pub locked : a.locked ≡ None → b.locked ≡ None
   pub place : (place : Place) (perms : ℕ) → a.place place perms ≡ None → b.place place perms ≡ None
 
@@ -71,20 +74,20 @@ module _ (c : Change) where
   past_named (Ok x) s f g same further e = ap (λ s. on_named refusals.failed s g) (sym same) ∙ further x e
   past_named (Err errno) s f g same further e = cc
 
-module _ (table : CallTable) (t : Tree) (a b : Asking) (easier : Easier a b) (c : Change) where
-  abbrev checked : Asking → Call → (Found → Decision) → Found → Decision
+module _ (table : CallTable) (t : Tree) (a b : Requester) (easier : Easier a b) (c : Change) where
+  abbrev checked : Requester → Call → (Found → Decision) → Found → Decision
   checked asker call f object = unless_failed refusals.failed (or_fault (asker.cover Sole t object (rule_of table call).perms)
-      (option_map (refusals.misfit Sole object) (misfit t call (object_of t object)))) (f object)
+      (option_map (refusals.misfit Sole object) (misfit table.whose t call (object_of t object)))) (f object)
 
   object_more : (call : Call) (path : List ℕ) (f : Found → Decision) →
       object_by refusals table t a call path f ≡ Ok c → object_by refusals table t b call path f ≡ Ok c
-  object_more call path f = past_named c (a.path Sole t (ending_of call) path (last_of call))
-      (b.path Sole t (ending_of call) path (last_of call)) (checked a call f) (checked b call f)
-      (easier.path Sole t (ending_of call) path (last_of call))
+  object_more call path f = past_named c (a.path table.whose Sole t (ending_of call) path (last_of call))
+      (b.path table.whose Sole t (ending_of call) path (last_of call)) (checked a call f) (checked b call f)
+      (easier.path table.whose Sole t (ending_of call) path (last_of call))
       (λ x. past_failed c (or_fault (a.cover Sole t x (rule_of table call).perms)
-      (option_map (refusals.misfit Sole x) (misfit t call (object_of t x))))
-      (or_fault (b.cover Sole t x (rule_of table call).perms) (option_map (refusals.misfit Sole x) (misfit t call (object_of t x))))
-      (f x) (f x) (or_less _ _ (option_map (refusals.misfit Sole x) (misfit t call (object_of t x)))
+      (option_map (refusals.misfit Sole x) (misfit table.whose t call (object_of t x))))
+      (or_fault (b.cover Sole t x (rule_of table call).perms) (option_map (refusals.misfit Sole x) (misfit table.whose t call (object_of t x))))
+      (f x) (f x) (or_less _ _ (option_map (refusals.misfit Sole x) (misfit table.whose t call (object_of t x)))
       (easier.cover Sole t x (rule_of table call).perms)) (λ e. e))
 
   call_more : (call : Call) (path : List ℕ) → call_by refusals table t a call path ≡ Ok c → call_by refusals table t b call path ≡ Ok c
@@ -105,65 +108,65 @@ module _ (table : CallTable) (t : Tree) (a b : Asking) (easier : Easier a b) (c 
       (λ e. e) (object_more call.Symlink path (λ object. Ok (adding (link_node target) object))))
 
   pair_more : (pair : PairRule) (end : Ending) (old new : List ℕ) (f : Found → Found → Decision) →
-      pair_by refusals pair t a end old new f ≡ Ok c → pair_by refusals pair t b end old new f ≡ Ok c
+      pair_by refusals table.whose pair t a end old new f ≡ Ok c → pair_by refusals table.whose pair t b end old new f ≡ Ok c
   pair_more pair end old new f =
       past_refused c (a.promises pair.old.needs.alternatives) (b.promises pair.old.needs.alternatives)
-      (unless_refused (a.promises pair.new.needs.alternatives) (objects_by refusals pair t a end old new f))
-      (unless_refused (b.promises pair.new.needs.alternatives) (objects_by refusals pair t b end old new f))
+      (unless_refused (a.promises pair.new.needs.alternatives) (objects_by refusals table.whose pair t a end old new f))
+      (unless_refused (b.promises pair.new.needs.alternatives) (objects_by refusals table.whose pair t b end old new f))
       (easier.promises pair.old.needs.alternatives)
       (past_refused c (a.promises pair.new.needs.alternatives) (b.promises pair.new.needs.alternatives)
-      (objects_by refusals pair t a end old new f) (objects_by refusals pair t b end old new f)
+      (objects_by refusals table.whose pair t a end old new f) (objects_by refusals table.whose pair t b end old new f)
       (easier.promises pair.new.needs.alternatives)
-      (past_named c (a.path Old t end old pair.old.last) (b.path Old t end old pair.old.last) (second a) (second b)
-      (easier.path Old t end old pair.old.last)
-      (λ x. past_named c (a.path New t end new pair.new.last) (b.path New t end new pair.new.last) (third a x) (third b x)
-      (easier.path New t end new pair.new.last)
+      (past_named c (a.path table.whose Old t end old pair.old.last) (b.path table.whose Old t end old pair.old.last) (second a) (second b)
+      (easier.path table.whose Old t end old pair.old.last)
+      (λ x. past_named c (a.path table.whose New t end new pair.new.last) (b.path table.whose New t end new pair.new.last) (third a x) (third b x)
+      (easier.path table.whose New t end new pair.new.last)
       (λ y. past_failed c (covers_by pair t a x y) (covers_by pair t b x y) (f x y) (f x y)
       (or_both (a.cover Old t x pair.old.needs.perms) (b.cover Old t x pair.old.needs.perms)
       (a.cover New t y pair.new.needs.perms) (b.cover New t y pair.new.needs.perms)
       (easier.cover Old t x pair.old.needs.perms) (easier.cover New t y pair.new.needs.perms)) (λ e. e)))))
     where
-      third : Asking → Found → Found → Decision
+      third : Requester → Found → Found → Decision
       third asker x y = unless_failed refusals.failed (covers_by pair t asker x y) (f x y)
 
-      second : Asking → Found → Decision
-      second asker x = on_named refusals.failed (asker.path New t end new pair.new.last) (third asker x)
+      second : Requester → Found → Decision
+      second asker x = on_named refusals.failed (asker.path table.whose New t end new pair.new.last) (third asker x)
 
-  veil_more : (path : List ℕ) (perms : Option ℕ) → veil_by refusals t a path perms ≡ Ok c → veil_by refusals t b path perms ≡ Ok c
+  veil_more : (path : List ℕ) (perms : Option ℕ) → veil_by refusals table.whose t a path perms ≡ Ok c → veil_by refusals table.whose t b path perms ≡ Ok c
   veil_more path None e = e
-  veil_more path (Some perms) e = past_named c (a.path Sole t ending.Dot path Followed) (b.path Sole t ending.Dot path Followed)
+  veil_more path (Some perms) e = past_named c (a.path table.whose Sole t ending.Dot path Followed) (b.path table.whose Sole t ending.Dot path Followed)
       (λ object. veiling_by refusals a (place_of object) perms) (λ object. veiling_by refusals b (place_of object) perms)
-      (easier.path Sole t ending.Dot path Followed)
+      (easier.path table.whose Sole t ending.Dot path Followed)
       (λ x. past_failed c (a.place (place_of x) perms) (b.place (place_of x) perms) (Ok (AddEvent (Unveiled (place_of x) perms)))
       (Ok (AddEvent (Unveiled (place_of x) perms))) (easier.place (place_of x) perms) (λ e. e)) e
 
   pub granted_more : (action : Action) → decide_by refusals table t a action ≡ Ok c → decide_by refusals table t b action ≡ Ok c
   granted_more (OnPath call path) = call_more call path
   granted_more (Symlink target path) = symlink_more target path
-  granted_more (Rename old new) = pair_more table.rename ending.Dropped old new (λ x y. rename_by refusals t x y (node_named x))
+  granted_more (Rename old new) = pair_more table.rename ending.Dropped old new (λ x y. rename_by refusals t (asks_directory table.whose old new) x y (node_named x))
   granted_more (Link old new) = pair_more table.link ending.Dot old new (λ x y. link_by refusals x y (node_named x))
   granted_more (Pledge p e) = past_failed c (fault_if (is_unknown p || is_unknown e) (refusals.unknown_promise (cond (is_unknown p) false true)))
       (fault_if (is_unknown p || is_unknown e) (refusals.unknown_promise (cond (is_unknown p) false true)))
-      (pledging_by refusals a (given_set p) (given_set e)) (pledging_by refusals b (given_set p) (given_set e)) (λ e. e)
-      (past_failed c (a.beyond (given_set p) (given_set e)) (b.beyond (given_set p) (given_set e))
+      (pledging_by refusals a table.whose (given_set p) (given_set e)) (pledging_by refusals b table.whose (given_set p) (given_set e)) (λ e. e)
+      (past_failed c (a.beyond table.whose (given_set p) (given_set e)) (b.beyond table.whose (given_set p) (given_set e))
       (Ok (AddEvent (Pledged (given_set p) (given_set e)))) (Ok (AddEvent (Pledged (given_set p) (given_set e))))
-      (easier.beyond (given_set p) (given_set e)) (λ e. e))
+      (easier.beyond table.whose (given_set p) (given_set e)) (λ e. e))
   granted_more (Unveil path perms) = past_refused c (a.promises (unveil ∷ [])) (b.promises (unveil ∷ []))
-      (unless_failed refusals.failed a.locked (veil_by refusals t a path perms))
-      (unless_failed refusals.failed b.locked (veil_by refusals t b path perms)) (easier.promises (unveil ∷ []))
-      (past_failed c a.locked b.locked (veil_by refusals t a path perms) (veil_by refusals t b path perms) easier.locked (veil_more path perms))
+      (unless_failed refusals.failed a.locked (veil_by refusals table.whose t a path perms))
+      (unless_failed refusals.failed b.locked (veil_by refusals table.whose t b path perms)) (easier.promises (unveil ∷ []))
+      (past_failed c a.locked b.locked (veil_by refusals table.whose t a path perms) (veil_by refusals table.whose t b path perms) easier.locked (veil_more path perms))
   granted_more Lock = past_refused c (a.promises (unveil ∷ [])) (b.promises (unveil ∷ [])) _ _ (easier.promises (unveil ∷ [])) (λ e. e)
   granted_more (Fork new) = past_refused c (a.promises (proc ∷ [])) (b.promises (proc ∷ [])) _ _ (easier.promises (proc ∷ [])) (λ e. e)
   granted_more Exit = λ e. e
   granted_more (Uses sets) = past_refused c (a.promises sets) (b.promises sets) _ _ (easier.promises sets) (λ e. e)
 
 -- one that passes every check, in a directory
-abbrev pub free : ℕ → Asking
+abbrev pub free : ℕ → Requester
 free dir = record {
   promises = λ sets. None;
-  path = λ side t end text last. resolution_of_text t dir end text last;
+  path = λ whose side t end text last. path_named whose t dir end text last;
   cover = λ side t object perms. None;
-  beyond = λ p e. None;
+  beyond = λ whose p e. None;
   locked = None;
   place = λ place perms. None;
 }
@@ -171,9 +174,9 @@ free dir = record {
 freer : (h : ProcessState) → Easier (asker_of h) (free (working_dir h))
 freer h = record {
   promises = λ sets e. refl;
-  path = λ side t end text last. refl;
+  path = λ whose side t end text last. refl;
   cover = λ side t object perms e. refl;
-  beyond = λ p e is. refl;
+  beyond = λ whose p e is. refl;
   locked = λ e. refl;
   place = λ place perms e. refl;
 }
@@ -203,12 +206,21 @@ placed (within {a = a} {b = b} less) n m perms same e =
     held false e = cc
 
 module _ (h k : ProcessState) (w : StateWithin h k) where
-  abbrev pub may_give : ProcessState → Option ℕ → Option ℕ → Bool
-  may_give g p e = has_error g || (is_within p g.promises && is_within e g.execpromises)
+  abbrev pub may_give : Rules → ProcessState → Option ℕ → Option ℕ → Bool
+  may_give whose g p e =
+      (has_error g || is_within p g.promises) && (error_frees_exec whose (has_error g) || is_within e g.execpromises)
 
-  pub gives_more : (p e : Option ℕ) → may_give h p e ≡ true → may_give k p e ≡ true
-  gives_more p e = or_more (has_error h) _ (has_error k) _ (holds_through (held_set k) (held_set h) error (held_within w))
-      (and_more _ _ _ _ (asked_within p w.promises) (asked_within e w.execpromises))
+  error_more : has_error h ≡ true → has_error k ≡ true
+  error_more = holds_through (held_set k) (held_set h) error (held_within w)
+
+  frees_more : (whose : Rules) → error_frees_exec whose (has_error h) ≡ true → error_frees_exec whose (has_error k) ≡ true
+  frees_more Standard = error_more
+  frees_more Openbsd = λ e. e
+
+  pub gives_more : (whose : Rules) (p e : Option ℕ) → may_give whose h p e ≡ true → may_give whose k p e ≡ true
+  gives_more whose p e = and_more _ _ _ _ (or_more (has_error h) _ (has_error k) _ error_more (asked_within p w.promises))
+      (or_more (error_frees_exec whose (has_error h)) _ (error_frees_exec whose (has_error k)) _ (frees_more whose)
+      (asked_within e w.execpromises))
 
   place_less : (place : Place) (perms : ℕ) → unveil_errno (unveil_fault h place perms) ≡ None → unveil_errno (unveil_fault k place perms) ≡ None
   place_less place perms = two_bools
@@ -219,9 +231,9 @@ module _ (h k : ProcessState) (w : StateWithin h k) where
   pub easier : Easier (asker_of h) (asker_of k)
   easier = record {
     promises = λ sets e. ap refusal_of (may_within h k w sets (may_from (may_any h sets) e));
-    path = λ side t end text last. ap (λ d. resolution_of_text t d end text last) w.dir;
+    path = λ whose side t end text last. ap (λ d. path_named whose t d end text last) w.dir;
     cover = λ side t object perms. fault_within (cover_within w.veils t object) perms;
-    beyond = λ p e is. ap (λ x. cond x None (Some EPERM)) (gives_more p e (none_if (may_give h p e) is));
+    beyond = λ whose p e is. ap (λ x. cond x None (Some EPERM)) (gives_more whose p e (none_if (may_give whose h p e) is));
     locked = λ e. ap (λ x. fault_if x EPERM) (sym w.locked) ∙ e;
     place = place_less;
   }
@@ -249,8 +261,8 @@ module _ (table : CallTable) (t : Tree) (h k : ProcessState) (w : StateWithin h 
       by_ok (AddEvent (Unveiled (place_of object) a)) (AddEvent (Unveiled (place_of object) b)) c d (unveils less) e f
   veil_within path a b less (Err errno) e f = cc
 
-  pledge_within : {p q x y : Given} → GivenWithin p q → GivenWithin x y → pledge_by refusals (free (working_dir h)) p x ≡ Ok c →
-      pledge_by refusals (free (working_dir k)) q y ≡ Ok d → ChangeWithin c d
+  pledge_within : {p q x y : Given} → GivenWithin p q → GivenWithin x y → pledge_by refusals (free (working_dir h)) table.whose p x ≡ Ok c →
+      pledge_by refusals (free (working_dir k)) table.whose q y ≡ Ok d → ChangeWithin c d
   pledge_within given_none given_none e f = by_ok _ _ c d (pledges unset unset) e f
   pledge_within (given_less less) given_none e f = by_ok _ _ c d (pledges (within less) unset) e f
   pledge_within given_none (given_less less) e f = by_ok _ _ c d (pledges unset (within less)) e f
@@ -267,8 +279,8 @@ module _ (table : CallTable) (t : Tree) (h k : ProcessState) (w : StateWithin h 
   change_within (less_pledged {p = p} {q = q} {e = x} {f = y} first second) e f =
       pledge_within first second (freely table t h (Pledge p x) c e) (freely table t k (Pledge q y) d f)
   change_within (less_unveiled {path = path} {a = a} {b = b} less) e f =
-      veil_within path a b less (resolution_of_text t (working_dir k) ending.Dot path Followed)
-      (ap (λ dir. on_named refusals.failed (resolution_of_text t dir ending.Dot path Followed)
+      veil_within path a b less (path_named table.whose t (working_dir k) ending.Dot path Followed)
+      (ap (λ dir. on_named refusals.failed (path_named table.whose t dir ending.Dot path Followed)
       (λ object. Granted (AddEvent (Unveiled (place_of object) a)))) (sym w.dir)
       ∙ freely table t h (Unveil path (Some a)) c e)
       (freely table t k (Unveil path (Some b)) d f)

@@ -62,17 +62,17 @@ made_by_more p q more NewLink e = more call.Symlink e
 module _ (table : CallTable) (h k : ProcessState) (w : Eases table h k) where
   -- what is allowed under some cover on a thing
   under_more : (xs ys : List Cover) → CoversWithin xs ys → (o p : Object) (c : Call) →
-      (object_fault empty_tree c o ≡ None → object_fault empty_tree c p ≡ None) →
+      (object_fault table.whose empty_tree c o ≡ None → object_fault table.whose empty_tree c p ≡ None) →
       is_allowed_under table h xs o c ≡ true → is_allowed_under table k ys p c ≡ true
   under_more xs ys less o p c fits e =
       let one = any_found (λ left. is_allowed (covered_verdict empty_tree table h c left o)) xs e in
       let other = less one.0 one.1 in
       let sets = (rule_of table c).alternatives in
       let perms = (rule_of table c).perms in
-      let both = parts (may_any h sets) (or_fault (cover_fault one.0 perms) (object_fault empty_tree c o)) one.2 in
+      let both = parts (may_any h sets) (or_fault (cover_fault one.0 perms) (object_fault table.whose empty_tree c o)) one.2 in
       any_among (λ left. is_allowed (covered_verdict empty_tree table k c left p)) ys other.0 other.1
-      (joined (may_any k sets) (or_fault (cover_fault other.0 perms) (object_fault empty_tree c p)) (w.calls c both.0)
-      (or_both (cover_fault one.0 perms) (cover_fault other.0 perms) (object_fault empty_tree c o) (object_fault empty_tree c p)
+      (joined (may_any k sets) (or_fault (cover_fault other.0 perms) (object_fault table.whose empty_tree c p)) (w.calls c both.0)
+      (or_both (cover_fault one.0 perms) (cover_fault other.0 perms) (object_fault table.whose empty_tree c o) (object_fault table.whose empty_tree c p)
       (fault_within other.2 perms) fits both.1))
 
   starts_more : (xs ys : List Cover) → CoversWithin xs ys → (c : Call) → starts_under table h xs c ≡ true → starts_under table k ys c ≡ true
@@ -94,7 +94,7 @@ module _ (table : CallTable) (h k : ProcessState) (w : Eases table h k) where
   dir_more xs ys less true false more c e = absurd (false≢true (more refl))
   dir_more xs ys less false false more c e = allow_more xs ys less lasting_dir c e
   dir_more xs ys less false true more c e =
-      under_more xs ys less lasting_dir removable_dir c (dir_alike empty_tree c 0 Top true (λ rmdir. refl)) e
+      under_more xs ys less lasting_dir removable_dir c (dir_alike table.whose empty_tree c 0 Top true (λ rmdir. refl)) e
 
   module _ (t : Tree) (well : WellFormed t) where
     -- where a thing can come, what it is then, and what can be allowed on it

@@ -113,7 +113,7 @@ module _ (table : CallTable) (t : Tree) (well : WellFormed t) where
         let one = any_found (λ left. is_allowed (covered_verdict empty_tree table k c left o)) xs e in
         let sets = (rule_of table c).alternatives in
         ap (λ x. x || is_promised_by table given c) (may_holds k sets
-        (parts (may_any k sets) (or_fault (cover_fault one.0 (rule_of table c).perms) (object_fault empty_tree c o)) one.2).0)
+        (parts (may_any k sets) (or_fault (cover_fault one.0 (rule_of table c).perms) (object_fault table.whose empty_tree c o)) one.2).0)
 
     -- of a file that can be made a program too
     one_way : (a b : Bool) (c : Call) → (a ≡ true → passes c ≡ true) → (b ≡ true → passes c ≡ true) → (a || b) ≡ true → passes c ≡ true

@@ -23,10 +23,10 @@ use Rattle.pua_tight.specs.Tight.{try_piece, thin_line, thin}
 use Rattle.pua_tight.specs.Laws.{IsPieceOf, AreOkay, without_all, LeavesOut, RestsOnOne, RestOnOne, bit_of, AreSpareable, TightIsLeast}
 use Rattle.pua_tight.proofs.Sets.{holds_self}
 use Rattle.pua_tight.proofs.Tightened.{given_self, without_within, action_twice, world_self, tried_same, line_within, thin_within, thin_same}
-use Rattle.pua_tight.proofs.Less.{lack_at, ask_mono, is_without, lacks_down, lacks_left, okay_less}
+use Rattle.pua_tight.proofs.WithoutPiece.{lack_at, ask_mono, is_without, lacks_down, lacks_left, okay_less}
 use Rattle.pua_tight.proofs.Worlds.{heads, tails}
 use Rattle.pua_tight.proofs.Minimal.{compose, asks_self, prefix, same_self}
-use Rattle.pua_tight.proofs.Three.{last_two, state_three}
+use Rattle.pua_tight.proofs.ThreeProcesses.{last_two, state_three}
 use Rattle.pua_tight.proofs.ThreeWorlds.{ProcessesThree, three_nobody, three_somebody, WorldThree, GivenThree, null_three, unknown_three, good_three}
 use Rattle.pua_tight.proofs.ThreeWorlds.{ActionThree, same_three, pledge_three, unveil_three, step_three, agree_three}
 

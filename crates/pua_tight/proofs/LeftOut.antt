@@ -8,7 +8,7 @@ use Rattle.pua_tree.proofs.ForCallers.{same_Some, None≢Some, Some≢None}
 use Rattle.pua_script.specs.Requests.{Asked}
 use Rattle.pua_tight.specs.Texts.{ended_text, lines_text}
 use Rattle.pua_tight.specs.Left.{nth_text}
-use Rattle.pua_tight.proofs.Kept.{joined_more}
+use Rattle.pua_tight.proofs.KeptWords.{joined_more}
 
 pub nth_past : (asks : List Asked) (place : ℕ) (line : List ℕ) → slice_get asks place ≡ None → nth_text asks place line ≡ line
 nth_past [] place line e = refl

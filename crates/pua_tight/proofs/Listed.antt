@@ -50,12 +50,12 @@ module _ (table : CallTable) (h k : ProcessState) (w : StateWithin h k) (t : Tre
       is_allowed (subject_verdict t table k call subject) ≡ true
   subject_more (At object) call e = found_more table h k w t call (Ok object) e
   subject_more (Others dir) call e =
-      let fault : Cover → Option Errno = λ c. or_fault (cover_fault c (rule_of table call).perms) (object_fault t call IsMissing) in
+      let fault : Cover → Option Errno = λ c. or_fault (cover_fault c (rule_of table call).perms) (object_fault table.whose t call IsMissing) in
       let both = parts (may_any h (rule_of table call).alternatives) (fault (cover_in t h dir)) e in
       joined (may_any k (rule_of table call).alternatives) (fault (cover_in t k dir))
       (may_within h k w (rule_of table call).alternatives both.0)
       (or_less (cover_fault (cover_in t h dir) (rule_of table call).perms) (cover_fault (cover_in t k dir) (rule_of table call).perms)
-      (object_fault t call IsMissing) (fault_within (in_within w.veils t dir) (rule_of table call).perms) both.1)
+      (object_fault table.whose t call IsMissing) (fault_within (in_within w.veils t dir) (rule_of table call).perms) both.1)
 
   calls_more : (subject : Subject) (call : Call) → Among (calls_on t table h subject) call → Among (calls_on t table k subject) call
   calls_more subject call a =

@@ -6,7 +6,7 @@ use Rattle.std.specs.Prelude.{Option, Some, None, Result, Ok, filter, option_map
 use Rattle.pua_tree.proofs.ForCallers.{same_Ok}
 use Rattle.pua_path.specs.declared.errno.Errno.{Errno}
 use Rattle.pua_calls.specs.Promises.{holds, keyword_at, keyword_if, keyword_rows, promises_of}
-use Rattle.pua_tight.proofs.Asking.{again, one_more}
+use Rattle.pua_tight.proofs.PromisesTogether.{again, one_more}
 
 -- each keyword is read as its bit
 abbrev row_read_as : List ℕ × ℕ → Result ℕ Errno

@@ -24,7 +24,7 @@ use Rattle.pua_script.specs.Limits.{most_processes}
 use Rattle.pua_script.specs.Requests.{Asked}
 use Rattle.pua_script.specs.Family.{is_okay}
 use Rattle.pua_script.specs.Decide.{Change, NoChange, AddNode, CutRow, ShiftRow, TieRow, BeginProgram, AddEvent, CopyAs, Decision, decide}
-use Rattle.pua_script.specs.Decide.{refusals, unless_refused, unless_failed, change_by, adding, link_node, rename_by}
+use Rattle.pua_script.specs.Decide.{refusals, unless_refused, unless_failed, change_by, adding, link_node, rename_by, asks_directory}
 use Rattle.pua_script.specs.Decide.{link_by, fault_if, is_unknown}
 use Rattle.pua_script.specs.Replay.{World, kept_at, Fails, Copies, edit_effect, edited_tree, change_effect, refusal_effect}
 use Rattle.pua_script.specs.Replay.{come_of, answer_to, do_decided, answer_and_world, apply, answers_to, world_after}
@@ -35,14 +35,14 @@ use Rattle.pua_script.specs.declared.request.Action.TheVariants.{OnPath, Symlink
 use Rattle.pua_tight.specs.Narrower.{StateWithin, ProcessesWithin, WorldWithin, AskWithin, AsksWithin, no_asks, asks}
 use Rattle.pua_tight.proofs.Sets.{three_bools}
 use Rattle.pua_tight.proofs.Decided.{easier, granted_more}
-use Rattle.pua_tight.proofs.Rare.{is_rare, rare, checked_plain, path_plain, locked_plain, unknown_plain, object_plain, objects_plain}
-use Rattle.pua_tight.proofs.Rare.{rename_plain, link_plain, veiling_plain}
-use Rattle.pua_tight.proofs.Agreeing.{refused}
-use Rattle.pua_tight.proofs.Between.{between}
+use Rattle.pua_tight.proofs.RareRefusals.{is_rare, rare, checked_plain, path_plain, locked_plain, unknown_plain, object_plain, objects_plain}
+use Rattle.pua_tight.proofs.RareRefusals.{rename_plain, link_plain, veiling_plain}
+use Rattle.pua_tight.proofs.MiddleDecision.{refused}
+use Rattle.pua_tight.proofs.MiddleWorldDecides.{between}
 use Rattle.pua_tight.specs.Tight.{Piece, Line, asks_of, without, answer_number, same_answers, try_piece, thin_line, thin}
 use Rattle.pua_tight.specs.Laws.{IsPieceOf, MayLeaveOut, AreOkay, leave_out, TightIsMinimal}
 use Rattle.pua_tight.proofs.Tightened.{ask_less, ask_self, world_self, tried_same, line_within, thin_same}
-use Rattle.pua_tight.proofs.Less.{ask_mono, is_without, okay_less}
+use Rattle.pua_tight.proofs.WithoutPiece.{ask_mono, is_without, okay_less}
 use Rattle.pua_script.proofs.ForCallers.{one_request_more}
 use Rattle.std.specs.Prelude.{◌&&◌}
 use Rattle.pua_tight.proofs.Worlds.{heads, tails, answered_alike, FoundWithin, never, made, found_within, alike_within, request_keeps, not_okay, gone_or}
@@ -88,15 +88,15 @@ decide_full table t h (Symlink target path) = promise_full (may_any h (rule_of t
     (not_full _ (checked_plain (path_fault target) _ (path_plain target) (object_plain table t h call.Symlink path (adding (link_node target)))))
 decide_full table t h (Rename old new) = promise_full (may_any h table.rename.old.needs.alternatives) _
     (promise_full (may_any h table.rename.new.needs.alternatives) _
-    (not_full _ (objects_plain table.rename t h ending.Dropped old new (λ x y. rename_by refusals t x y (node_named x))
-    (λ x y. rename_plain t x y (node_named x)))))
+    (not_full _ (objects_plain table.whose table.rename t h ending.Dropped old new (λ x y. rename_by refusals t (asks_directory table.whose old new) x y (node_named x))
+    (λ x y. rename_plain t (asks_directory table.whose old new) x y (node_named x)))))
 decide_full table t h (Link old new) = promise_full (may_any h table.link.old.needs.alternatives) _
     (promise_full (may_any h table.link.new.needs.alternatives) _
-    (not_full _ (objects_plain table.link t h ending.Dot old new (λ x y. link_by refusals x y (node_named x)) (λ x y. link_plain x y (node_named x)))))
+    (not_full _ (objects_plain table.whose table.link t h ending.Dot old new (λ x y. link_by refusals x y (node_named x)) (λ x y. link_plain x y (node_named x)))))
 decide_full table t h (Pledge p e) = not_full _ (checked_plain (fault_if (is_unknown p || is_unknown e) EINVAL) _
     (unknown_plain (is_unknown p || is_unknown e)) (beyond_plain _ _))
 decide_full table t h (Unveil path perms) = promise_full (may_any h (unveil ∷ [])) _
-    (not_full _ (checked_plain (fault_if h.locked EPERM) _ (locked_plain h.locked) (veiling_plain t h path perms)))
+    (not_full _ (checked_plain (fault_if h.locked EPERM) _ (locked_plain h.locked) (veiling_plain table.whose t h path perms)))
 decide_full table t h Lock = promise_full (may_any h (unveil ∷ [])) _ refl
 decide_full table t h (Fork new) = promise_full (may_any h (proc ∷ [])) _ refl
 decide_full table t h Exit = refl

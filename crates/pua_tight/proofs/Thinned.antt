@@ -20,8 +20,8 @@ use Rattle.pua_tight.specs.Texts.{stays_in, or_equals, given_text, perms_text, f
 use Rattle.pua_tight.specs.Narrower.{GivenWithin, given_none, given_unknown, given_less, ActionWithin, as_given, less_pledged, less_unveiled}
 use Rattle.pua_tight.proofs.Sets.{holds_self}
 use Rattle.pua_tight.proofs.Tightened.{given_self}
-use Rattle.pua_tight.proofs.Kept.{promise_single, letter_single, left_named, left_within, none_within, all_left, none_left, cut, free}
-use Rattle.pua_tight.proofs.Kept.{pieces_free, pieces_pass, joined_pass, cut_joined}
+use Rattle.pua_tight.proofs.KeptWords.{promise_single, letter_single, left_named, left_within, none_within, all_left, none_left, cut, free}
+use Rattle.pua_tight.proofs.KeptWords.{pieces_free, pieces_pass, joined_pass, cut_joined}
 
 -- a list whose words are none of them empty
 words_named : (field : List ℕ) → has_empty_word field ≡ false → promises_of field ≡ union_of (map promise_of (cut 44 field))

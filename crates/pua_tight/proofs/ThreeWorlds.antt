@@ -6,7 +6,6 @@ use Rattle.std.specs.Map.{lookup}
 use Rattle.pua_tree.specs.Tree.{Tree}
 use Rattle.pua_tree.specs.Edits.{add, tie, cut, shift}
 use Rattle.pua_tree.specs.declared.fault.TreeFault.{TreeFault}
-use Rattle.pua_path.specs.Resolution.{resolution_of_text}
 use Rattle.pua_path.specs.declared.errno.Errno.{Errno}
 use Rattle.pua_path.specs.declared.errno.Errno.TheVariants.{EAGAIN}
 use Rattle.pua_path.specs.declared.found.Found.{Found}
@@ -21,7 +20,7 @@ use Rattle.pua_script.specs.Limits.{most_processes}
 use Rattle.pua_script.specs.Requests.{Asked}
 use Rattle.pua_script.specs.Family.{is_okay}
 use Rattle.pua_script.specs.Decide.{Change, NoChange, AddNode, CutRow, ShiftRow, TieRow, BeginProgram, AddEvent, CopyAs, Decision, decide, decide_by, refusals}
-use Rattle.pua_script.specs.Decide.{on_named}
+use Rattle.pua_script.specs.Decide.{on_named, path_named}
 use Rattle.pua_script.specs.Replay.{World, put_at, Effect, Fails, Kills, Leaves, Copies, edit_effect, edited_tree, change_effect}
 use Rattle.pua_script.specs.Replay.{refusal_effect, come_of, answer_to, left_by, do_decided, answer_and_world, apply}
 use Rattle.pua_script.specs.declared.request.Given.{Given}
@@ -35,9 +34,9 @@ use Rattle.pua_tight.proofs.Sets.{three_bools}
 use Rattle.pua_tight.proofs.Decided.{free, freely}
 use Rattle.pua_tight.proofs.Worlds.{FoundWithin, never, made, found_within, answered_alike, alike_within, not_okay, request_keeps, gone_or}
 use Rattle.pua_tight.proofs.Minimal.{full, decide_full, change_full, same_refusal}
-use Rattle.pua_tight.proofs.Three.{SetThree, three_unset, three_some, StateThree, pledged_three, unveiled_three, after_three, exec_three}
-use Rattle.pua_tight.proofs.Agreeing.{refused}
-use Rattle.pua_tight.proofs.Agree.{agrees}
+use Rattle.pua_tight.proofs.ThreeProcesses.{SetThree, three_unset, three_some, StateThree, pledged_three, unveiled_three, after_three, exec_three}
+use Rattle.pua_tight.proofs.MiddleDecision.{refused}
+use Rattle.pua_tight.proofs.MiddleWorldAnswers.{agrees}
 
 pub data ProcessesThree : List (ℕ × ProcessState) → List (ℕ × ProcessState) → List (ℕ × ProcessState) → Type 0 where
   three_nobody : ProcessesThree [] [] []
@@ -117,9 +116,9 @@ module _ (table : CallTable) (t : Tree) (l m s : ProcessState) (w : StateThree l
   change_three (pledge_three {p = a} {q = b} {r = g} {e = x} {f = y} {g = z} first second) p q r =
       pledge_change first second (freely table t l (Pledge a x) c p) (freely table t m (Pledge b y) d q) (freely table t s (Pledge g z) e r)
   change_three (unveil_three {path = path} {a = a} {b = b} {c = g} has same) p q r =
-      let done : ℕ → ℕ → Decision = λ n dir. on_named refusals.failed (resolution_of_text t dir ending.Dot path Followed)
+      let done : ℕ → ℕ → Decision = λ n dir. on_named refusals.failed (path_named table.whose t dir ending.Dot path Followed)
       (λ object. Granted (AddEvent (Unveiled (place_of object) n))) in
-      veil_change a b g has same (resolution_of_text t s.dir ending.Dot path Followed)
+      veil_change a b g has same (path_named table.whose t s.dir ending.Dot path Followed)
       (ap (done a) (sym (w.dir ∙ later.dir)) ∙ freely table t l (Unveil path (Some a)) c p)
       (ap (done b) (sym later.dir) ∙ freely table t m (Unveil path (Some b)) d q) (freely table t s (Unveil path (Some g)) e r)
 

@@ -30,10 +30,10 @@ use Rattle.pua_tight.specs.Left.{arguments_of, arguments_left, with_arguments, p
 use Rattle.pua_tight.specs.Texts.{as_listing, as_script, text_over, thinned_text, tightened}
 use Rattle.pua_tight.specs.Trials.{Trial, trials_from, all_tried}
 use Rattle.pua_tight.specs.Uses.{WordUse, use_by, uses, uses_over, words_from}
-use Rattle.pua_tight.proofs.Asking.{one_more}
+use Rattle.pua_tight.proofs.PromisesTogether.{one_more}
 use Rattle.pua_tight.proofs.OneByOne.{tried_one_by_one}
-use Rattle.pua_tight.proofs.Pieces.{scripts_are_tightened}
-use Rattle.pua_tight.proofs.Served.{dropped, gone_by}
+use Rattle.pua_tight.proofs.MayBeLeftOut.{scripts_are_tightened}
+use Rattle.pua_tight.proofs.FirstOtherAnswer.{dropped, gone_by}
 use Rattle.pua_tight.proofs.Tightened.{tightens}
 
 -- the lines of a script by what it was answered

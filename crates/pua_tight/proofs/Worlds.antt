@@ -260,7 +260,7 @@ module _ (table : CallTable) (h k : ProcessState) (w : StateWithin h k) (t : Tre
       joined (may_any k (rule_of table call).alternatives) (found_fault t table k call object)
       (may_within h k w (rule_of table call).alternatives both.0)
       (or_less (cover_fault (cover t h object) (rule_of table call).perms) (cover_fault (cover t k object) (rule_of table call).perms)
-      (object_fault t call (object_of t object)) (fault_within (cover_within w.veils t object) (rule_of table call).perms) both.1)
+      (object_fault table.whose t call (object_of t object)) (fault_within (cover_within w.veils t object) (rule_of table call).perms) both.1)
   found_more (Err errno) e = failed (may_any h (rule_of table call).alternatives) errno e
 
 pub allows_no_more : WithinAllowsNoMore

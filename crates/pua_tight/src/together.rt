@@ -1,5 +1,5 @@
-//! Trials of several words at once: what a script is answered as before without all of, it is
-//! answered as before without each.
+//! Trials of several words at once: a script that is answered as before without all of some words
+//! is answered as before without each of them.
 
 ghost use Rattle.std.specs.Prelude.{◌≡◌, ◌≤◌, ◌<◌, IfOk, if◌then◌else◌, length};
 ghost use Rattle.pua_script.specs.Replay.{answers_to, new_world};

@@ -1,4 +1,4 @@
-//! What a script is wanted to be answered, and where it is first answered otherwise.
+//! The answers that a script has to keep, and the first line that is answered otherwise.
 
 ghost use Rattle.std.specs.Prelude.{◌≡◌, IfOk};
 ghost use Rattle.pua_script.specs.Replay.{answers_to, new_world};
@@ -10,7 +10,7 @@ use pua_script::{Answer, Request, Script, World, WorldFault};
 use pua_tree::{CopiedTree, OutOfMemory, SlabTree};
 use std::alloc::Global;
 
-/// A tree, a table, and what a script is answered by it over that tree. The only error of its
+/// A tree, a table, and the answers of a script by this table over that tree. The only error of its
 /// functions is that a growth was refused.
 #[derive(Drop)]
 pub(crate) struct Wanted<'a> {
@@ -72,7 +72,7 @@ fn begun(alloc: Global, tree: &SlabTree, table: &CallTable) -> Result<World<Slab
 }
 
 /// Gives back the memory of a world: one call, where the world's drop would else be walked and
-/// proved at each exit behind it.
+/// proved at each exit after it.
 fn release(world: World<SlabTree>) {}
 
 /// Serves requests in a world up to the first that is answered otherwise than is wanted, and

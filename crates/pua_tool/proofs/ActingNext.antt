@@ -7,7 +7,7 @@ use Rattle.std.proofs.lemmas.List.{drop_more, map-append}
 use Rattle.std.specs.Prelude.{ok_or}
 use Rattle.pua_policy.specs.States.{is_ended}
 use Rattle.pua_ever.specs.Refusals.{refusal}
-use Rattle.pua_ever.specs.declared.refusal.Refusal.{Refusal}
+use Rattle.pua_ever.specs.declared.refusal.EverRefusal.{EverRefusal}
 use Rattle.pua_texts.specs.Members.{named_by}
 use Rattle.pua_texts.specs.TogetherLines.{living}
 use Rattle.pua_texts.specs.declared.members.Member.{Member}
@@ -85,7 +85,7 @@ module _ (members : List Member) (member : Member) (i : ℕ) (within : i < lengt
     refused_next none = ap (λ why. refused_or member.number why (first_refused table (named_by more))) none
         ∙ ap (λ ms. first_refused table (named_by ms)) next
 
-    pub refused_here : (reason : Refusal) → Some reason ≡ refusal table member.process.now →
+    pub refused_here : (reason : EverRefusal) → Some reason ≡ refusal table member.process.now →
         Some (ever_fault member.number reason) ≡ first_refused table (named_by (drop i members))
     refused_here reason some = ap (λ why. refused_or member.number why (first_refused table (named_by more))) some
         ∙ ap (λ ms. first_refused table (named_by ms)) next

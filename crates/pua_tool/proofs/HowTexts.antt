@@ -12,9 +12,9 @@ use Rattle.pua_calls.specs.Calls.{call_in}
 use Rattle.pua_calls.specs.declared.call.Call.{Call}
 use Rattle.pua_calls.specs.declared.rules.Rules.{Rules}
 use Rattle.pua_ever.specs.Refusals.{refusal}
-use Rattle.pua_ever.specs.declared.refusal.Refusal.{Refusal}
+use Rattle.pua_ever.specs.declared.refusal.EverRefusal.{EverRefusal}
 use Rattle.pua_script.specs.Scripts.{request_by}
-use Rattle.pua_how.specs.Asking.{Asking, asking_of, targets_of}
+use Rattle.pua_how.specs.PathQuestion.{PathQuestion, path_question, targets_of}
 use Rattle.pua_how.specs.Outlooks.{IsOutlook}
 use Rattle.pua_how.specs.Served.{AreWay, IsLine, asks_of}
 use Rattle.pua_how.specs.Steps.{NoneComes, nothing_laid}
@@ -23,24 +23,24 @@ use Rattle.pua_how.specs.declared.line.WayLine.{WayLine}
 use Rattle.pua_how.specs.declared.target.Target.{Target}
 use Rattle.pua_how.specs.declared.way.NoWay.{NoWay}
 use Rattle.pua_tool.specs.EverTexts.{ever_fault}
-use Rattle.pua_tool.specs.HowTexts.{HowWanted, IsFoundFor, IsHowAfter, IsHowAsked, IsHowText, IsWayTo, Question, follows_link, question_of}
+use Rattle.pua_tool.specs.HowTexts.{HowWanted, IsFoundFor, IsHowAfter, IsHowAsked, IsHowText, IsWayTo, HowQuestion, follows_link, question_of}
 use Rattle.pua_tool.specs.HowTexts.{some_thing, things_asked, told_without, way_text}
 use Rattle.pua_tool.specs.Questions.{AreMeant, AreWayTo, IsQuestion, found_text}
 use Rattle.pua_tool.specs.declared.fault.ToolFault.TheVariants.{NoProcess, HowCall, HowPath, HowThing}
-use Rattle.pua_tool.specs.declared.how.Question as given
+use Rattle.pua_tool.specs.declared.how.HowQuestion as given
 use Rattle.pua_tool.specs.declared.script.Replay.{Replay}
 use Rattle.pua_tool.proofs.TextAnswers.{answers_refused}
 
 -- ---- what may be meant
 
 module _ (t : Tree) (h : ProcessState) (wanted : HowWanted) (last : ℕ) where
-  abbrev of_asking : Option Asking → Result (List Target) ToolFault
+  abbrev of_asking : Option PathQuestion → Result (List Target) ToolFault
   of_asking asking = ok_or asking HowPath >>= λ asking. some_thing (targets_of t h last asking wanted.kind)
 
-  pub bad_path : asking_of wanted.path ≡ None → things_asked t h wanted last ≡ Err HowPath
+  pub bad_path : path_question wanted.path ≡ None → things_asked t h wanted last ≡ Err HowPath
   bad_path unread = ap of_asking unread
 
-  module _ (asking : Asking) (things : List Target) (read : asking_of wanted.path ≡ Some asking)
+  module _ (asking : PathQuestion) (things : List Target) (read : path_question wanted.path ≡ Some asking)
       (are : things ≡ targets_of t h last asking wanted.kind) where
     pub none_meant : length things ≡ 0 → things_asked t h wanted last ≡ Err HowThing
     none_meant none = ap of_asking read ∙ ap some_thing (sym are) ∙ by things none
@@ -68,7 +68,7 @@ module _ (done : Replayed) (wanted : HowWanted) (last : ℕ) where
   pub no_process : kept_at done.world wanted.process ≡ None → question_of done wanted last ≡ Err NoProcess
   no_process here = rw here refl
 
-  pub no_list : (h : ProcessState) (reason : Refusal) → kept_at done.world wanted.process ≡ Some h → refusal done.table h ≡ Some reason →
+  pub no_list : (h : ProcessState) (reason : EverRefusal) → kept_at done.world wanted.process ≡ Some h → refusal done.table h ≡ Some reason →
       question_of done wanted last ≡ Err (ever_fault wanted.process reason)
   no_list h reason here some = rw here (rw some refl)
 
@@ -86,7 +86,7 @@ module _ (done : Replayed) (wanted : HowWanted) (last : ℕ) where
     last = last;
     found = None;
     sound = λ q is may. (nothing_laid, nothing_comes rules done.table wanted.process q.call q.things done.world);
-    is = sym (ap (λ (r : Result Question ToolFault). r >>= λ q. Ok (way_text done q None)) refused);
+    is = sym (ap (λ (r : Result HowQuestion ToolFault). r >>= λ q. Ok (way_text done q None)) refused);
   }
 
 -- ---- behind the replay
@@ -126,8 +126,8 @@ read_all : (rules : Rules) (process : ℕ) (lines : List WayLine) → AllByRecur
 read_all rules process [] all = refl
 read_all rules process (line ∷ lines) all = λ i. all.0.read i ∷ read_all rules process lines all.1 i
 
-module _ (rules : Rules) (done : Replayed) (wanted : HowWanted) (q : given.Question) (is : IsQuestion done wanted q) where
-  abbrev there : Question
+module _ (rules : Rules) (done : Replayed) (wanted : HowWanted) (q : given.HowQuestion) (is : IsQuestion done wanted q) where
+  abbrev there : HowQuestion
   there = record { process = is.process; call = q.call; things = q.meant.targets.items }
 
   way_for : (lines : List WayLine) → AreWayTo rules done wanted.process q lines →
@@ -155,10 +155,10 @@ module _ (rules : Rules) (done : Replayed) (wanted : HowWanted) (q : given.Quest
     last = is.last;
     found = texts;
     sound = λ other asked.
-        subst (λ (x : Question). IsFoundFor rules done wanted.process is.last x texts) (same_Ok there other (sym is.asked ∙ asked)) found;
+        subst (λ (x : HowQuestion). IsFoundFor rules done wanted.process is.last x texts) (same_Ok there other (sym is.asked ∙ asked)) found;
     is =
         ap Ok (told ∙ text_is texts)
-        ∙ sym (ap (λ (r : Result Question ToolFault). r >>= λ x. Ok (way_text done x texts)) is.asked);
+        ∙ sym (ap (λ (r : Result HowQuestion ToolFault). r >>= λ x. Ok (way_text done x texts)) is.asked);
   }
 
   -- where no line has the call, none is looked for
@@ -181,7 +181,7 @@ module _ (rules : Rules) (done : Replayed) (wanted : HowWanted) (q : given.Quest
 
 -- ---- what the code keeps of a question
 
-module _ (done : Replayed) (wanted : HowWanted) (q : given.Question) (h : ProcessState) (t : Tree) (table : CallTable) where
+module _ (done : Replayed) (wanted : HowWanted) (q : given.HowQuestion) (h : ProcessState) (t : Tree) (table : CallTable) where
   abbrev things : List Target
   things = q.meant.targets.items
 
@@ -228,7 +228,7 @@ module _ {A : Type 0} (written : A → Option (List ℕ)) (failed : A → ℕ) (
 -- ---- what was found
 
 -- what plans came to in copies of the world that the script left
-module _ {V : Type 0} (items : V → List WayLine) (rules : Rules) (replay : Replay) (process : ℕ) (q : given.Question) where
+module _ {V : Type 0} (items : V → List WayLine) (rules : Rules) (replay : Replay) (process : ℕ) (q : given.HowQuestion) where
   pub served_found : (found : Result V NoWay) →
       IfOk found (λ v. (thing : Target) × Contains q.meant.targets.items thing × AreWay rules replay.world process q.call thing (items v)) →
       IfOk found (λ v. AreWayTo rules (as_replayed replay) process q (items v))

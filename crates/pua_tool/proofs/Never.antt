@@ -23,30 +23,30 @@ use Rattle.pua_ever.specs.Refusals.{refusal}
 use Rattle.pua_ever.specs.Through.{ever_lasting, execs_of}
 use Rattle.pua_ever.specs.declared.lasting_list.ExecBound.{ExecBound}
 use Rattle.pua_ever.specs.declared.lasting_list.ExecBound.TheVariants.{Never, Bounded, Open}
-use Rattle.pua_ever.specs.declared.refusal.Refusal.{Refusal}
+use Rattle.pua_ever.specs.declared.refusal.EverRefusal.{EverRefusal}
 use Rattle.pua_ever.proofs.ForCallers.{any_among, unrefused_process}
-use Rattle.pua_how.specs.Asking.{Asking, asking_of, targets_of}
+use Rattle.pua_how.specs.PathQuestion.{PathQuestion, path_question, targets_of}
 use Rattle.pua_how.specs.Targets.{IsGiven, IsLast, is_listed}
 use Rattle.pua_how.specs.declared.target.Target.{Target}
 use Rattle.pua_how.proofs.ForCallers.{all_given, any_listed, lasting_lives, listed_alike, unforeseen}
 use Rattle.pua_tool.specs.EverTexts.{ever_fault}
 use Rattle.pua_tool.specs.Forever.{IsForeseenBehind}
-use Rattle.pua_tool.specs.HowTexts.{HowWanted, IsFoundFor, IsHowAfter, IsHowAsked, IsHowText, Question, follows_link, may_come, question_of}
+use Rattle.pua_tool.specs.HowTexts.{HowWanted, IsFoundFor, IsHowAfter, IsHowAsked, IsHowText, HowQuestion, follows_link, may_come, question_of}
 use Rattle.pua_tool.specs.HowTexts.{some_thing, things_asked, told_without, unless_followed, unless_refused, way_text}
 use Rattle.pua_tool.specs.Never.{IsNeverTold, NeverAsWritten, NeverComesBehind, NeverComesTo, before_exec_line, never_line}
 use Rattle.pua_tool.specs.declared.fault.ToolFault.TheVariants.{NoProcess, HowCall, HowPath, HowThing, HowLink}
 use Rattle.pua_tool.proofs.Replays.{replayed_is}
-use Rattle.pua_tool.proofs.Written.{foreseen_behind}
+use Rattle.pua_tool.proofs.EverTextForesees.{foreseen_behind}
 
 -- ---- what is asked about
 
-record IsAskedIn (done : Replayed) (wanted : HowWanted) (last : ℕ) (q : Question) : Type 0 where
+record IsAskedIn (done : Replayed) (wanted : HowWanted) (last : ℕ) (q : HowQuestion) : Type 0 where
   here : kept_at done.world wanted.process ≡ Some q.process
   unrefused : refusal done.table q.process ≡ None
   named : call_in done.table wanted.call ≡ Some q.call
   meant : things_asked done.world.tree q.process wanted last ≡ Ok q.things
 
-asked_in : (done : Replayed) (wanted : HowWanted) (last : ℕ) (q : Question) → question_of done wanted last ≡ Ok q → IsAskedIn done wanted last q
+asked_in : (done : Replayed) (wanted : HowWanted) (last : ℕ) (q : HowQuestion) → question_of done wanted last ≡ Ok q → IsAskedIn done wanted last q
 asked_in done wanted last q e =
     let t = done.world.tree in
     let kept = step_read (ok_or (kept_at done.world wanted.process) NoProcess) _ q e in
@@ -63,17 +63,17 @@ asked_in done wanted last q e =
       meant = things.1;
     })
   where
-    none : (o : Option Refusal) (u : Unit {0}) → unless_refused wanted.process o ≡ Ok u → o ≡ None
+    none : (o : Option EverRefusal) (u : Unit {0}) → unless_refused wanted.process o ≡ Ok u → o ≡ None
     none None u e = refl
     none (Some reason) u e = absurd (Err≢Ok (ever_fault wanted.process reason) u e)
 
 -- how they were found
 asked_by : (t : Tree) (h : ProcessState) (wanted : HowWanted) (last : ℕ) (things : List Target) → things_asked t h wanted last ≡ Ok things →
-    (asking : Asking) × (asking_of wanted.path ≡ Some asking) × (targets_of t h last asking wanted.kind ≡ things)
+    (asking : PathQuestion) × (path_question wanted.path ≡ Some asking) × (targets_of t h last asking wanted.kind ≡ things)
 asked_by t h wanted last things e =
-    let asking = step_read (ok_or (asking_of wanted.path) HowPath) _ things e in (
+    let asking = step_read (ok_or (path_question wanted.path) HowPath) _ things e in (
       asking.0,
-      ok_or_read (asking_of wanted.path) HowPath asking.0 asking.1,
+      ok_or_read (path_question wanted.path) HowPath asking.0 asking.1,
       some (targets_of t h last asking.0 wanted.kind) asking.2,
     )
   where
@@ -182,7 +182,7 @@ module _ (choice : Chosen) (tree_bytes script_bytes : List ℕ) (table : CallTab
   left = replays_keep_byte_trees table (new_world t) first (listings_list_byte_trees tree_bytes t read)
       (scripts_ask_in_bytes choice.rules script_bytes first scripted)
 
-  module _ (last : ℕ) (q : Question) (asked : question_of done wanted last ≡ Ok q)
+  module _ (last : ℕ) (q : HowQuestion) (asked : question_of done wanted last ≡ Ok q)
       (told : with_end (told_without (may_come done q) (execs_of w.tree table q.process)) ≡ text) where
     is : IsAskedIn done wanted last q
     is = asked_in done wanted last q asked
@@ -236,7 +236,7 @@ module _ (choice : Chosen) (tree_bytes script_bytes : List ℕ) (table : CallTab
       let q = step_read (question_of done wanted a.last) _ text (sym a.is) in
       by a.last q.0 q.1 a.found (a.sound q.0 q.1) (same_Ok _ text q.2)
     where
-      by : (last : ℕ) (q : Question) → question_of done wanted last ≡ Ok q → (found : Option (List (List ℕ))) →
+      by : (last : ℕ) (q : HowQuestion) → question_of done wanted last ≡ Ok q → (found : Option (List (List ℕ))) →
           IsFoundFor choice.rules done wanted.process last q found → way_text done q found ≡ text → IsNeverTold table t first wanted text
       by last q asked None sound told = is_never last q asked told
       by last q asked (Some lines) way told = absurd (no way.asks way.read says)

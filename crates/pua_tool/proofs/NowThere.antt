@@ -16,7 +16,7 @@ use Rattle.pua_objects.specs.Objects.{Subject, At, Others}
 use Rattle.pua_objects.specs.declared.kind.ObjectKind.{ObjectKind}
 use Rattle.pua_objects.specs.declared.kind.ObjectKind.TheVariants as kind
 use Rattle.pua_ever.specs.Ever.{Thing, Stands, Comes}
-use Rattle.pua_how.specs.Asking.{directory_at_name, thing_word}
+use Rattle.pua_how.specs.PathQuestion.{directory_at_name, thing_word}
 use Rattle.pua_how.proofs.ForCallers.{IsDirBy, IsPlaced, kind_is, node_kind, spot_by, spot_in}
 use Rattle.pua_tool.specs.RowColumns.{is_now_on, is_there}
 use Rattle.pua_tool.specs.EverHowTexts.{is_now, subject_at, subject_in, subject_now, subject_there}

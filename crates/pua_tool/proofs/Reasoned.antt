@@ -49,11 +49,11 @@ use Rattle.pua_why.specs.Truths.{RequestFaultHolds}
 use Rattle.pua_why.proofs.ForCallers.{full_trees_are_full, reasons_give_answers, reasons_since, request_faults_hold, since_holds, so_at_first}
 use Rattle.pua_texts.specs.ObjectLines.{heading_now}
 use Rattle.pua_texts.specs.States.{head_lines}
-use Rattle.pua_texts.specs.WhyLines.{Posed, covering_of, why_line, why_list, why_lists_of, world_left}
+use Rattle.pua_texts.specs.WhyLines.{ServedScript, covering_of, why_line, why_list, why_lists_of, world_left}
 use Rattle.pua_words.specs.declared.command.Processes.TheVariants.{One}
 use Rattle.pua_tool.specs.Reasoned.{AreReasonsTold, IsCovered, IsLineReasoned, IsListReasoned, IsReasonTold, IsRunReasoned, IsVeilTold}
 use Rattle.pua_tool.specs.Reasoned.{ReasonHolds, ReasonsAsWritten, reasoned_line}
-use Rattle.pua_tool.specs.WhyTexts.{objects_why_text, posed_script, reason_lines, run_why_text, why_lists_asked}
+use Rattle.pua_tool.specs.WhyTexts.{objects_why_text, served_script, reason_lines, run_why_text, why_lists_asked}
 use Rattle.pua_tool.specs.declared.fault.ToolFault.TheVariants.{NoProcess}
 use Rattle.pua_tool.proofs.ListWritten.{behind, in_lines}
 use Rattle.pua_tool.proofs.WhyTexts.{posed_is}
@@ -244,17 +244,17 @@ veil_told table t asks process h here NoneOver kept = refl
 
 module _ (choice : Chosen) (tree_bytes script_bytes : List ℕ) (table : CallTable) (t : Tree) (asks : List Asked) (text : List ℕ)
     (given : table_by choice ≡ Ok table) (read : listing tree_bytes ≡ Ok t) (scripted : script_by choice.rules script_bytes ≡ Ok asks) where
-  abbrev posed : Posed
-  posed = record { table = table; world = new_world t; asks = asks }
+  abbrev served : ServedScript
+  served = record { table = table; world = new_world t; asks = asks }
 
   abbrev left : World
-  left = world_left posed
+  left = world_left served
 
   abbrev lines : List (List ℕ)
   lines = why_lines choice.rules table (new_world t) [] 1 asks
 
-  is_posed : posed_script choice tree_bytes script_bytes ≡ Ok posed
-  is_posed = posed_is choice tree_bytes script_bytes table t asks given (ap as_listing read) (ap as_script scripted)
+  is_served : served_script choice tree_bytes script_bytes ≡ Ok served
+  is_served = posed_is choice tree_bytes script_bytes table t asks given (ap as_listing read) (ap as_script scripted)
 
   told : AreReasonsTold choice.rules table (new_world t) [] asks lines
   told = lines_told choice.rules table (new_world t) (listings_list_byte_trees tree_bytes t read) asks [] 1 refl
@@ -263,22 +263,22 @@ module _ (choice : Chosen) (tree_bytes script_bytes : List ℕ) (table : CallTab
   run_reasoned : run_why_text choice tree_bytes script_bytes ≡ Ok text → IsRunReasoned choice.rules table t asks text
   run_reasoned is = record {
     lines = lines;
-    is_text = sym (same_Ok (reason_lines choice.rules posed) text
-        ((λ i. sym is_posed i >>= λ p. Ok (reason_lines choice.rules p)) ∙ is));
+    is_text = sym (same_Ok (reason_lines choice.rules served) text
+        ((λ i. sym is_served i >>= λ p. Ok (reason_lines choice.rules p)) ∙ is));
     told = told;
   }
 
   module _ (process : ℕ) (is : objects_why_text choice tree_bytes script_bytes (One process) ≡ Ok text) where
     abbrev asked_by : Option ProcessState → Result (List ℕ) ToolFault
     asked_by made = (if is_some made && true then Ok (process ∷ []) else Err NoProcess)
-        >>= λ numbers. Ok (reason_lines choice.rules posed ++ why_lists_of choice.rules posed numbers)
+        >>= λ numbers. Ok (reason_lines choice.rules served ++ why_lists_of choice.rules served numbers)
 
     after : asked_by (kept_at left process) ≡ Ok text
     unfolding objects_why_text
-    after = (λ i. sym is_posed i >>= λ p. why_lists_asked choice.rules p (One process)) ∙ is
+    after = (λ i. sym is_served i >>= λ p. why_lists_asked choice.rules p (One process)) ∙ is
 
     abbrev own : ProcessState → List ℕ
-    own h = why_list (heading_now choice.rules process) posed h
+    own h = why_list (heading_now choice.rules process) served h
 
     abbrev front : List ℕ
     front = flat_map with_end lines
@@ -288,7 +288,7 @@ module _ (choice : Chosen) (tree_bytes script_bytes : List ℕ) (table : CallTab
       where
         whole : (h : ProcessState) → kept_at left process ≡ Some h → text ≡ front ++ own h
         whole h here =
-            sym (same_Ok (reason_lines choice.rules posed ++ why_lists_of choice.rules posed (process ∷ [])) text (sym (ap asked_by here) ∙ after))
+            sym (same_Ok (reason_lines choice.rules served ++ why_lists_of choice.rules served (process ∷ [])) text (sym (ap asked_by here) ∙ after))
             ∙ ap (λ made. front ++ (option_map_or own made [] ++ [])) here ∙ ap (λ list. front ++ list) (append-nil (own h))
 
         line_reasoned : (h : ProcessState) → kept_at left process ≡ Some h → (line : Line) → Contains (objects left.tree table h) line →
@@ -296,13 +296,13 @@ module _ (choice : Chosen) (tree_bytes script_bytes : List ℕ) (table : CallTab
         line_reasoned h here line listed =
             let over = covering_of left.tree h line.subject in
             let head = head_lines left.tree (heading_now choice.rules process) h in
-            let found = in_lines (why_line posed process h) (objects left.tree table h) line listed in
+            let found = in_lines (why_line served process h) (objects left.tree table h) line listed in
             record {
               over = over;
               stands = (
                 front ++ head ++ found.0,
                 found.1,
-                whole h here ∙ ap (λ lines. front ++ (head ++ lines)) found.2 ∙ behind front head found.0 (why_line posed process h line) found.1,
+                whole h here ∙ ap (λ lines. front ++ (head ++ lines)) found.2 ∙ behind front head found.0 (why_line served process h line) found.1,
               );
               rests = line_rests table left.tree h line listed;
               covered = line_covered table left.tree h line.subject;

@@ -2,7 +2,7 @@
 use Rattle.pua_tool.proofs.Common.{◌≡◌, ℕ, List, [], ◌∷◌, ◌++◌, ◌∙◌, arith, map, refl, sym, subst, ap, ProcessState, Replayed, Option, Some, None}
 use Rattle.pua_tool.proofs.Common.{CallTable, Tree, Result, Ok, Err, as_replayed, with_end}
 use Rattle.std.proofs.Common.{Bool, true, false, cond, length, ◌+◌, ◌<◌, take, get_or, zero, suc, inl, inr}
-use Rattle.std.specs.Prelude.{IfSome, filter, is_none, is_some, not, option_map, ◌&&◌}
+use Rattle.std.specs.Prelude.{IfOk, IfSome, filter, is_none, is_some, not, option_map, ◌&&◌}
 use Rattle.std.specs.List.{AllByRecursion, Contains}
 use Rattle.std.proofs.lemmas.List.{length-map, take_more}
 use Rattle.std.proofs.lemmas.List.Elements.{filter_agree}
@@ -36,8 +36,8 @@ use Rattle.pua_ever.specs.declared.line.EverThing.TheVariants as told
 use Rattle.pua_ever.specs.declared.list.EverAbout.TheVariants as ever_about
 use Rattle.pua_ever.specs.declared.list.EverRow.{EverRow}
 use Rattle.pua_ever.specs.declared.made.Made.{Made}
-use Rattle.pua_how.specs.Asking.{Asking, asking_by, targets_of, thing_word}
-use Rattle.pua_how.specs.Served.{AreWay, asks_of}
+use Rattle.pua_how.specs.PathQuestion.{PathQuestion, question_by, targets_of, thing_word}
+use Rattle.pua_how.specs.Served.{AreWay, Tried, asks_of}
 use Rattle.pua_how.specs.Steps.{NoneComes, nothing_laid}
 use Rattle.pua_how.specs.Targets.{IsLast, target_about}
 use Rattle.pua_how.proofs.ForCallers.{IsPlaced, lasting_placed, meant, nothing_comes}
@@ -46,8 +46,9 @@ use Rattle.pua_how.specs.declared.target.Target.{Target}
 use Rattle.pua_how.specs.declared.way.NoWay.{NoWay}
 use Rattle.pua_texts.specs.EverHowLines.{AreToldWith, has_calls_with}
 use Rattle.pua_texts.specs.EverLines.{kind_of}
+use Rattle.pua_tool.specs.declared.columns.Behind.{Behind}
 use Rattle.pua_tool.specs.declared.script.Replay.{Replay}
-use Rattle.pua_tool.specs.RowColumns.{AreColumns, AreStepsTo, IsColumnAt, IsColumnOf, IsCountTo, is_now_on, is_there}
+use Rattle.pua_tool.specs.RowColumns.{AreColumns, AreStepsTo, IsColumnAt, IsColumnOf, IsCountTo, done_behind, is_now_on, is_there, tried_behind}
 use Rattle.pua_tool.specs.EverHowTexts.{IsColumn, IsCount, counts_text, is_now, lacking}
 use Rattle.pua_tool.proofs.NowThere.{now_meant}
 
@@ -63,6 +64,17 @@ steps_of rules replay process things call thing lines meant way = record {
   way = way.way;
   long = length-map lines (λ line. line.request);
 }
+
+-- lines that were counted
+pub counted_steps : (behind : Behind) (tried : Tried) → tried ≡ tried_behind behind → (things : List Target) (call : Call) (counted : Result ℕ NoWay) →
+    IfOk counted (λ count. (thing : Target) × Contains things thing × (lines : List WayLine)
+    × AreWay tried.rules tried.world tried.process call thing lines × (length lines ≡ count)) →
+    IfOk counted (AreStepsTo (done_behind behind) behind.number things call)
+counted_steps behind tried is things call (Ok count) way =
+    subst (AreStepsTo (done_behind behind) behind.number things call) way.4
+    (steps_of behind.rules behind.replay.now behind.number things call way.0 way.2 way.1
+    (subst (λ (t : Tried). AreWay t.rules t.world t.process call way.0 way.2) is way.3))
+counted_steps behind tried is things call (Err none) way = tt
 
 -- what is among one thing alone
 alone : {A : Type 0} (x y : A) → Contains (x ∷ []) y → x ≡ y
@@ -126,14 +138,6 @@ item_there t (subject.Name dir name) = by (look t dir name.now) refl
     by : (o : Option ℕ) → look t dir name.now ≡ o → is_there t (At (Slot dir name.now o)) ≡ true
     by None none = ap is_none none
     by (Some node) some = refl
-
-module _ (t : Tree) (h : ProcessState) where
-  -- what holds of what stands there holds of what a row is about
-  pub by_standing : (about : Thing) (object : seen.Object) (cover : Cover) (P : Thing → Type 0) (o : Option Subject) →
-      ((subject : Subject) → o ≡ Some subject → IsStandingOn t h object cover subject → P (Stands subject)) →
-      IfSome o (IsStandingOn t h object cover) → option_map Stands o ≡ Some about → P about
-  by_standing about object cover P None each on is = absurd (None≢Some about is)
-  by_standing about object cover P (Some subject) each on is = subst P (same_Some (Stands subject) about is) (each subject refl on)
 
 module _ (t : Tree) (table : CallTable) (h : ProcessState) where
   taken : (o : Option ℕ) → is_some o ≡ true → is_none o ≡ false
@@ -229,7 +233,7 @@ module _ (rules : Rules) (done : Replayed) (process : ℕ) (h : ProcessState) wh
 
 module _ (rules : Rules) (done : Replayed) (process : ℕ) (h : ProcessState) where
   -- steps to a thing are steps to what a path and a kind mean, where that is the thing alone
-  module _ (asking : Asking) (kind : ObjectKind) (last : ℕ) (own : Target) (above : IsLast done.world.tree last)
+  module _ (asking : PathQuestion) (kind : ObjectKind) (last : ℕ) (own : Target) (above : IsLast done.world.tree last)
       (mean : targets_of done.world.tree h last asking (Some kind) ≡ own ∷ []) where
     count_of : (call : Call) (found : Result ℕ NoWay) → IsCountTo rules done process own (call, found) →
         IsCount rules done process h asking kind (call, found)
@@ -263,7 +267,7 @@ module _ (rules : Rules) (done : Replayed) (process : ℕ) (h : ProcessState) wh
         column.calls
         ∙ (λ i. filter (λ call. not (now_meant done.world.tree h done.table line.word line.thing placed column.kind column.told call i)) line.calls);
     counted =
-        counts_of (asking_by line.word line.thing) column.kind column.last (target_about column.last line.thing) column.above
+        counts_of (question_by line.word line.thing) column.kind column.last (target_about column.last line.thing) column.above
         (meant done.world.tree h line.word line.thing placed column.kind column.told column.last) column.counts column.counted;
     is = column.is;
   }
@@ -303,7 +307,7 @@ of_thing t (Comes NewFile) = (kind.Node node.File, refl)
 of_thing t (Comes NewLink) = (kind.Node node.Link, refl)
 
 module _ (rules : Rules) (done : Replayed) (process : ℕ) (h : ProcessState) where
-  uncounted : (about : Asking) (kind : ObjectKind) (cs : List Call) →
+  uncounted : (about : PathQuestion) (kind : ObjectKind) (cs : List Call) →
       AllByRecursion (IsCount rules done process h about kind) (map (λ call. (call, Err nothing_laid)) cs)
   uncounted about kind [] = tt
   uncounted about kind (c ∷ cs) =
@@ -325,7 +329,7 @@ module _ (rules : Rules) (done : Replayed) (process : ℕ) (h : ProcessState) wh
           told = kind.1;
           counts = counts;
           calls = same_calls cs;
-          counted = uncounted (asking_by line.word line.thing) kind.0 cs;
+          counted = uncounted (question_by line.word line.thing) kind.0 cs;
           is = refl;
         },
       )

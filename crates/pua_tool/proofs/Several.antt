@@ -15,7 +15,7 @@ use Rattle.pua_ever.specs.Ever.{EverLine, ever_line_text}
 use Rattle.pua_ever.specs.Refusals.{refusal}
 use Rattle.pua_ever.specs.Through.{ever_lasting, execs_of}
 use Rattle.pua_ever.specs.Together.{ActTogether, IsOneOf, TogetherAfterRead, joined}
-use Rattle.pua_ever.specs.declared.refusal.Refusal.{Refusal}
+use Rattle.pua_ever.specs.declared.refusal.EverRefusal.{EverRefusal}
 use Rattle.pua_ever.proofs.ForCallers.{unrefused_table, unrefused_process}
 use Rattle.pua_texts.specs.EverLines.{heading_ever}
 use Rattle.pua_texts.specs.States.{bound_lines, veil_lines}
@@ -71,7 +71,7 @@ are_unrefused : (table : CallTable) (w : World) (members : List Member) → firs
 are_unrefused table w [] none all = tt
 are_unrefused table w (m ∷ ms) none all = by (refusal table m.1) refl none (λ e. are_unrefused table w ms e all.1)
   where
-    by : (o : Option Refusal) → refusal table m.1 ≡ o → refused_or m.0 o (first_refused table ms) ≡ None →
+    by : (o : Option EverRefusal) → refusal table m.1 ≡ o → refused_or m.0 o (first_refused table ms) ≡ None →
         (first_refused table ms ≡ None → AllByRecursion (IsUnrefused table w) ms) → AllByRecursion (IsUnrefused table w) (m ∷ ms)
     by (Some reason) is e later = absurd (Some≢None (ever_fault m.0 reason) e)
     by None is e later = ((all.0, is), later e)

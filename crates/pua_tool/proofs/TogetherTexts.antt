@@ -7,8 +7,8 @@ use Rattle.pua_tree.proofs.ForCallers.{None≢Some, Some≢None, same_Some}
 use Rattle.pua_policy.specs.States.{ProcessState, is_ended}
 use Rattle.pua_ever.specs.Refusals.{can_unveil, changing_calls, lacks_c, refusal, table_refusal}
 use Rattle.pua_ever.specs.Together.{joined}
-use Rattle.pua_ever.specs.declared.refusal.Refusal.{Refusal}
-use Rattle.pua_ever.specs.declared.refusal.Refusal.TheVariants.{CanUnveil}
+use Rattle.pua_ever.specs.declared.refusal.EverRefusal.{EverRefusal}
+use Rattle.pua_ever.specs.declared.refusal.EverRefusal.TheVariants.{CanUnveil}
 use Rattle.pua_texts.specs.TogetherLines.{living, one_for}
 use Rattle.pua_tool.specs.EverTexts.{ever_fault}
 use Rattle.pua_tool.specs.TogetherTexts.{first_refused, other_veils, refused_or, together_fault}
@@ -20,7 +20,7 @@ unrefused table [] first more none is = absurd (omega (arith, ap length is))
 unrefused table (m ∷ ms) first more none is =
     by (refusal table m.1) refl (is_ended m.1) refl (unrefused table ms first more)
   where
-    by : (o : Option Refusal) → refusal table m.1 ≡ o → (b : Bool) → is_ended m.1 ≡ b →
+    by : (o : Option EverRefusal) → refusal table m.1 ≡ o → (b : Bool) → is_ended m.1 ≡ b →
         (first_refused table ms ≡ None → living ms ≡ first ∷ more → refusal table first.1 ≡ None) → refusal table first.1 ≡ None
     by (Some reason) e b ended later = absurd (Some≢None (ever_fault m.0 reason) (sym (ap (λ why. refused_or m.0 why (first_refused table ms)) e) ∙ none))
     by None e true ended later =
@@ -34,7 +34,7 @@ pub unrefused_joined : (table : CallTable) (h : ProcessState) (more : List Proce
     refusal table (joined table h more) ≡ None
 unrefused_joined table h more = by (can_unveil h) (table_refusal table (find (lacks_c table) changing_calls))
   where
-    by : (b : Bool) (o : Option Refusal) → (if b then Some CanUnveil else o) ≡ None → o ≡ None
+    by : (b : Bool) (o : Option EverRefusal) → (if b then Some CanUnveil else o) ≡ None → o ≡ None
     by true o e = absurd (Some≢None CanUnveil e)
     by false o e = e
 

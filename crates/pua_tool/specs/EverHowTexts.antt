@@ -24,7 +24,7 @@ use Rattle.pua_tree.specs.declared.node.Kind.TheVariants.{Dir}
 use Rattle.pua_ever.specs.Ever.{EverLine, Thing, Stands, Comes}
 use Rattle.pua_ever.specs.Refusals.{refusal}
 use Rattle.pua_ever.specs.Through.{ever_lasting}
-use Rattle.pua_how.specs.Asking.{Asking, asking_by, directory_at_name, targets_of, thing_word}
+use Rattle.pua_how.specs.PathQuestion.{PathQuestion, question_by, directory_at_name, targets_of, thing_word}
 use Rattle.pua_how.specs.Steps.{NoneComes}
 use Rattle.pua_how.specs.Targets.{IsLast}
 use Rattle.pua_how.specs.Ways.{IsWay}
@@ -87,7 +87,7 @@ abbrev pub lacking : Tree → CallTable → ProcessState → ObjectKind → Ever
 lacking t table h kind line = filter (λ call. not (is_now t table h (subject_now t kind line.word line.thing) call)) line.calls
 
 -- so many requests are a way to a call on what is meant by a path and a kind
-pub record IsWayOf (done : Replayed) (process : ℕ) (h : ProcessState) (asking : Asking) (kind : ObjectKind) (call : Call) (steps : ℕ) : Type 0
+pub record IsWayOf (done : Replayed) (process : ℕ) (h : ProcessState) (asking : PathQuestion) (kind : ObjectKind) (call : Call) (steps : ℕ) : Type 0
   where
     pub last : ℕ
     pub above : IsLast done.world.tree last
@@ -98,13 +98,13 @@ pub record IsWayOf (done : Replayed) (process : ℕ) (h : ProcessState) (asking 
     pub long : length asks ≡ steps
 
 -- none of these plans comes to a call on what is meant by a path and a kind
-pub record IsNoWayOf (rules : Rules) (done : Replayed) (process : ℕ) (h : ProcessState) (asking : Asking) (kind : ObjectKind) (call : Call) (plans : NoWay) : Type 0
+pub record IsNoWayOf (rules : Rules) (done : Replayed) (process : ℕ) (h : ProcessState) (asking : PathQuestion) (kind : ObjectKind) (call : Call) (plans : NoWay) : Type 0
   where
     pub last : ℕ
     pub none : NoneComes rules done.table process call (targets_of done.world.tree h last asking (Some kind)) done.world plans
 
 -- a number of steps is that of a way; without one none of the plans comes to one
-abbrev pub IsCount : Rules → Replayed → ℕ → ProcessState → Asking → ObjectKind → Call × Result ℕ NoWay → Type 0
+abbrev pub IsCount : Rules → Replayed → ℕ → ProcessState → PathQuestion → ObjectKind → Call × Result ℕ NoWay → Type 0
 IsCount rules done process h asking kind count = by count.1
   where
     by : Result ℕ NoWay → Type 0
@@ -131,7 +131,7 @@ pub record IsColumn (rules : Rules) (done : Replayed) (process : ℕ) (h : Proce
   pub told : kind_word kind ≡ thing_word done.world.tree line.thing
   pub counts : List (Call × Result ℕ NoWay)
   pub calls : map (λ count. count.0) counts ≡ lacking done.world.tree done.table h kind line
-  pub counted : AllByRecursion (IsCount rules done process h (asking_by line.word line.thing) kind) counts
+  pub counted : AllByRecursion (IsCount rules done process h (question_by line.word line.thing) kind) counts
   pub is : text ≡ with_end (counts_text 32 counts)
 
 -- the list for ever of a process, and behind the calls of each line its column

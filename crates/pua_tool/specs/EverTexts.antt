@@ -4,8 +4,8 @@ use Rattle.pua_tree.specs.Steps.{◌>>=◌}
 use Rattle.pua_calls.specs.declared.rules.Rules.{Rules}
 use Rattle.pua_script.specs.Replay.{kept_at}
 use Rattle.pua_ever.specs.Refusals.{refusal}
-use Rattle.pua_ever.specs.declared.refusal.Refusal.{Refusal}
-use Rattle.pua_ever.specs.declared.refusal.Refusal.TheVariants as refused
+use Rattle.pua_ever.specs.declared.refusal.EverRefusal.{EverRefusal}
+use Rattle.pua_ever.specs.declared.refusal.EverRefusal.TheVariants as refused
 use Rattle.pua_tool.specs.Texts.{Chosen, Replayed, replay_of}
 use Rattle.pua_texts.specs.Lines.{answer_lines}
 use Rattle.pua_tool.specs.declared.fault.ToolFault.{ToolFault}
@@ -13,14 +13,14 @@ use Rattle.pua_tool.specs.declared.fault.ToolFault.TheVariants.{NoProcess, CanUn
 use Rattle.pua_texts.specs.EverLines.{ever_list}
 
 -- why there is no list for ever of the process with this number
-abbrev pub ever_fault : ℕ → Refusal → ToolFault
+abbrev pub ever_fault : ℕ → EverRefusal → ToolFault
 ever_fault process refused.CanUnveil = CanUnveil process
 ever_fault process (refused.LacksC call) = LacksC call
 ever_fault process refused.RenameLacksC = RenameLacksC
 ever_fault process refused.LinkLacksC = LinkLacksC
 
 -- a text, unless there is a reason for none
-abbrev pub unless_reason : ℕ → Option Refusal → List ℕ → Result (List ℕ) ToolFault
+abbrev pub unless_reason : ℕ → Option EverRefusal → List ℕ → Result (List ℕ) ToolFault
 unless_reason process None text = Ok text
 unless_reason process (Some reason) text = Err (ever_fault process reason)
 

@@ -21,7 +21,7 @@ use Rattle.pua_tool.specs.ObjectTexts.{objects_text}
 use Rattle.pua_tool.specs.EverTexts.{ever_text}
 use Rattle.pua_tool.specs.TogetherTexts.{together_text}
 use Rattle.pua_tool.specs.HowTexts.{question_of, way_text}
-use Rattle.pua_tool.specs.WhyTexts.{objects_why_text, posed_script, run_why_text, why_text}
+use Rattle.pua_tool.specs.WhyTexts.{objects_why_text, served_script, run_why_text, why_text}
 use Rattle.pua_tool.specs.TightTexts.{tight_text, tight_why_text, words_by}
 use Rattle.pua_texts.specs.Lines.{with_end}
 use Rattle.pua_tool.specs.FaultTexts.{fault_line}
@@ -276,7 +276,7 @@ pub record ReasonTextRows : Type 0 where
       ∷ codes "veil /e r" ∷ codes "dir /d stat,lstat,open-r,chdir rpath /d r 1" ∷ codes "dir /e stat,lstat,open-r,chdir rpath /e r 3" ∷ []))
 
 pub reason_text_rows : ReasonTextRows
-unfolding digits trace_from promises_text posed_script why_text objects_why_text
+unfolding digits trace_from promises_text served_script why_text objects_why_text
 reason_text_rows = record { run_by_openbsd = refl; another_process = refl; dated_veils = refl }
 
 -- what is said where no way is found, and what refuses the question

@@ -18,8 +18,8 @@ use Rattle.pua_ever.specs.Refusals.{refusal}
 use Rattle.pua_ever.specs.Through.{ever_lasting, execs_of}
 use Rattle.pua_ever.specs.declared.lasting_list.ExecBound.{ExecBound}
 use Rattle.pua_ever.specs.declared.lasting_list.ExecBound.TheVariants.{Open}
-use Rattle.pua_ever.specs.declared.refusal.Refusal.{Refusal}
-use Rattle.pua_how.specs.Asking.{asking_of, targets_of}
+use Rattle.pua_ever.specs.declared.refusal.EverRefusal.{EverRefusal}
+use Rattle.pua_how.specs.PathQuestion.{path_question, targets_of}
 use Rattle.pua_how.specs.Targets.{IsLast, is_listed}
 use Rattle.pua_how.specs.Steps.{NoneComes}
 use Rattle.pua_how.specs.Ways.{IsWay}
@@ -44,13 +44,13 @@ abbrev pub way_wanted : HowWords → HowWanted
 way_wanted words = record { process = words.process; call = words.call.now; path = words.path.now; kind = words.kind }
 
 -- what is asked about behind a script: what the process keeps, the call, and all that may be meant
-pub record Question : Type 0 where
+pub record HowQuestion : Type 0 where
   pub process : ProcessState
   pub call : Call
   pub things : List Target
 
 -- that there is a list for ever, or the reason against it
-abbrev pub unless_refused : ℕ → Option Refusal → Result (Unit {0}) ToolFault
+abbrev pub unless_refused : ℕ → Option EverRefusal → Result (Unit {0}) ToolFault
 unless_refused process None = Ok tt
 unless_refused process (Some reason) = Err (ever_fault process reason)
 
@@ -63,7 +63,7 @@ some_thing (thing ∷ more) = Ok (thing ∷ more)
 -- which nothing is meant
 abbrev pub things_asked : Tree → ProcessState → HowWanted → ℕ → Result (List Target) ToolFault
 things_asked t h wanted last =
-    ok_or (asking_of wanted.path) HowPath >>= λ asking. some_thing (targets_of t h last asking wanted.kind)
+    ok_or (path_question wanted.path) HowPath >>= λ asking. some_thing (targets_of t h last asking wanted.kind)
 
 -- a link is meant: one that stands there, whatever else its name may mean, or only such as can be made
 abbrev pub is_link_meant : Tree → List Target → Bool
@@ -82,7 +82,7 @@ unless_followed call false = Ok tt
 
 -- the question behind a script, or the first fault: a process never made, a reason against its list for ever, a call that the
 -- table doesn't have, that of the path, or a link that the call follows
-abbrev pub question_of : Replayed → HowWanted → ℕ → Result Question ToolFault
+abbrev pub question_of : Replayed → HowWanted → ℕ → Result HowQuestion ToolFault
 question_of done wanted last = do
   h ← ok_or (kept_at done.world wanted.process) NoProcess
   unrefused ← unless_refused wanted.process (refusal done.table h)
@@ -92,7 +92,7 @@ question_of done wanted last = do
   Ok (record { process = h; call = call; things = things })
 
 -- whether a line of the list for ever about it has the call
-abbrev pub may_come : Replayed → Question → Bool
+abbrev pub may_come : Replayed → HowQuestion → Bool
 may_come done q = list_any (λ thing. is_listed (ever_lasting done.world.tree done.table q.process) thing q.call) q.things
 
 -- what is said where there is no way: none is looked for where no line has the call, which may change once a program is started
@@ -102,13 +102,13 @@ told_without false Open = codes "never before an exec"
 told_without false _ = codes "never"
 
 -- the lines of a way, or what is said without one
-abbrev pub way_text : Replayed → Question → Option (List (List ℕ)) → List ℕ
+abbrev pub way_text : Replayed → HowQuestion → Option (List (List ℕ)) → List ℕ
 way_text done q (Some lines) = flat_map with_end lines
 way_text done q None = with_end (told_without (may_come done q) (execs_of done.world.tree done.table q.process))
 
 -- lines of a script that is read by rules, which are a way to the call on something that is meant, and this is the last number of
 -- the nodes that live
-pub record IsWayTo (rules : Rules) (done : Replayed) (process last : ℕ) (q : Question) (lines : List (List ℕ)) : Type 0 where
+pub record IsWayTo (rules : Rules) (done : Replayed) (process last : ℕ) (q : HowQuestion) (lines : List (List ℕ)) : Type 0 where
   pub above : IsLast done.world.tree last
   pub thing : Target
   pub meant : Contains q.things thing
@@ -118,7 +118,7 @@ pub record IsWayTo (rules : Rules) (done : Replayed) (process last : ℕ) (q : Q
 
 -- so is what was found, if something was; where a line has the call and nothing was, there are plans of which none comes to it. Which
 -- were laid no definition says: that these are the ones that were served is in the contract of the function that serves them
-abbrev pub IsFoundFor : Rules → Replayed → ℕ → ℕ → Question → Option (List (List ℕ)) → Type 0
+abbrev pub IsFoundFor : Rules → Replayed → ℕ → ℕ → HowQuestion → Option (List (List ℕ)) → Type 0
 IsFoundFor rules done process last q None =
     may_come done q ≡ true → (none : NoWay) × NoneComes rules done.table process q.call q.things done.world none
 IsFoundFor rules done process last q (Some lines) = IsWayTo rules done process last q lines
@@ -127,7 +127,7 @@ IsFoundFor rules done process last q (Some lines) = IsWayTo rules done process l
 pub record IsHowAsked (rules : Rules) (done : Replayed) (wanted : HowWanted) (answer : Result (List ℕ) ToolFault) : Type 0 where
   pub last : ℕ
   pub found : Option (List (List ℕ))
-  pub sound : (q : Question) → question_of done wanted last ≡ Ok q → IsFoundFor rules done wanted.process last q found
+  pub sound : (q : HowQuestion) → question_of done wanted last ≡ Ok q → IsFoundFor rules done wanted.process last q found
   pub is : answer ≡ (question_of done wanted last >>= λ q. Ok (way_text done q found))
 
 -- the same of a script over a listing, by the table that is chosen, or the first fault: the table's, the listing's, or the script's

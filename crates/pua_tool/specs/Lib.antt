@@ -4,6 +4,7 @@ pub mod ObjectTexts
 pub mod EverTexts
 pub mod TogetherTexts
 pub mod WhyTexts
+pub mod EverWhyTexts
 pub mod HowTexts
 pub mod EverHowTexts
 pub mod ListTexts
@@ -36,6 +37,7 @@ pub mod TreeExamples
 pub mod Begun
 pub mod Ended
 pub mod Pieces
-pub mod PosedScripts
+pub mod TwoWorlds
 pub mod Questions
 pub mod RowColumns
+pub mod EverColumns

@@ -5,21 +5,27 @@ use Rattle.pua_words.specs.declared.command.Columns.TheVariants.{Plain, Why, How
 use Rattle.pua_words.specs.declared.command.ListWords.{ListWords}
 use Rattle.pua_words.specs.declared.command.Processes.{Processes}
 use Rattle.pua_words.specs.declared.command.Processes.TheVariants.{One}
-use Rattle.pua_words.specs.declared.command.Span.{Span}
-use Rattle.pua_words.specs.declared.command.Span.TheVariants.{Now, Ever}
+use Rattle.pua_words.specs.declared.command.Time.{Time}
+use Rattle.pua_words.specs.declared.command.Time.TheVariants.{Now, Ever}
 use Rattle.pua_tool.specs.Texts.{Chosen}
 use Rattle.pua_tool.specs.ObjectTexts.{objects_text}
 use Rattle.pua_tool.specs.WhyTexts.{objects_why_text}
 use Rattle.pua_tool.specs.EverTexts.{ever_text}
+use Rattle.pua_tool.specs.EverWhyTexts.{ever_why_text}
 use Rattle.pua_tool.specs.TogetherTexts.{together_text}
 use Rattle.pua_tool.specs.EverHowTexts.{IsEverHowText}
 use Rattle.pua_tool.specs.declared.fault.ToolFault.{ToolFault}
-use Rattle.pua_tool.specs.declared.fault.ToolFault.TheVariants.{EverWhy, NowHow, SeveralHow}
+use Rattle.pua_tool.specs.declared.fault.ToolFault.TheVariants.{NowHow, SeveralHow, SeveralWhy}
 
 -- the list for ever of one process, or of several together
 abbrev pub lasting_text : Chosen → List ℕ → List ℕ → Processes → Result (List ℕ) ToolFault
 lasting_text choice tree script (One process) = ever_text choice tree script process
 lasting_text choice tree script several = together_text choice tree script several
+
+-- the list for ever of one process with what lets calls through; there is none of several, each of which has its own promises
+abbrev pub lasting_why_text : Chosen → List ℕ → List ℕ → Processes → Result (List ℕ) ToolFault
+lasting_why_text choice tree script (One process) = ever_why_text choice tree script process
+lasting_why_text choice tree script several = Err SeveralWhy
 
 -- the list for ever of one process with the steps of ways, where the text is one of several, as which ways are found is in no contract;
 -- there is none of several processes, since a way is of one
@@ -27,13 +33,13 @@ abbrev pub IsWaysText : Chosen → List ℕ → List ℕ → Processes → Resul
 IsWaysText choice tree script (One process) answer = IsEverHowText choice tree script process answer
 IsWaysText choice tree script several answer = Err SeveralHow ≡ answer
 
--- of now, one after another, with reasons or without; for ever, with the steps of ways or without
-abbrev pub IsListBy : Span → Columns → Processes → Chosen → List ℕ → List ℕ → Result (List ℕ) ToolFault → Type 0
+-- of now, one after another, with reasons or without; for ever, with reasons, with the steps of ways, or with neither
+abbrev pub IsListBy : Time → Columns → Processes → Chosen → List ℕ → List ℕ → Result (List ℕ) ToolFault → Type 0
 IsListBy Now Plain whose choice tree script answer = objects_text choice tree script whose ≡ answer
 IsListBy Now Why whose choice tree script answer = objects_why_text choice tree script whose ≡ answer
 IsListBy Now How whose choice tree script answer = Err NowHow ≡ answer
 IsListBy Ever Plain whose choice tree script answer = lasting_text choice tree script whose ≡ answer
-IsListBy Ever Why whose choice tree script answer = Err EverWhy ≡ answer
+IsListBy Ever Why whose choice tree script answer = lasting_why_text choice tree script whose ≡ answer
 IsListBy Ever How whose choice tree script answer = IsWaysText choice tree script whose answer
 
 abbrev pub IsListText : Chosen → List ℕ → List ℕ → ListWords → Result (List ℕ) ToolFault → Type 0

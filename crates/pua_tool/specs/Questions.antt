@@ -14,10 +14,10 @@ use Rattle.pua_how.specs.declared.way.NoWay.{NoWay}
 use Rattle.pua_texts.specs.Lines.{with_end}
 use Rattle.pua_tool.specs.HowTexts.{HowWanted, question_of, things_asked}
 use Rattle.pua_tool.specs.Texts.{Replayed}
-use Rattle.pua_tool.specs.declared.how.Question as given
+use Rattle.pua_tool.specs.declared.how.HowQuestion as given
 
 -- what is asked about, and what the list for ever says of it
-pub record IsQuestion (done : Replayed) (wanted : HowWanted) (q : given.Question) : Type 0 where
+pub record IsQuestion (done : Replayed) (wanted : HowWanted) (q : given.HowQuestion) : Type 0 where
   pub last : ℕ
   pub above : IsLast done.world.tree last
   pub process : ProcessState
@@ -25,7 +25,7 @@ pub record IsQuestion (done : Replayed) (wanted : HowWanted) (q : given.Question
   pub outlook : IsOutlook done.world.tree done.table process q.meant.targets.items q.call q.outlook
 
 -- lines of a process, which rules read, that are a way to one of some things
-pub record AreWayTo (rules : Rules) (done : Replayed) (process : ℕ) (q : given.Question) (lines : List WayLine) : Type 0 where
+pub record AreWayTo (rules : Rules) (done : Replayed) (process : ℕ) (q : given.HowQuestion) (lines : List WayLine) : Type 0 where
   pub thing : Target
   pub meant : Contains q.meant.targets.items thing
   pub are : AllByRecursion (IsLine rules process) lines

@@ -16,7 +16,8 @@ use Rattle.pua_ever.specs.Ever.{EverLine, Thing, Stands, Comes}
 use Rattle.pua_ever.specs.EverLines.{IsThing, line_with}
 use Rattle.pua_ever.specs.EverList.{thing_of}
 use Rattle.pua_ever.specs.declared.list.EverRow.{EverRow}
-use Rattle.pua_how.specs.Asking.{thing_word}
+use Rattle.pua_how.specs.PathQuestion.{thing_word}
+use Rattle.pua_how.specs.Served.{Tried}
 use Rattle.pua_how.specs.Steps.{NoneComes}
 use Rattle.pua_how.specs.Targets.{IsLast, target_about}
 use Rattle.pua_how.specs.Ways.{IsWay}
@@ -31,6 +32,10 @@ use Rattle.pua_tool.specs.declared.columns.Behind.{Behind}
 -- what the script left
 abbrev pub done_behind : Behind → Replayed
 done_behind behind = as_replayed behind.replay.now
+
+-- where its plans are tried
+abbrev pub tried_behind : Behind → Tried
+tried_behind behind = record { rules = behind.rules; world = behind.replay.now.world; process = behind.number }
 
 -- so many requests are a way to a call on one of some things
 pub record AreStepsTo (done : Replayed) (process : ℕ) (things : List Target) (call : Call) (steps : ℕ) : Type 0 where

@@ -8,7 +8,7 @@ use Rattle.pua_policy.specs.States.{ProcessState, perms_kept, veils}
 use Rattle.pua_policy.specs.declared.place.Place.{Place}
 use Rattle.pua_script.specs.Replay.{World, kept_at}
 use Rattle.pua_ever.specs.Refusals.{refusal}
-use Rattle.pua_ever.specs.declared.refusal.Refusal.{Refusal}
+use Rattle.pua_ever.specs.declared.refusal.EverRefusal.{EverRefusal}
 use Rattle.pua_words.specs.declared.command.Processes.{Processes}
 use Rattle.pua_words.specs.declared.command.Processes.TheVariants.{One, Named, All}
 use Rattle.pua_texts.specs.Lines.{answer_lines}
@@ -31,7 +31,7 @@ all_made w [] = Ok []
 all_made w (process ∷ more) = ok_or (kept_at w process) NoProcess >>= λ h. all_made w more >>= λ rest. Ok ((process, h) ∷ rest)
 
 -- why there is no list of a process, or else a later one's fault
-abbrev pub refused_or : ℕ → Option Refusal → Option ToolFault → Option ToolFault
+abbrev pub refused_or : ℕ → Option EverRefusal → Option ToolFault → Option ToolFault
 refused_or process (Some reason) later = Some (ever_fault process reason)
 refused_or process None later = later
 

@@ -14,22 +14,22 @@ use Rattle.pua_texts.specs.Lines.{with_end}
 use Rattle.pua_tool.specs.ObjectTexts.{numbers_asked}
 use Rattle.pua_tool.specs.declared.fault.ToolFault.{ToolFault}
 use Rattle.pua_tool.specs.declared.fault.ToolFault.TheVariants.{Request}
-use Rattle.pua_texts.specs.WhyLines.{Posed, why_lists_of, world_left}
+use Rattle.pua_texts.specs.WhyLines.{ServedScript, why_lists_of, world_left}
 
 -- a script over a listing, by the table that is chosen, or the first fault: the table's, the listing's, or the script's
-unfoldable pub posed_script : Chosen → List ℕ → List ℕ → Result Posed ToolFault
-posed_script choice tree_bytes script_bytes = do
+unfoldable pub served_script : Chosen → List ℕ → List ℕ → Result ServedScript ToolFault
+served_script choice tree_bytes script_bytes = do
   table ← table_by choice
   t ← as_listing (listing tree_bytes)
   asks ← as_script (script_by choice.rules script_bytes)
   Ok (record { table = table; world = new_world t; asks = asks })
 
 -- a line for each request: its number, its answer, why and since when it is so, and what opens the path by these rules
-abbrev pub reason_lines : Rules → Posed → List ℕ
+abbrev pub reason_lines : Rules → ServedScript → List ℕ
 reason_lines rules p = flat_map with_end (why_lines rules p.table p.world [] 1 p.asks)
 
 abbrev pub run_why_text : Chosen → List ℕ → List ℕ → Result (List ℕ) ToolFault
-run_why_text choice tree_bytes script_bytes = posed_script choice tree_bytes script_bytes >>= λ p. Ok (reason_lines choice.rules p)
+run_why_text choice tree_bytes script_bytes = served_script choice tree_bytes script_bytes >>= λ p. Ok (reason_lines choice.rules p)
 
 -- a line of a script, by its process and the fields behind
 abbrev pub request_line : ℕ → List (List ℕ) → List ℕ
@@ -40,23 +40,23 @@ as_request (Ok ask) = Ok ask
 as_request (Err fault) = Err (Request fault)
 
 -- a line for each check that a request passes behind the script, and its answer
-abbrev pub chain_lines : Rules → Posed → Asked → List ℕ
+abbrev pub chain_lines : Rules → ServedScript → Asked → List ℕ
 chain_lines rules p ask = flat_map with_end (chain rules p.table p.world p.asks ask)
 
 -- what decides the request with these fields behind a script over a listing, or the first fault: the table's, the
 -- listing's, the script's, or that of the fields
 unfoldable pub why_text : Chosen → List ℕ → List ℕ → ℕ → List (List ℕ) → Result (List ℕ) ToolFault
 why_text choice tree_bytes script_bytes process fields = do
-  p ← posed_script choice tree_bytes script_bytes
+  p ← served_script choice tree_bytes script_bytes
   ask ← as_request (request_by choice.rules 1 (request_line process fields))
   Ok (chain_lines choice.rules p ask)
 
 -- the lines of a script with reasons, and the lists of the processes that are asked for, or why there are none
-abbrev pub why_lists_asked : Rules → Posed → Processes → Result (List ℕ) ToolFault
+abbrev pub why_lists_asked : Rules → ServedScript → Processes → Result (List ℕ) ToolFault
 why_lists_asked rules p which = numbers_asked (world_left p) which >>= λ numbers. Ok (reason_lines rules p ++ why_lists_of rules p numbers)
 
 -- the lists with reasons at the end of a script over a listing, or the first fault: the table's, the listing's, the
 -- script's, or a process never made
 unfoldable pub objects_why_text : Chosen → List ℕ → List ℕ → Processes → Result (List ℕ) ToolFault
 objects_why_text choice tree_bytes script_bytes which =
-    posed_script choice tree_bytes script_bytes >>= λ p. why_lists_asked choice.rules p which
+    served_script choice tree_bytes script_bytes >>= λ p. why_lists_asked choice.rules p which

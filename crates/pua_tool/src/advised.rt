@@ -1,4 +1,4 @@
-//! What is told of a fault of the inputs: its line and, by OpenBSD's rules, what is wrong with the
+//! The report of a fault of the inputs: its line and, by OpenBSD's rules, what is wrong with the
 //! line of the script, or with the request, that is to blame.
 
 ghost use Rattle.std.specs.Prelude.{◌≡◌, ◌++◌, ℕ, List, IfOk, option_map};
@@ -32,7 +32,7 @@ pub(crate) enum Halt<'a> {
     Unwritten(ToolFault, Vec<u8>),
 }
 
-/// Tells what stopped a command, and answers the status.
+/// Reports what stopped a command, and answers the status.
 pub(crate) fn end<E: Sink>(alloc: Global, command: &Command<'_>, halt: Halt<'_>, err: &mut E) -> u8
     ensures { IsEndOf command.now halt.entry result (E.written err.old) (E.written err.new)
         (E.failed err.old) (E.failed err.new) }
@@ -45,10 +45,10 @@ pub(crate) fn end<E: Sink>(alloc: Global, command: &Command<'_>, halt: Halt<'_>,
     }
 }
 
-/// Tells why a command's text was not written, or not whole, and answers the status. By OpenBSD's
+/// Reports why a command's text was not written, or not whole, and answers the status. By OpenBSD's
 /// rules a second line says what is wrong with the script, of which these are the bytes, or with
-/// the request that is asked about. Where a growth was refused that this takes, that is told in the
-/// place of the fault. What is left of both lines is dropped where it can't be written.
+/// the request that is asked about. Where memory for this is refused, that is reported in the place
+/// of the fault. What is left of both lines is dropped where it can't be written.
 fn end_unwritten<E: Sink>(
     alloc: Global,
     command: &Command<'_>,
@@ -128,7 +128,7 @@ fn request_in(alloc: Global, text: &Text<'_>) -> Result<Vec<u8>, AllocError>
     }
 }
 
-/// Tells of a fault, and what there is to say behind it, and answers the status.
+/// Reports a fault, with what there is to say after its line, and answers the status.
 fn tell<E: Sink>(fault: ToolFault, advice: Option<Advice<'_>>, err: &mut E) -> u8
     ensures status { result ≡ status_of fault }
     ensures told { IsLineTold (fault_line fault ++ advice_line (option_map advice_seen advice.entry))
@@ -138,7 +138,7 @@ fn tell<E: Sink>(fault: ToolFault, advice: Option<Advice<'_>>, err: &mut E) -> u
     fault.status()
 }
 
-/// Writes the line of a fault, and that of what there is to say behind it.
+/// Writes the line of a fault, and that of what there is to say after it.
 fn put_told<E: Sink>(
     fault: ToolFault,
     advice: Option<Advice<'_>>,
@@ -165,7 +165,7 @@ fn put_advice<E: Sink>(advice: Option<Advice<'_>>, err: &mut E) -> Result<(), Pu
         &[
             Piece::Text("pua: "),
             Piece::Text(before),
-            Piece::About(advice.subject()),
+            Piece::About(advice.wrong_part()),
             Piece::Text(behind),
         ],
     )

@@ -23,7 +23,7 @@ use std::alloc::Global;
 use std::io::{BufWriter, Write};
 
 /// [`command`], with an output that holds bytes back, which are handed on at the end: after
-/// [`DONE`] nothing is held back. Where they can't be handed on, that is told as a text is that
+/// [`DONE`] nothing is held back. Where they can't be handed on, the report is that of a text that
 /// can't be written. After [`REFUSED`], [`USAGE`] and [`MEMORY`] nothing was written.
 pub fn program<I: Inputs, W: Write + Drop, E: Sink>(
     alloc: Global,
@@ -62,7 +62,7 @@ pub fn program<I: Inputs, W: Write + Drop, E: Sink>(
 }
 
 /// The status after a command whose output was flushed at its end. A flush that failed after
-/// [`DONE`] is told on `err`; after every other status a fault was told already.
+/// [`DONE`] is reported on `err`; after every other status a fault was reported already.
 fn at_end<E: Sink>(status: u8, flushed: Result<(), PutFault>, err: &mut E) -> u8
     ensures kept { OnOk flushed (result ≡ status) }
     ensures stopped { status ≢ DONE → result ≡ status }
@@ -125,7 +125,7 @@ pub fn command<I: Inputs, O: Sink, E: Sink>(
     }
 }
 
-/// Writes the text about the program that the words ask for, or tells why there is nothing to do.
+/// Writes the text about the program that the words ask for, or reports why there is nothing to do.
 fn stopped<O: Sink, E: Sink>(stop: &Stop, out: &mut O, err: &mut E) -> u8
     ensures shown { result ≡ DONE → Shows stop.now (O.written out.old) (O.written out.new) }
     ensures cut { result ≡ DEVICE →

@@ -1,4 +1,4 @@
-//! What stands behind the calls of a line of a list for ever: how many steps a way has to each call
+//! What stands after the calls of a line of a list for ever: how many steps a way has to each call
 //! that the list of now lacks.
 
 ghost use Rattle.std.specs.Prelude.{◌≡◌, ◌&&◌, ◌++◌, ◌∷◌, [], IfErr, IfOk, OnOk, map, not};
@@ -9,17 +9,19 @@ ghost use Rattle.pua_calls.specs.declared.call.Call.{Call as AnyCall};
 ghost use Rattle.pua_ever.specs.EverList.{IsRowOn};
 ghost use Rattle.pua_how.specs.Steps.{NoneComes};
 ghost use Rattle.pua_how.specs.Targets.{IsLast};
+ghost use Rattle.pua_script.specs.Worlds.{world_of};
 ghost use Rattle.pua_texts.specs.Lines.{with_end};
 ghost use Rattle.pua_tool.specs.RowColumns.{AreColumns, AreStepsTo, IsColumnAt, IsCountTo};
-ghost use Rattle.pua_tool.specs.RowColumns.{done_behind};
+ghost use Rattle.pua_tool.specs.RowColumns.{done_behind, tried_behind};
+ghost use Rattle.pua_tool.specs.declared.columns.Behind.{Behind as AnyBehind};
 ghost use Rattle.pua_tool.specs.EverHowTexts.{count_text, counts_text};
 
 use crate::fault::ToolFault;
 use crate::row::calls_now;
-use crate::script::Replay;
+use crate::script::{ProgramTree, Replay};
 use pua_calls::{Call, Calls, Rules};
 use pua_ever::EverRow;
-use pua_how::{Meant, NoWay, Planner, Target, last_number, target_of};
+use pua_how::{Meant, NoWay, Planner, Target, Trials, last_number, target_of};
 use pua_policy::Process;
 use pua_tree::NodeId;
 use std::alloc::{AllocError, Global};
@@ -123,10 +125,11 @@ fn counts_on(
         return Ok(Vec::new(alloc));
     }
     let meant = meant_by(alloc, target)?;
+    let mut trials = trials_behind(alloc, behind);
     let mut counts = Vec::new(alloc);
     for call in Call::ALL {
         if calls.contains(call) {
-            let steps = steps_to(alloc, behind, planner, call, &meant)?;
+            let steps = steps_to(&mut trials, planner, call, &meant)?;
             counts.push((call, steps))?;
         }
     }
@@ -145,31 +148,35 @@ fn meant_by(alloc: Global, target: &Target) -> Result<Meant, AllocError>
     })
 }
 
+/// Trials of plans for the process whose list it is.
+pub(crate) fn trials_behind<'a>(alloc: Global, behind: &Behind<'a>) -> Trials<'a, ProgramTree>
+    ensures { result ≡ tried_behind behind.now }
+{
+    Trials::new(alloc, behind.rules, &behind.replay.world, behind.number)
+}
+
 /// The number of steps of a way to a call on something that is meant; [`NoWay`] exactly where none
 /// of the plans that are laid comes to one.
 pub(crate) fn steps_to(
-    alloc: Global,
-    behind: &Behind<'_>,
+    trials: &mut Trials<'_, ProgramTree>,
     planner: &Planner<'_>,
     call: Call,
     meant: &Meant,
 ) -> Result<Result<usize, NoWay>, ToolFault>
-    ensures steps { IfOk result (λ found. IfOk found (AreStepsTo (done_behind behind.now)
-        behind.now.number meant.now.targets.items call)) }
-    ensures none { IfOk result (λ found. IfErr found (NoneComes behind.now.rules
-        (done_behind behind.now).table behind.now.number call meant.now.targets.items
-        (done_behind behind.now).world)) }
+    ensures steps { (behind : AnyBehind) → trials.old ≡ tried_behind behind →
+        IfOk result (λ found. IfOk found (AreStepsTo (done_behind behind)
+        behind.number meant.now.targets.items call)) }
+    ensures none { IfOk result (λ found. IfErr found (NoneComes trials.old.rules
+        trials.old.world.table trials.old.process call meant.now.targets.items
+        (world_of trials.old.world))) }
     ensures memory { IfErr result (λ fault. fault ≡ ToolFault.OutOfMemory) }
+    ensures same { trials.new ≡ trials.old }
 {
     let plans = planner.find_plans(call, meant)?;
-    let (world, rules) = (&behind.replay.world, behind.rules);
-    match plans.serve(alloc, rules, world, behind.number, call, meant)? {
-        Ok(lines) => Ok(Ok(lines.len())),
-        Err(none) => Ok(Err(none)),
-    }
+    Ok(trials.count(plans, call, meant)?)
 }
 
-/// What stands behind the calls of a line: a blank, and calls with the numbers of steps, with
+/// What stands after the calls of a line: a blank, and calls with the numbers of steps, with
 /// commas between them; and LF. The only error is that a growth was refused.
 fn text_of(alloc: Global, counts: &[(Call, Result<usize, NoWay>)]) -> Result<String, AllocError>
     ensures { IfOk result (λ text. string_bytes text
@@ -185,7 +192,7 @@ fn text_of(alloc: Global, counts: &[(Call, Result<usize, NoWay>)]) -> Result<Str
     Ok(text)
 }
 
-/// Adds further calls with their numbers of steps, each behind a comma.
+/// Adds further calls with their numbers of steps, each after a comma.
 fn push_others(text: &mut String, counts: &[(Call, Result<usize, NoWay>)]) -> Result<(), AllocError>
     ensures { OnOk result (string_bytes text.new ≡ string_bytes text.old
         ++ counts_text 44 counts.now) }

@@ -11,7 +11,7 @@ use crate::objects::put_lists;
 use crate::script::{Replay, replay_script};
 use crate::table::TableChoice;
 use pua_calls::Rules;
-use pua_ever::{both_of, list_lasting};
+use pua_ever::{bounded_exec, list_lasting};
 use pua_io::Sink;
 use pua_texts::{answer_text, begin_ever};
 use std::alloc::Global;
@@ -53,7 +53,7 @@ fn list_to<S: Sink>(
         return Err(ToolFault::NoProcess);
     };
     let (tree, table) = (world.tree(), world.table());
-    let both = both_of(alloc, process, table)?;
+    let both = bounded_exec(alloc, process, table)?;
     let list = match list_lasting(alloc, tree, process, both.as_ref(), table) {
         Ok(list) => list,
         Err(fault) => return Err(fault_of(number, fault)),

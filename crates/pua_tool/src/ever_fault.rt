@@ -5,7 +5,7 @@ ghost use Rattle.pua_ever.specs.Refusals.{refusal_in};
 ghost use Rattle.pua_tool.specs.EverTexts.{ever_fault, unless_reason};
 
 use crate::fault::ToolFault;
-use pua_ever::{EverFault, Refusal};
+use pua_ever::{EverFault, EverRefusal};
 
 /// Why the list for ever of the process with this number was not begun, as the tool reports it.
 pub(crate) fn fault_of(number: u32, fault: EverFault) -> ToolFault
@@ -20,14 +20,14 @@ pub(crate) fn fault_of(number: u32, fault: EverFault) -> ToolFault
 }
 
 /// Why there is no list for ever of the process with this number, as the tool reports it.
-pub(crate) fn reason_of(number: u32, reason: Refusal) -> ToolFault
+pub(crate) fn reason_of(number: u32, reason: EverRefusal) -> ToolFault
     ensures told { result ≡ ever_fault number reason }
     ensures unwritten { result ≢ ToolFault.Write }
 {
     match reason {
-        Refusal::CanUnveil => ToolFault::CanUnveil(number),
-        Refusal::LacksC(call) => ToolFault::LacksC(call),
-        Refusal::RenameLacksC => ToolFault::RenameLacksC,
-        Refusal::LinkLacksC => ToolFault::LinkLacksC,
+        EverRefusal::CanUnveil => ToolFault::CanUnveil(number),
+        EverRefusal::LacksC(call) => ToolFault::LacksC(call),
+        EverRefusal::RenameLacksC => ToolFault::RenameLacksC,
+        EverRefusal::LinkLacksC => ToolFault::LinkLacksC,
     }
 }

@@ -12,7 +12,7 @@ use crate::fault::ToolFault;
 use crate::objects::put_lists;
 use crate::script::replay_script;
 use crate::table::TableChoice;
-use pua_ever::{both_of, list_lasting};
+use pua_ever::{bounded_exec, list_lasting};
 use pua_io::Sink;
 use pua_texts::{answer_text, begin_ever_with};
 use pua_tree::FileTree;
@@ -55,7 +55,7 @@ fn list_to<S: Sink>(alloc: Global, behind: &Behind<'_>, sink: &mut S) -> Result<
     };
     let (tree, table) = (world.tree(), world.table());
     tree.known();
-    let both = both_of(alloc, process, table)?;
+    let both = bounded_exec(alloc, process, table)?;
     let list = match list_lasting(alloc, tree, process, both.as_ref(), table) {
         Ok(list) => list,
         Err(fault) => return Err(fault_of(number, fault)),

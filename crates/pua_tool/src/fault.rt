@@ -50,9 +50,9 @@ pub enum ToolFault {
     /// There is no list of what the processes with these numbers can ever touch together: the
     /// second has a veil on another place than the first, or other letters at one.
     OtherVeils(u32, u32),
-    /// There is no list for ever with what lets calls through: of where a thing can come to stand
-    /// it is not told.
-    EverWhy,
+    /// There is no list for ever of several processes with what lets calls through: each has its
+    /// own promises, and put its veils by lines of its own.
+    SeveralWhy,
     /// There is no list of now with ways: each of its calls comes in one step.
     NowHow,
     /// There is no list for ever of several processes with ways, since a way is of one.
@@ -60,7 +60,7 @@ pub enum ToolFault {
     /// The tree that the script leaves has more names than a listing has lines: over 1,000,000, the
     /// root counted as one.
     TooManyNames,
-    /// The script ends before this line, behind which it was asked how things stood.
+    /// The script ends before this line, after which it was asked how things stood.
     NoLine(u32),
     /// What a way is asked for is none of the calls on one path.
     HowCall,
@@ -143,7 +143,7 @@ impl ToolFault {
                 five("pua: processes ", first, " and ", other, rest)
             }
             ToolFault::TooManyNames => one("pua: tree: too many names"),
-            ToolFault::EverWhy => one("pua: objects: no list for ever with --why"),
+            ToolFault::SeveralWhy => one("pua: objects: no list for ever of several with --why"),
             ToolFault::NowHow => one("pua: objects: no list of now with --how"),
             ToolFault::SeveralHow => one("pua: objects: no list of several with --how"),
             ToolFault::NoLine(line) => blamed("pua: script: ", (Some(line), "no such line")),

@@ -1,4 +1,4 @@
-//! The first lines of a script, where it is asked how things stood behind one of its lines.
+//! The first lines of a script, for how things stood after one of its lines.
 
 ghost use Rattle.std.specs.Prelude.{◌≡◌, ◌≢◌, ◌≤◌, ◌==◌, Ok, Err, IfErr, IfOk, length};
 ghost use Rattle.std.specs.Prelude.{option_map, position};

@@ -20,8 +20,10 @@ use crate::objects::put_text;
 use crate::script::{Replay, replay_script};
 use crate::table::TableChoice;
 use pua_calls::{Call, CallTable, Rules};
-use pua_ever::{ExecBound, both_of, list_lasting, why_refused};
-use pua_how::{Asking, Meant, NoWay, Outlook, Planner, Target, WayLine, find_meant, find_outlook};
+use pua_ever::{ExecBound, bounded_exec, list_lasting, why_refused};
+use pua_how::{
+    Meant, NoWay, Outlook, PathQuestion, Planner, Target, WayLine, find_meant, find_outlook,
+};
 use pua_io::Sink;
 use pua_path::Last;
 use pua_policy::Process;
@@ -30,7 +32,7 @@ use pua_words::HowWords;
 use std::alloc::{AllocError, Global};
 
 /// Writes a way by which a process comes to a call on something, where the script has been served:
-/// lines of a script, each of this process, each answered `ok` behind the script and the lines
+/// lines of a script, each of this process, each answered `ok` after the script and the lines
 /// before it, none an exec but the last one, which is the call, on a path that leads to what was
 /// asked about wherever that is then. What is asked about is what a line of the list for ever is
 /// about, by the path that the line has: what stands there, by any of its names, or the missing
@@ -102,16 +104,16 @@ fn text_behind(
     Ok(told(alloc, &found)?)
 }
 
-/// What is asked about behind a script, with what the list for ever says of it.
+/// What is asked about after a script, with what the list for ever says of it.
 #[derive(Drop)]
-pub(crate) struct Question {
+pub(crate) struct HowQuestion {
     pub(crate) call: Call,
     pub(crate) meant: Meant,
     pub(crate) outlook: Outlook,
 }
 
 /// What is asked about where a replay ends.
-fn asked_of(alloc: Global, replay: &Replay, words: &HowWords<'_>) -> Result<Question, ToolFault>
+fn asked_of(alloc: Global, replay: &Replay, words: &HowWords<'_>) -> Result<HowQuestion, ToolFault>
     ensures asked { IfOk result (λ question.
         IsQuestion (as_replayed replay.now) (way_wanted words.now) question) }
     ensures refused { IfErr result (λ fault. fault ≢ ToolFault.OutOfMemory → (last : ℕ)
@@ -135,7 +137,7 @@ fn asked_of(alloc: Global, replay: &Replay, words: &HowWords<'_>) -> Result<Ques
         return Err(ToolFault::HowLink(call));
     }
     let outlook = outlook_of(alloc, tree, process, table, things, call)?;
-    Ok(Question {
+    Ok(HowQuestion {
         call,
         meant,
         outlook,
@@ -156,7 +158,7 @@ fn meant_by<T: FileTree>(
         × (things_asked (T.content tree.now) process.now (way_wanted words.now) last ≡ Err fault)) }
     ensures unwritten { IfErr result (λ fault. fault ≢ ToolFault.Write) }
 {
-    let Ok(asking) = Asking::read(alloc, words.path) else {
+    let Ok(asking) = PathQuestion::read(alloc, words.path) else {
         return Err(ToolFault::OutOfMemory);
     };
     let Some(asking) = asking else {
@@ -171,8 +173,8 @@ fn meant_by<T: FileTree>(
     Ok(meant)
 }
 
-/// Whether a link is meant and the call is on what a link leads to. What stands at a name is the
-/// first that may be meant by it.
+/// Whether a link is meant and the call is on the link's target. Of what a name may mean, what
+/// stands there is the first.
 fn follows_link<T: FileTree>(tree: &T, call: Call, things: &[Target]) -> bool
     ensures { result ≡ is_link_followed (T.content tree.now) call things.now }
 {
@@ -184,7 +186,7 @@ fn follows_link<T: FileTree>(tree: &T, call: Call, things: &[Target]) -> bool
     is_link && matches!(call.last(), Last::Followed)
 }
 
-/// What the list for ever says of it. `OutOfMemory` where a growth was refused.
+/// What the list for ever says about the thing. `OutOfMemory` where a growth was refused.
 fn outlook_of<T: FileTree>(
     alloc: Global,
     tree: &T,
@@ -198,14 +200,14 @@ fn outlook_of<T: FileTree>(
     ensures memory { IfErr result (λ fault. fault ≡ ToolFault.OutOfMemory) }
     ensures unwritten { IfErr result (λ fault. fault ≢ ToolFault.Write) }
 {
-    let both = both_of(alloc, process, table)?;
+    let both = bounded_exec(alloc, process, table)?;
     let Ok(list) = list_lasting(alloc, tree, process, both.as_ref(), table) else {
         return Err(ToolFault::OutOfMemory);
     };
     Ok(find_outlook(tree, &list, things, call))
 }
 
-/// A way to what is asked about, behind the script; [`NoWay`] exactly where none of the plans that
+/// A way to what is asked about, after the script; [`NoWay`] exactly where none of the plans that
 /// are laid is one. `NoProcess` where the process was never made, and `OutOfMemory` where a growth
 /// was refused.
 pub(crate) fn find(
@@ -213,7 +215,7 @@ pub(crate) fn find(
     replay: &Replay,
     rules: Rules,
     number: u32,
-    question: &Question,
+    question: &HowQuestion,
 ) -> Result<Result<Vec<WayLine>, NoWay>, ToolFault>
     ensures way { IfOk result (λ found. IfOk found (λ lines.
         AreWayTo rules (as_replayed replay.now) number question.now lines.items)) }

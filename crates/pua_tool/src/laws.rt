@@ -40,11 +40,11 @@ pub fn text_examples()
 
 /// Narrowing ("Every future of a locked process" in docs/DEFINITIONS.md): over each tree the later
 /// reach of each member of the family of a process that can put no veil any more lies within the
-/// reach that the process has over the same tree now, as long as no member's exec
-/// succeeds; from the working directory it does where no member's chdir succeeds. This is so for
-/// each table of calls in which no call needs `error`. It is no bound on what is reached as the
-/// tree changes. What a command reads meets it without a condition, and a request of another
-/// process leaves a process what it keeps.
+/// reach that the process has over the same tree now, as long as no member's exec succeeds; from
+/// the working directory it does where no member's chdir succeeds. This holds for each table of
+/// calls in which no call needs `error`, and so for all that a command reads. It is no bound on
+/// what is reached as the tree changes. A request of another process leaves a process what it
+/// keeps.
 pub fn narrowing()
     ensures reach { Narrowing }
     ensures now { NarrowingNow }
@@ -54,9 +54,9 @@ pub fn narrowing()
 {}
 
 /// Confinement (in the same place): where such a family alone asks, and no member's exec succeeds,
-/// each row whose object the process can't touch with `c` now stays, and where the
-/// process doesn't hold cpath the tree does. Which tables this is so of is said there; the standard
-/// rules and those of OpenBSD are such, so both hold of what a command reads without a table of its
+/// each row whose object the process can't touch with `c` now stays, and where the process doesn't
+/// hold cpath the tree does. That page has the tables for which this holds; the standard rules and
+/// those of OpenBSD are among them, so both hold of what a command reads without a table of its
 /// own. A row that stays says nothing of its file's contents.
 pub fn confined()
     ensures rows { Confinement }
@@ -76,7 +76,7 @@ pub fn objects_text_law()
 }
 
 /// Where there is a text of a list for ever, it is the answers and the list of the process, which
-/// is complete: whatever is asked behind the script, as long as nobody else changes the tree, and
+/// is complete: whatever is asked after the script, as long as nobody else changes the tree, and
 /// all that the family starts is bounded or no exec of theirs succeeds.
 pub fn ever_text_law()
     ensures { EverAsWritten }
@@ -94,11 +94,11 @@ pub fn together_text_law()
 }
 
 /// Where there is a text of a run with reasons, or of the list of a process with them, each line's
-/// reason is so: its answer follows from it, what it says holds of the world behind the lines
-/// before, and since the line that it names the same request had the same reason, and just before
-/// it another. In the list each line has the promises on which its calls rest, which are held, the
-/// veil that covers it, and the line since which that veil has its letters. What is told to lack is
-/// exactly what still lacked.
+/// reason is true: the answer follows from the reason, what the reason says holds of the world
+/// after the lines before, and since the line that it names the same request had the same reason,
+/// and just before that line another. In the list each line has the promises on which its calls
+/// rest, which are held, the veil that covers it, and the line since which that veil has its
+/// letters. What a reason names as lacking is exactly what still lacked.
 #[tactic(auto, using(crate::proofs::Reasoned::reasons_as_written))]
 pub fn reasons_text_law()
     ensures { ReasonsAsWritten }
@@ -106,7 +106,7 @@ pub fn reasons_text_law()
 
 /// Where the text of a way says `never`, or `never before an exec`, the call is allowed to no
 /// member of the process's family on anything that is meant, by whatever path from wherever:
-/// whatever is asked behind the script, as long as nobody else changes the tree; and where it says
+/// whatever is asked after the script, as long as nobody else changes the tree; and where it says
 /// the latter, as long as no exec of theirs succeeds.
 #[tactic(auto, using(crate::proofs::Never::never_as_written))]
 pub fn never_text_law()
@@ -133,10 +133,9 @@ pub fn tree_text_law()
     bytes_law();
 }
 
-/// What `narrowing`, `confined`, and the laws of texts say of what processes keep is so of
-/// histories: wherever a script ends, what a process keeps is what is left of its history, by a
-/// replay that keeps the events of each process. So a reader who believes histories alone has each
-/// of them, word by word.
+/// What `narrowing`, `confined`, and the laws of texts say of states holds of histories: wherever a
+/// script ends, what a process keeps is what is left of its history, by a replay that keeps the
+/// events of each process. So a reader who believes histories alone has each of them, word by word.
 pub fn headline_law()
     ensures { IsOfHistories }
 {

@@ -8,8 +8,10 @@ mod audit;
 mod cli;
 mod columns;
 mod ever;
+mod ever_columns;
 mod ever_fault;
 mod ever_how;
+mod ever_why;
 mod fault;
 mod front;
 mod how;
@@ -20,7 +22,6 @@ mod lists;
 mod objects;
 mod objects_why;
 mod outcome;
-mod posed;
 mod refused;
 mod row;
 mod run;
@@ -33,6 +34,7 @@ mod tight;
 mod tight_why;
 mod together;
 mod tree;
+mod two_worlds;
 mod why;
 
 pub use audit::{audit_by, audit_to};
@@ -52,7 +54,7 @@ pub use pua_io::{
 };
 pub use pua_texts::state_law;
 pub use pua_words::{
-    AuditWords, Columns, Command, HowWords, ListWords, Processes, Span, Text, UsageLine, WhyWords,
+    AuditWords, Columns, Command, HowWords, ListWords, Processes, Text, Time, UsageLine, WhyWords,
 };
 pub use run::{run_by, run_to};
 pub use run_why::run_why_to;

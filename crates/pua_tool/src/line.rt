@@ -6,7 +6,7 @@ ghost use Rattle.pua_texts.specs.Lines.{with_end};
 ghost use Rattle.pua_tool.specs.Pieces.{line_of, piece_text};
 
 use itoa::Buffer;
-use pua_advice::Subject;
+use pua_advice::WrongPart;
 use pua_io::{PutFault, Sink, put_all};
 use pua_tree::byte_spelling;
 use std::fmt;
@@ -19,13 +19,13 @@ pub(crate) enum Piece<'a> {
     /// A number, in decimal.
     Number(u32),
     /// What an advice is about.
-    About(Subject<'a>),
+    About(WrongPart<'a>),
 }
 
 /// A piece of no bytes.
 const NOTHING: Piece<'static> = Piece::Text("");
 
-/// The pieces of a line that a program tells of a fault; those that it doesn't need have no bytes.
+/// The pieces of the line of a fault; those that a line doesn't need have no bytes.
 pub(crate) type Pieces = [Piece<'static>; 5];
 
 /// A line of one text.
@@ -87,9 +87,9 @@ fn put_piece<E: Sink>(err: &mut E, piece: &Piece) -> Result<(), PutFault>
     match piece {
         Piece::Text(text) => put_all(err, text.as_bytes()),
         Piece::Number(number) => put_all(err, Buffer::new().format(*number).as_bytes()),
-        Piece::About(Subject::Line) => put_all(err, &[]),
-        Piece::About(Subject::Word(word)) => put_all(err, word),
-        Piece::About(Subject::Byte(byte)) => put_all(err, byte_spelling(*byte).as_bytes()),
+        Piece::About(WrongPart::Line) => put_all(err, &[]),
+        Piece::About(WrongPart::Word(word)) => put_all(err, word),
+        Piece::About(WrongPart::Byte(byte)) => put_all(err, byte_spelling(*byte).as_bytes()),
     }
 }
 

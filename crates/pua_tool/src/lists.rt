@@ -2,18 +2,19 @@
 
 ghost use Rattle.std.specs.Prelude.{ℕ, List, Result};
 ghost use Rattle.pua_tool.specs.Answers.{AnswersTo};
-ghost use Rattle.pua_tool.specs.ListTexts.{IsListText, IsWaysText, lasting_text};
+ghost use Rattle.pua_tool.specs.ListTexts.{IsListText, IsWaysText, lasting_text, lasting_why_text};
 ghost use Rattle.pua_tool.specs.Texts.{choice_of};
 
 use crate::ever::ever_to;
 use crate::ever_how::ever_how_to;
+use crate::ever_why::ever_why_to;
 use crate::fault::ToolFault;
 use crate::objects::objects_to;
 use crate::objects_why::objects_why_to;
 use crate::table::TableChoice;
 use crate::together::together_to;
 use pua_io::Sink;
-use pua_words::{Columns, ListWords, Processes, Span};
+use pua_words::{Columns, ListWords, Processes, Time};
 use std::alloc::Global;
 
 /// Writes a list: for each line of the script its number and what it was answered, with columns of
@@ -30,7 +31,7 @@ use std::alloc::Global;
 /// `execpromises` with the keywords, `=` for none, and `-` where no pledge gave any; `unveil` with
 /// `locked`, with `given-up` where it isn't locked and lacks the promise `unveil`, or with `open`;
 /// by OpenBSD's rules `opening PATH CALLS` for each path that a promise opens by itself, with
-/// `veils` behind it where the veils are asked for it; and for each veil that is kept, in the order
+/// `veils` after it where the veils are asked for it; and for each veil that is kept, in the order
 /// in which their places were first kept, `veil PATH LETTERS`: where its place stands now, `-`
 /// where its directory was removed, and its letters, `=` for none; or `no veils`. What a call needs
 /// is said by the table of calls that is chosen.
@@ -55,21 +56,23 @@ use std::alloc::Global;
 /// to them or to what they fork, by what they do together. A process that has ended adds nothing to
 /// the list.
 ///
-/// The columns of reasons stand behind each object's line, `PROMISES PLACE LETTERS LINE`: the
+/// The columns of reasons stand after each object's line, `PROMISES PLACE LETTERS LINE`: the
 /// promises on which its calls rest, of each call the first set that is held, `=` for none; and of
 /// the veil that covers it where it is, its letters, `=` for none, and since which line it has them
-/// there; three times `-` where the process has no veils. The column of ways stands behind the
+/// there; three times `-` where the process has no veils. In a list for ever stand the place, the
+/// letters and the line of each veil under which the thing can come to stand, and that lets one of
+/// its calls through. The column of ways stands after the
 /// calls of each line that has calls which the list of now lacks on what the line is about: a blank
 /// and these calls in their order, with commas between them, each with a blank and the number of
 /// steps of a way to it on what the line's path and kind mean, as [`how_to`](crate::how_to) writes
 /// one; or `?`, where none was found. Each plan is served in a copy of the world that the script
 /// left.
 ///
-/// The first that holds of these is answered before anything is written: `EverWhy`, `NowHow` or
+/// The first that holds of these is answered before anything is written: `SeveralWhy`, `NowHow` or
 /// `SeveralHow`, where there is no such list; `Table`, `Listing` and `Script`; `NoProcess`; of a
 /// list for ever that of `CanUnveil`, `LacksC`, `RenameLacksC` and `LinkLacksC` which the first
 /// process has that has one; and of a list of several `OtherVeils`, of the first that lives and the
-/// first behind it that lives and has another place with a veil, or other letters at one. So is
+/// first after it that lives and has another place with a veil, or other letters at one. So is
 /// `OutOfMemory`, wherever a growth was refused. `Write` is answered only where a put failed in
 /// this call, and a front of the text is then written.
 pub fn list_to<S: Sink>(
@@ -86,12 +89,12 @@ pub fn list_to<S: Sink>(
 {
     let (tree, script, whose) = (tree_bytes, script_bytes, &list.whose);
     match (list.span, list.columns) {
-        (Span::Now, Columns::Plain) => objects_to(alloc, tree, script, table, whose, sink),
-        (Span::Now, Columns::Why) => objects_why_to(alloc, tree, script, table, whose, sink),
-        (Span::Now, Columns::How) => Err(ToolFault::NowHow),
-        (Span::Ever, Columns::Plain) => lasting_to(alloc, tree, script, table, whose, sink),
-        (Span::Ever, Columns::Why) => Err(ToolFault::EverWhy),
-        (Span::Ever, Columns::How) => ways_to(alloc, tree, script, table, whose, sink),
+        (Time::Now, Columns::Plain) => objects_to(alloc, tree, script, table, whose, sink),
+        (Time::Now, Columns::Why) => objects_why_to(alloc, tree, script, table, whose, sink),
+        (Time::Now, Columns::How) => Err(ToolFault::NowHow),
+        (Time::Ever, Columns::Plain) => lasting_to(alloc, tree, script, table, whose, sink),
+        (Time::Ever, Columns::Why) => reasons_to(alloc, tree, script, table, whose, sink),
+        (Time::Ever, Columns::How) => ways_to(alloc, tree, script, table, whose, sink),
     }
 }
 
@@ -113,6 +116,27 @@ fn lasting_to<S: Sink>(
         Processes::Named(_) | Processes::All => {
             together_to(alloc, tree_bytes, script_bytes, table, whose, sink)
         }
+    }
+}
+
+/// Writes the list for ever of one process with what lets calls through.
+fn reasons_to<S: Sink>(
+    alloc: Global,
+    tree_bytes: &[u8],
+    script_bytes: &[u8],
+    table: TableChoice<'_>,
+    whose: &Processes,
+    sink: &mut S,
+) -> Result<(), ToolFault>
+    ensures text { AnswersTo S.written S.failed
+        (lasting_why_text (choice_of table.entry) tree_bytes.now script_bytes.now whose.now)
+        result sink.old sink.new }
+{
+    match whose {
+        Processes::One(number) => {
+            ever_why_to(alloc, tree_bytes, script_bytes, table, *number, sink)
+        }
+        Processes::Named(_) | Processes::All => Err(ToolFault::SeveralWhy),
     }
 }
 

@@ -13,7 +13,7 @@ use pua_words::UsageLine;
 /// Why a command was not done, or not whole.
 #[derive(Clone, Copy)]
 pub(crate) enum CommandFault<'a> {
-    /// The words are no command; the line tells how they could be.
+    /// The words are no command; the line says how they could be one.
     Usage(UsageLine),
     /// The input of this name can't be read.
     Unreadable(&'a str),
@@ -32,7 +32,7 @@ impl CommandFault<'_> {
         }
     }
 
-    /// Writes the line that tells of the fault.
+    /// Writes the line of the fault.
     fn tell<E: Sink>(&self, err: &mut E) -> Result<(), PutFault>
         ensures { TellsFault self.now result (E.written err.old) (E.written err.new)
             (E.failed err.old) (E.failed err.new) }

@@ -1,21 +1,21 @@
 //! Wrong bodies of functions that no other crate calls: each claim meets what such a body would
 //! answer, and is proved never to, by the contracts of what it calls.
 
-use crate::columns::{Behind, steps_to};
-use crate::how::{Question, find};
+use crate::columns::{Behind, steps_to, trials_behind};
+use crate::how::{HowQuestion, find};
 use crate::script::Replay;
 use pua_calls::{Call, Rules};
 use pua_how::{Meant, Planner};
 use std::alloc::Global;
 
-/// Where memory was refused, plans may come to a way: of those that were served before `no way
-/// found` is told, none does when it is served again.
+/// Where memory was refused, plans may come to a way: of those that were served before
+/// `no way found` is written, none does when it is served again.
 fn no_way_found_for_want_of_memory(
     alloc: Global,
     replay: &Replay,
     rules: Rules,
     number: u32,
-    question: &Question,
+    question: &HowQuestion,
 ) {
     let Ok(Err(none)) = find(alloc, replay, rules, number, question) else {
         return;
@@ -35,7 +35,8 @@ fn steps_unknown_for_want_of_memory(
     call: Call,
     meant: &Meant,
 ) {
-    let Ok(Err(none)) = steps_to(alloc, behind, planner, call, meant) else {
+    let mut trials = trials_behind(alloc, behind);
+    let Ok(Err(none)) = steps_to(&mut trials, planner, call, meant) else {
         return;
     };
     let (world, rules) = (&behind.replay.world, behind.rules);

@@ -4,13 +4,13 @@ ghost use Rattle.std.specs.Prelude.{◌≡◌, Ok, IfOk, string_bytes};
 ghost use Rattle.pua_script.specs.Scripts.{script_by};
 ghost use Rattle.pua_tool.specs.Answers.{AnswersTo};
 ghost use Rattle.pua_tool.specs.Texts.{choice_of};
-ghost use Rattle.pua_tool.specs.PosedScripts.{IsPosed, as_asking};
+ghost use Rattle.pua_tool.specs.TwoWorlds.{IsTwoWorlds, as_served};
 ghost use Rattle.pua_tool.specs.WhyTexts.{reason_lines, run_why_text};
 
 use crate::fault::ToolFault;
 use crate::objects::put_text;
-use crate::posed::{Posed, pose};
 use crate::table::TableChoice;
+use crate::two_worlds::{TwoWorlds, two_worlds};
 use pua_calls::Rules;
 use pua_io::Sink;
 use pua_since::reason_text;
@@ -18,7 +18,7 @@ use pua_tree::OutOfMemory;
 use std::alloc::Global;
 
 /// Writes the text of a run with reasons: what [`run_by`](crate::run_by) writes, and in each line
-/// whose answer is not `ok` behind it a blank and the reason, and then ` since line M`, if it was
+/// whose answer is not `ok` after it a blank and the reason, and then ` since line M`, if it was
 /// not so from the start: before line M of the script the same request would have had another
 /// reason, after it and after each later line before this one it would have had this one. A process
 /// asked by its parent before the fork that made it. By OpenBSD's rules `, a kernel opens it by
@@ -39,9 +39,9 @@ pub fn run_why_to<S: Sink>(
         (run_why_text (choice_of table.entry) tree_bytes.now script_bytes.now)
         result sink.old sink.new }
 {
-    let mut posed = pose(alloc, tree_bytes, script_bytes, table)?;
-    let text = text_of(alloc, table.rules, script_bytes, &mut posed);
-    posed.release();
+    let mut worlds = two_worlds(alloc, tree_bytes, script_bytes, table)?;
+    let text = text_of(alloc, table.rules, script_bytes, &mut worlds);
+    worlds.release();
     let Ok(text) = text else {
         return Err(ToolFault::OutOfMemory);
     };
@@ -53,16 +53,16 @@ fn text_of(
     alloc: Global,
     rules: Rules,
     script_bytes: &[u8],
-    posed: &mut Posed,
+    worlds: &mut TwoWorlds,
 ) -> Result<String, OutOfMemory>
-    ensures { IfOk result (λ text. script_by rules script_bytes.now ≡ Ok posed.old.script →
-        IsPosed posed.old → string_bytes text ≡ reason_lines rules (as_asking posed.old)) }
+    ensures { IfOk result (λ text. script_by rules script_bytes.now ≡ Ok worlds.old.script →
+        IsTwoWorlds worlds.old → string_bytes text ≡ reason_lines rules (as_served worlds.old)) }
 {
-    let (requests, answers) = (posed.script.requests(), posed.answers.as_slice());
+    let (requests, answers) = (worlds.script.requests(), worlds.answers.as_slice());
     reason_text(
         alloc,
         rules,
-        &mut posed.before,
+        &mut worlds.before,
         script_bytes,
         requests,
         answers,

@@ -33,7 +33,7 @@ impl Replay {
 }
 
 /// Gives back the memory of a world: one call, where the world's drop would else be walked and
-/// proved at each exit behind it.
+/// proved at each exit after it.
 pub(crate) fn release(world: World<ProgramTree>) {}
 
 /// Serves a script over the tree of a listing, by the table that is chosen, or

@@ -38,20 +38,21 @@ use std::alloc::Global;
 /// for ever, of a way, of a tightened script or of a tree goes to `out`, and of a fault a line or
 /// two go to `err`, which are dropped where they can't be written. The inputs are taken, first the
 /// tree's, then the script's, then the table's where one is named, before any of them is read as a
-/// listing, a script or a table; none behind one that can't be taken, and no others. Where the
+/// listing, a script or a table; none after one that can't be taken, and no others. Where the
 /// command names a line of the script, the text is that of the script's lines up to this one;
 /// [`REFUSED`] also where there is no such line.
 ///
 /// It answers the status. [`DONE`]: the text that is asked for, of the bytes that the inputs hold
-/// under the command's names, was written, and nothing to `err`; of a way it is one of several, as
-/// which one is found is in no contract. [`REFUSED`]: these bytes, or what the audit or the way is
-/// asked for, are refused. [`DEVICE`]: an input is missing, and nothing was written; or a put
-/// failed, and a front of the text was written. [`MEMORY`]: a growth of memory was refused. After
-/// [`REFUSED`] and [`MEMORY`] nothing was written. After each but [`DONE`] the line of what stopped
-/// it went to `err`: all of it, or a front of it before a put that failed. Of an input that is
-/// refused this is the line with what is wrong, and with which line, candidate or call, if with
-/// one. Behind that line of a script, or of a request that is asked about, a second one says by
-/// OpenBSD's rules what is wrong with it ([`advise`](pua_advice::advise)).
+/// under the command's names, was written, and nothing to `err`; for `how` the text is one of
+/// several allowed ones, since no contract says which way is found. [`REFUSED`]: these bytes, or
+/// what the audit or the way is asked for, are refused. [`DEVICE`]: an input is missing, and
+/// nothing was written; or a put failed, and a front of the text was written. [`MEMORY`]: a growth
+/// of memory was refused. After [`REFUSED`] and [`MEMORY`] nothing was written. After each but
+/// [`DONE`] the line of what stopped it went to `err`: all of it, or a front of it before a put
+/// that failed. Of an input that is refused this is the line with what is wrong, and with which
+/// line, candidate or call, if with one. After that line of a script, or of a request that is
+/// asked about, a second one says by OpenBSD's rules what is wrong with it
+/// ([`advise`](pua_advice::advise)).
 pub fn perform<I: Inputs, O: Sink, E: Sink>(
     alloc: Global,
     command: &Command<'_>,

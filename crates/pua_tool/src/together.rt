@@ -16,11 +16,11 @@ use crate::objects::put_lists;
 use crate::script::{ProgramTree, Replay, replay_script};
 use crate::table::TableChoice;
 use pua_calls::{CallTable, Rules};
-use pua_ever::{both_of, join, list_lasting};
+use pua_ever::{bounded_exec, join, list_lasting};
 use pua_io::Sink;
 use pua_policy::Process;
 use pua_script::World;
-use pua_texts::{Joint, Member, answer_text, begin_together};
+use pua_texts::{Joined, Member, answer_text, begin_together};
 use pua_words::Processes;
 use std::alloc::Global;
 
@@ -120,12 +120,12 @@ fn joint_to<S: Sink>(
 {
     let (tree, table) = (world.tree(), world.table());
     let one = join_all(alloc, first, more, table)?;
-    let both = both_of(alloc, &one, table)?;
+    let both = bounded_exec(alloc, &one, table)?;
     let list = match list_lasting(alloc, tree, &one, both.as_ref(), table) {
         Ok(list) => list,
         Err(fault) => return Err(fault_of(first.number, fault)),
     };
-    let joint = Some(Joint {
+    let joint = Some(Joined {
         one: &one,
         list: &list,
     });

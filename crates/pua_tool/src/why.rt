@@ -4,7 +4,7 @@ ghost use Rattle.std.specs.Prelude.{◌≡◌, ◌≢◌, ◌++◌, ◌∷◌, O
 ghost use Rattle.std.specs.Prelude.{string_bytes};
 ghost use Rattle.pua_script.specs.Requests.{Asked};
 ghost use Rattle.pua_script.specs.Scripts.{request_by};
-ghost use Rattle.pua_tool.specs.PosedScripts.{IsPosed, as_asking};
+ghost use Rattle.pua_tool.specs.TwoWorlds.{IsTwoWorlds, as_served};
 ghost use Rattle.pua_tool.specs.Answers.{AnswersTo};
 ghost use Rattle.pua_tool.specs.Texts.{choice_of};
 ghost use Rattle.pua_tool.specs.WhyTexts.{as_request, chain_lines, request_line};
@@ -12,8 +12,8 @@ ghost use Rattle.pua_tool.specs.WhyTexts.{why_text};
 
 use crate::fault::ToolFault;
 use crate::objects::put_text;
-use crate::posed::{Posed, pose};
 use crate::table::TableChoice;
+use crate::two_worlds::{TwoWorlds, two_worlds};
 use pua_calls::Rules;
 use pua_io::Sink;
 use pua_script::{Request, ScriptFault, read_request_by};
@@ -22,7 +22,7 @@ use pua_tree::OutOfMemory;
 use std::alloc::{AllocError, Global};
 use std::fmt::Write;
 
-/// Writes what decides a request of this process, given by the fields of a script's line behind the
+/// Writes what decides a request of this process, given by the fields of a script's line after the
 /// number, where the script has been served: a line for the promises that let it through, for each
 /// link that its paths follow, for what they name and for the veil that covers that, in the order
 /// of the checks and as far as it passes them; and as the last line its answer, with the reason,
@@ -46,38 +46,38 @@ pub fn why_to<S: Sink>(
         (why_text (choice_of table.entry) tree_bytes.now script_bytes.now process
         (map (λ field. field.now) fields.now)) result sink.old sink.new }
 {
-    let mut posed = pose(alloc, tree_bytes, script_bytes, table)?;
-    let text = asked_text(alloc, &mut posed, table.rules, process, fields);
-    posed.release();
+    let mut worlds = two_worlds(alloc, tree_bytes, script_bytes, table)?;
+    let text = asked_text(alloc, &mut worlds, table.rules, process, fields);
+    worlds.release();
     put_text(text?.as_str(), sink)
 }
 
-/// The lines of what the request passes behind a script, or the fault of its fields. `OutOfMemory`
+/// The lines of what the request passes after a script, or the fault of its fields. `OutOfMemory`
 /// where a growth was refused.
 fn asked_text(
     alloc: Global,
-    posed: &mut Posed,
+    worlds: &mut TwoWorlds,
     rules: Rules,
     process: u32,
     fields: &[&[u8]],
 ) -> Result<String, ToolFault>
-    ensures done { IfOk result (λ text. IsPosed posed.old → (ask : Asked)
+    ensures done { IfOk result (λ text. IsTwoWorlds worlds.old → (ask : Asked)
         × (as_request (request_by rules 1 (request_line process
         (map (λ field. field.now) fields.now))) ≡ Ok ask) × (string_bytes text
-        ≡ chain_lines rules (as_asking posed.old) ask)) }
+        ≡ chain_lines rules (as_served worlds.old) ask)) }
     ensures refused { IfErr result (λ fault. fault ≢ ToolFault.OutOfMemory →
         as_request (request_by rules 1 (request_line process
         (map (λ field. field.now) fields.now))) ≡ Err fault) }
     ensures unwritten { IfErr result (λ fault. fault ≢ ToolFault.Write) }
 {
     let request = read_asked(alloc, rules, process, fields)?;
-    match text_of(alloc, rules, posed, &request) {
+    match text_of(alloc, rules, worlds, &request) {
         Ok(text) => Ok(text),
         Err(OutOfMemory) => Err(ToolFault::OutOfMemory),
     }
 }
 
-/// The request of a process, by the fields behind its number, which are read by these rules.
+/// The request of a process, by the fields after its number, which are read by these rules.
 fn read_asked(
     alloc: Global,
     rules: Rules,
@@ -101,7 +101,7 @@ fn read_asked(
     }
 }
 
-/// The line of a script with this process and these fields behind it. The only error is that a
+/// The line of a script with this process and these fields after it. The only error is that a
 /// growth was refused.
 pub(crate) fn line_of(alloc: Global, process: u32, fields: &[&[u8]]) -> Result<Vec<u8>, AllocError>
     ensures { IfOk result (λ line. line.items ≡ request_line process
@@ -125,17 +125,17 @@ fn push_field(line: &mut Vec<u8>, field: &[u8]) -> Result<(), AllocError>
     line.extend_from_slice(field)
 }
 
-/// The lines of what a request passes behind a script, and of its answer.
+/// The lines of what a request passes after a script, and of its answer.
 fn text_of(
     alloc: Global,
     rules: Rules,
-    posed: &mut Posed,
+    worlds: &mut TwoWorlds,
     request: &Request,
 ) -> Result<String, OutOfMemory>
-    ensures { IfOk result (λ text. IsPosed posed.old →
-        string_bytes text ≡ chain_lines rules (as_asking posed.old) request.now) }
+    ensures { IfOk result (λ text. IsTwoWorlds worlds.old →
+        string_bytes text ≡ chain_lines rules (as_served worlds.old) request.now) }
 {
-    let (requests, answers) = (posed.script.requests(), posed.answers.as_slice());
-    let (before, after) = (&mut posed.before, &mut posed.after);
+    let (requests, answers) = (worlds.script.requests(), worlds.answers.as_slice());
+    let (before, after) = (&mut worlds.before, &mut worlds.after);
     chain_text(alloc, rules, before, after, requests, answers, request)
 }

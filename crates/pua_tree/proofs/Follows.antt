@@ -9,7 +9,7 @@ use Rattle.pua_tree.specs.Names.{is_name}
 use Rattle.pua_tree.specs.Reading.{follows, said_node, node_follows, row_follows}
 use Rattle.pua_tree.specs.Edits.{has_name_room}
 use Rattle.pua_tree.specs.declared.fault.TreeFault.TheVariants.{NotDir, Taken, Missing, IsDir, Full}
-use Rattle.pua_tree.specs.declared.gathered.Standing.{Standing}
+use Rattle.pua_tree.specs.declared.gathered.LineNode.{LineNode}
 use Rattle.pua_tree.specs.declared.gathered.MadeNode.{MadeNode}
 
 -- an entry that may follow passes the test
@@ -47,7 +47,7 @@ free_where t e h =
     not-true _ (and_parts _ _ not_last.1).0
 
 -- an entry that passes the test may follow
-pub follows_from : (t : Tree) (dir : ℕ) (name : List ℕ) (stands : Standing) → IsTrue (is_name name) →
+pub follows_from : (t : Tree) (dir : ℕ) (name : List ℕ) (stands : LineNode) → IsTrue (is_name name) →
     follows t (entry_at dir name stands) ≡ true → Follows t (entry_at dir name stands)
 follows_from t dir name stands named h =
     let in_dir = and_parts _ _ h in

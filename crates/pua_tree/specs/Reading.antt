@@ -11,7 +11,7 @@ use Rattle.pua_tree.specs.Listing.{last_number, tree_of}
 use Rattle.pua_tree.specs.Grammar.{entries_fit}
 use Rattle.pua_tree.specs.declared.form.Form.{Form}
 use Rattle.pua_tree.specs.declared.gathered.LineEntry.{LineEntry}
-use Rattle.pua_tree.specs.declared.gathered.Standing.{Standing}
+use Rattle.pua_tree.specs.declared.gathered.LineNode.{LineNode}
 use Rattle.pua_tree.specs.declared.gathered.MadeNode.{MadeNode}
 
 -- a node that a line makes
@@ -19,7 +19,7 @@ abbrev pub said_node : MadeNode → tree.Node
 said_node made = record { kind = made.kind; target = option_map (λ target. target.items) made.target }
 
 -- the entry of a line whose row stands in this directory under this name
-abbrev pub entry_at : ℕ → List ℕ → Standing → listing.Entry
+abbrev pub entry_at : ℕ → List ℕ → LineNode → listing.Entry
 entry_at dir name stands = record {
   number = stands.number;
   parent = dir;

@@ -16,19 +16,19 @@ use std::alloc::Global;
 pub(crate) struct LineEntry<'a> {
     pub(crate) parent: NodeId,
     pub(crate) name: LentName<'a>,
-    pub(crate) stands: Standing,
+    pub(crate) stands: LineNode,
 }
 
 /// What a line puts into its row: a node, and the node that it makes under its number. A hard link
 /// makes none: the node of its row is of an earlier line.
 #[derive(Drop)]
-pub(crate) struct Standing {
+pub(crate) struct LineNode {
     pub(crate) number: u32,
     pub(crate) node: NodeId,
     pub(crate) made: Option<MadeNode>,
 }
 
-impl Standing {
+impl LineNode {
     /// Whether the node may come to a row: the line makes it, under its own number, or else it was
     /// found in a slot.
     pub(crate) fn may_stand(&self, slot: Option<usize>) -> bool
@@ -70,7 +70,7 @@ pub(crate) trait Gathered: FileTree + Drop {
     /// makes it. The next number is then above the line's. What may not follow the tree's entries,
     /// as at a spot that has a row, is not put. Answers whether it was put. The only error is that
     /// a growth was refused. The tree is as it was where nothing is put.
-    fn put(&mut self, spot: &Spot, stands: Standing) -> Result<bool, OutOfMemory>
+    fn put(&mut self, spot: &Spot, stands: LineNode) -> Result<bool, OutOfMemory>
         ensures follows { IfOk result (λ put. put
             ≡ follows (Self.content self.old) (entry_at spot.now.dir spot.now.name stands)) }
         ensures grown { result ≡ Ok true → Self.content self.new

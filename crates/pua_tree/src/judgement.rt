@@ -2,7 +2,7 @@
 //! what is found by bytes.
 
 use crate::fault::TreeFault;
-use crate::gathered::Standing;
+use crate::gathered::LineNode;
 use crate::name::{LentName, Name};
 use crate::node::{Kind, NodeId};
 use crate::spot::Spot;
@@ -172,7 +172,7 @@ pub(crate) fn may_tie<T: Judged>(
 
 /// Whether a node may come to a new row at this spot, under the number of a line, and be made there
 /// where the line makes it.
-pub(crate) fn may_put<T: Judged>(tree: &T, spot: &Spot, stands: &Standing) -> bool
+pub(crate) fn may_put<T: Judged>(tree: &T, spot: &Spot, stands: &LineNode) -> bool
     ensures follows { result
         ≡ follows (T.held tree.now) (entry_at spot.now.dir spot.now.name stands.now) }
     ensures name { IsTrue (is_name spot.now.name) }
@@ -196,7 +196,7 @@ pub(crate) fn may_put_row<T: Judged>(tree: &T, spot: &Spot, number: u32) -> bool
 
 /// Whether the node of a line may come to a row: what the line makes has its number, and another
 /// lives and is no directory.
-fn may_have_row<T: Judged>(tree: &T, stands: &Standing) -> bool
+fn may_have_row<T: Judged>(tree: &T, stands: &LineNode) -> bool
     ensures { result ≡ node_follows (T.held tree.now) stands.now.number stands.now.node
         (option_map said_node stands.now.made) }
 {

@@ -1,7 +1,7 @@
 //! A tree kept as a list of rows and a list of nodes, each in the order of its keys.
 
 use crate::fault::{OutOfMemory, TreeFault};
-use crate::gathered::{Gathered, MadeNode, Standing};
+use crate::gathered::{Gathered, LineNode, MadeNode};
 use crate::judgement::{self, Judged, Moving, may_add, may_cut, may_put, may_shift, may_tie};
 use crate::list_edits::{copied_target, push_made, put_row, reserve_one, take_row, take_unnamed};
 use crate::name::{LentName, Name};
@@ -139,7 +139,7 @@ impl FileTree for ListTree {
         let number = self.numbering.next;
         let node = NodeId::new(number);
         let made = Some(MadeNode { kind, target });
-        let stands = Standing { number, node, made };
+        let stands = LineNode { number, node, made };
         self.put(&Spot { dir, name }, stands)?;
         Ok(node)
     }
@@ -207,12 +207,12 @@ impl Gathered for ListTree {
         self.node_at(spot)
     }
 
-    fn put(&mut self, spot: &Spot, stands: Standing) -> Result<bool, OutOfMemory> {
+    fn put(&mut self, spot: &Spot, stands: LineNode) -> Result<bool, OutOfMemory> {
         if !may_put(self, spot, &stands) {
             return Ok(false);
         }
         reserve_one(&mut self.rows, &mut self.nodes)?;
-        let Standing { number, node, made } = stands;
+        let LineNode { number, node, made } = stands;
         let row = ListRow {
             dir: spot.dir,
             name: spot.name,

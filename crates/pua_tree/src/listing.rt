@@ -18,7 +18,7 @@ ghost use Rattle.pua_tree.specs.Reading.{Gathers, entry_said, said_node};
 use crate::fault::ListingFault;
 use crate::field::number_within;
 use crate::form::Form;
-use crate::gathered::{Gathered, LineEntry, MadeNode, Standing};
+use crate::gathered::{Gathered, LineEntry, LineNode, MadeNode};
 use crate::line::{ListingLine, read_line};
 use crate::link_target::is_target;
 use crate::list::ListTree;
@@ -225,7 +225,7 @@ impl<T: Gathered> Reading<T> {
             return Err(ListingFault::BadName(n));
         };
         let (node, made) = self.node_of(alloc, n, number, &line)?;
-        let stands = Standing { number, node, made };
+        let stands = LineNode { number, node, made };
         Ok(LineEntry {
             parent,
             name,

@@ -1,7 +1,7 @@
 //! A tree that uses slots again: rows by their spots, and nodes in slots that are found by number.
 
 use crate::fault::{OutOfMemory, TreeFault};
-use crate::gathered::{Gathered, MadeNode, Standing};
+use crate::gathered::{Gathered, LineNode, MadeNode};
 use crate::judgement::{self, Judged, Moving, may_add, may_cut, may_put_row, may_shift, may_tie};
 use crate::list_edits::copied_target;
 use crate::name::{LentName, Name};
@@ -107,7 +107,7 @@ impl FileTree for SlabTree {
         let number = self.numbering.next;
         let node = NodeId::new(number);
         let made = Some(MadeNode { kind, target });
-        let stands = Standing { number, node, made };
+        let stands = LineNode { number, node, made };
         let above = self.slots.slot(dir);
         self.slots
             .put_entry(above, None, &Spot { dir, name }, stands)?;
@@ -174,7 +174,7 @@ impl Gathered for SlabTree {
         self.node_at(spot)
     }
 
-    fn put(&mut self, spot: &Spot, stands: Standing) -> Result<bool, OutOfMemory> {
+    fn put(&mut self, spot: &Spot, stands: LineNode) -> Result<bool, OutOfMemory> {
         let above = self.slots.dir_slot(spot.dir);
         let other = self.slots.other_slot(&stands);
         let number = stands.number;

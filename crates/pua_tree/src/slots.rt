@@ -1,6 +1,6 @@
 //! Rows by their spots, and nodes in slots that are used again, found by their numbers.
 
-use crate::gathered::{MadeNode, Standing};
+use crate::gathered::{LineNode, MadeNode};
 use crate::name::Name;
 use crate::node::{Kind, NodeId};
 use crate::spot::Spot;
@@ -221,7 +221,7 @@ impl Slots {
 
     /// The slot of a node that stands in other rows, where a line gives it a further one: None for
     /// what is no living node, or a directory, and where the line makes the node.
-    pub(crate) fn other_slot(&self, stands: &Standing) -> Option<usize>
+    pub(crate) fn other_slot(&self, stands: &LineNode) -> Option<usize>
         ensures slot { IsSome result → result ≡ slot_of self.now stands.now.node }
         ensures other { is_some result ≡ (is_none stands.now.made
             && (is_some (node_in self.now stands.now.node) && not (is_dir_kind
@@ -441,7 +441,7 @@ impl Slots {
         above: Option<usize>,
         other: Option<usize>,
         spot: &Spot,
-        stands: Standing,
+        stands: LineNode,
     ) -> Result<(), AllocError>
         ensures grown { above ≡ slot_of self.old spot.now.dir →
             (is_none stands.made ≡ true → other ≡ slot_of self.old stands.node) →
@@ -457,7 +457,7 @@ impl Slots {
             held_in_slots self.new numbering ≡ held_in_slots self.old numbering) }
     {
         self.reserve_node()?;
-        let Standing { node, made, .. } = stands;
+        let LineNode { node, made, .. } = stands;
         let slot = self.add_made(node, made, other);
         self.put_row_under(above, slot, spot, node);
         Ok(())

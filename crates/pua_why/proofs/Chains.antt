@@ -1,4 +1,6 @@
 -- What a chain tells.
+use Rattle.pua_calls.specs.declared.rules.Rules.{Rules}
+use Rattle.pua_why.specs.Reasons.{outcome_in}
 use Rattle.pua_why.proofs.Common.{◌≡◌, ℕ, suc, ◌+◌, Bool, true, false, List, [], ◌∷◌, ◌++◌, map, length, Some, None, refl, sym, ap, ◌∙◌}
 use Rattle.pua_why.proofs.Common.{append_assoc, append-nil, arith, Result, Ok, Err, Option, if◌then◌else◌, decimal, option_map}
 use Rattle.pua_why.proofs.Common.{Tree, Spot, climb, Found, Ending, PathTrace, PathFault, CallTable, PairRule, rule_of, ProcessState, perms_kept}
@@ -8,7 +10,7 @@ use Rattle.pua_why.proofs.Common.{unpromised_fault, told_path, uncovered_fault, 
 use Rattle.pua_why.proofs.Common.{facts_named, facts_under, call_trace, name_trace, Place}
 use Rattle.std.specs.Prelude.{bit_or}
 use Rattle.pua_path.specs.declared.text.Ending.TheVariants as ending
-use Rattle.pua_policy.specs.States.{has_veil}
+use Rattle.pua_policy.specs.States.{has_veil, working_dir}
 use Rattle.pua_policy.specs.Verdict.{nearest}
 use Rattle.pua_policy.specs.declared.place.Place.TheVariants.{Dir}
 use Rattle.pua_policy.specs.declared.answer.Cover.TheVariants.{All}
@@ -94,11 +96,12 @@ grants_are_told t table h call text change e =
     by (promising h (rule_of table call).alternatives) refl (call_trace t h call text).outcome refl e
   where
     wrong : Found → Option Fault
-    wrong object = option_map (Unfit Sole object) (misfit t call (object_of t object))
+    wrong object = option_map (Unfit Sole object) (misfit table.whose t call (object_of t object))
 
     by : (p : Promising) → promising h (rule_of table call).alternatives ≡ p → (o : Result Found PathFault) →
         (call_trace t h call text).outcome ≡ o →
-        unless_refused (unpromised_fault p) (on_named (λ fault. fault) (told_path Sole o) λ object.
+        unless_refused (unpromised_fault p) (on_named (λ fault. fault)
+        (told_path Sole (outcome_in table.whose t (working_dir h) text o)) λ object.
         unless_failed (λ fault. fault) (or_fault (uncovered_fault Sole object (rule_of table call).perms (covering t h object))
         (wrong object)) (Ok (change_by table call object))) ≡ Ok change →
         FactsOf t table h call text
@@ -120,7 +123,7 @@ second_none None b e = e
 second_none (Some fault) b e = cc
 
 -- two paths
-module _ (pair : PairRule) (t : Tree) (h : ProcessState) (end : Ending) (a b : List ℕ) where
+module _ (whose : Rules) (pair : PairRule) (t : Tree) (h : ProcessState) (end : Ending) (a b : List ℕ) where
   abbrev first : PathTrace
   first = name_trace pair.old t h end a
 
@@ -156,7 +159,7 @@ module _ (pair : PairRule) (t : Tree) (h : ProcessState) (end : Ending) (a b : L
       (facts_covered New (covering t h new) (second_none (of_old old) (of_new new) none i) []))))
 
   pair_told : (further : Found → Found → Outcome Fault) (change : Change) →
-      pair_by faults pair t (faults_of h) end a b further ≡ Ok change → PairFactsOf pair t h end a b
+      pair_by faults whose pair t (faults_of h) end a b further ≡ Ok change → PairFactsOf pair t h end a b
   pair_told further change e =
       by (promising h pair.old.needs.alternatives) refl (promising h pair.new.needs.alternatives) refl first.outcome refl second.outcome
       refl e
@@ -164,8 +167,8 @@ module _ (pair : PairRule) (t : Tree) (h : ProcessState) (end : Ending) (a b : L
       by : (p : Promising) → promising h pair.old.needs.alternatives ≡ p → (q : Promising) → promising h pair.new.needs.alternatives ≡ q →
           (o : Result Found PathFault) → first.outcome ≡ o → (n : Result Found PathFault) → second.outcome ≡ n →
           unless_refused (unpromised_fault p)
-          (unless_refused (unpromised_fault q) (on_named (λ fault. fault) (told_path Old o) λ old. on_named (λ fault. fault)
-          (told_path New n) λ new.
+          (unless_refused (unpromised_fault q) (on_named (λ fault. fault) (told_path Old (outcome_in whose t (working_dir h) a o)) λ old. on_named (λ fault. fault)
+          (told_path New (outcome_in whose t (working_dir h) b n)) λ new.
           unless_failed (λ fault. fault) (both old new) (further old new))) ≡ Ok change → PairFactsOf pair t h end a b
       by (Holds x) p (Holds y) q (Ok old) o (Ok new) n e = record {
         old_promises = x;
@@ -187,6 +190,6 @@ module _ (pair : PairRule) (t : Tree) (h : ProcessState) (end : Ending) (a b : L
 
 pub pairs_are_told : PairsAreTold
 pairs_are_told = record {
-  renames = λ t table h old new change e. pair_told table.rename t h ending.Dropped old new _ change e;
-  links = λ t table h old new change e. pair_told table.link t h ending.Dot old new _ change e;
+  renames = λ t table h old new change e. pair_told table.whose table.rename t h ending.Dropped old new _ change e;
+  links = λ t table h old new change e. pair_told table.whose table.link t h ending.Dot old new _ change e;
 }

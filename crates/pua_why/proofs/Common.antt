@@ -14,7 +14,7 @@ pub use Rattle.pua_path.specs.declared.found.Found.TheVariants.{Slot, Whole}
 pub use Rattle.pua_path.specs.declared.found.Last.TheVariants.{Followed}
 pub use Rattle.pua_path.specs.declared.text.Ending.{Ending}
 pub use Rattle.pua_path.specs.declared.traced.PathFault.{PathFault}
-pub use Rattle.pua_path.specs.declared.traced.TextFault.{TextFault}
+pub use Rattle.pua_path.specs.declared.traced.PathTextFault.{PathTextFault}
 pub use Rattle.pua_policy.specs.States.{ProcessState, is_ended, is_locked, perms_kept, working_dir}
 pub use Rattle.pua_policy.specs.Misfits.{misfit}
 pub use Rattle.pua_policy.specs.Reasons.{covering, HasEnded, Holds, Lacks, Promising, promising}

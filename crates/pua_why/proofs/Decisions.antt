@@ -1,7 +1,7 @@
 -- A decision, a verdict and an answer are functions of what is reasoned.
 use Rattle.pua_why.proofs.Common.{◌≡◌, ℕ, Bool, true, false, List, [], ◌∷◌, length, Some, None, refl, ap, ◌∙◌, Result, Ok, Err, Option}
 use Rattle.pua_why.proofs.Common.{if◌then◌else◌, ◌||◌, not, is_some, nat_le, option_map, Tree, Spot, add, cut, tie, shift, TreeFault}
-use Rattle.pua_why.proofs.Common.{spot_named, node_named, Ending, Followed, Found, Whole, Slot, text_fault, trace_of_text, TextFault}
+use Rattle.pua_why.proofs.Common.{spot_named, node_named, Ending, Followed, Found, Whole, Slot, text_fault, trace_of_text, PathTextFault}
 use Rattle.pua_why.proofs.Common.{PathFault, holds, unveil, CallTable, PairRule, rule_of, ProcessState, is_ended, is_locked, perms_kept}
 use Rattle.pua_why.proofs.Common.{working_dir, object_of, or_fault, Place, Call, most_processes, Change, NoChange, AddNode, CutRow}
 use Rattle.pua_why.proofs.Common.{ShiftRow, TieRow, BeginProgram, AddEvent, CopyAs, Outcome, Side, Sole, Old, New, unless_refused}
@@ -24,7 +24,8 @@ use Rattle.pua_path.specs.Traces.{text_errno, object_or_errno}
 use Rattle.pua_path.proofs.ForCallers.{text_traces_answer}
 use Rattle.pua_calls.specs.Promises.{proc}
 use Rattle.pua_calls.specs.Calls.{last_of, ending_of}
-use Rattle.pua_policy.specs.States.{pledged_set, held_for_exec, has_error, is_within, veils}
+use Rattle.pua_policy.specs.States.{error_frees_exec, pledged_set, held_for_exec, has_error, is_within, veils}
+use Rattle.pua_calls.specs.declared.rules.Rules.{Rules}
 use Rattle.pua_policy.specs.States.{place_fault, most_places, unveil_fault, pledge_fault, may_any}
 use Rattle.pua_policy.specs.Verdict.{place_of, object_fault, object_named, cover, cover_fault, found_fault}
 use Rattle.pua_policy.specs.Verdict.{allowed_unless, if_promised, refusal_of, refusal_verdict, verdict_of}
@@ -37,8 +38,13 @@ use Rattle.pua_policy.specs.declared.answer.Refusal.TheVariants as refusal
 use Rattle.pua_policy.specs.declared.answer.Verdict.{Verdict}
 use Rattle.pua_policy.specs.declared.answer.Verdict.TheVariants as verdict
 use Rattle.pua_script.specs.Decide.{Decision}
+use Rattle.pua_script.specs.Decide.{before_long, errno_behind, errno_by, front_errno, named_in, path_named}
+use Rattle.pua_calls.specs.declared.rules.Rules.TheVariants.{Standard, Openbsd}
+use Rattle.pua_path.specs.declared.found.Last.{Last}
+use Rattle.pua_path.specs.Traces.{path_errno}
+use Rattle.pua_why.specs.Reasons.{fault_behind, fault_by, front_fault, outcome_in}
 use Rattle.pua_script.specs.Decide.{tying, dots_by, top_by, ways_by, kinds_by, inside_by, is_whole, given_set, is_unknown}
-use Rattle.pua_script.specs.Decide.{object_by, rename_by, link_by, veil_by, unveil_errno, refusals, asker_of, decide}
+use Rattle.pua_script.specs.Decide.{asks_directory, object_by, rename_by, link_by, veil_by, unveil_errno, refusals, asker_of, decide}
 use Rattle.pua_policy.specs.Misfits.{misfit_errno}
 use Rattle.pua_calls.specs.declared.fits.Misfit.{Misfit}
 use Rattle.pua_calls.specs.declared.fits.Misfit.TheVariants.{IsDirectory, IsNoFile, IsNoDirectory, IsNotEmpty, Exists}
@@ -130,7 +136,7 @@ promises_told h sets = unpromised_told (promising h sets) ∙ ap refusal_of (pro
 target_told : (target : List ℕ) → Told (option_map BadTarget (text_fault target)) ≡ Failing (path_fault target)
 target_told target = by (text_fault target)
   where
-    by : (fault : Option TextFault) → Told (option_map BadTarget fault) ≡ Failing (option_map text_errno fault)
+    by : (fault : Option PathTextFault) → Told (option_map BadTarget fault) ≡ Failing (option_map text_errno fault)
     by None = refl
     by (Some fault) = refl
 
@@ -156,32 +162,66 @@ module _ (t : Tree) (h : ProcessState) where
   cover_told side object perms = uncovered_told side object perms (covering t h object) ∙
       ap (λ c. Failing (cover_fault c perms)) (coverings_cover t h object)
 
-  object_told : (c : Call) (object : Found) →
-      Told (option_map (Unfit Sole object) (misfit t c (object_of t object))) ≡ Failing (object_fault t c (object_of t object))
-  object_told c object = wrong_told object (misfit t c (object_of t object))
+  object_told : (table : CallTable) (c : Call) (object : Found) →
+      Told (option_map (Unfit Sole object) (misfit table.whose t c (object_of t object))) ≡ Failing (object_fault table.whose t c (object_of t object))
+  object_told table c object = wrong_told object (misfit table.whose t c (object_of t object))
+
+  -- what a path names by a table's rules, or why it names nothing
+  front_told : (fault : PathFault) (o : Result Found PathFault) (r : Result Found Errno) → object_or_errno o ≡ r →
+      path_errno (front_fault fault o) ≡ front_errno (path_errno fault) r
+  front_told fault (Ok x) r is = ap (front_errno (path_errno fault)) is
+  front_told fault (Err front) r is = ap (front_errno (path_errno fault)) is
+
+  behind_told : (from : ℕ) (fault : PathFault) (front : Option (List ℕ)) →
+      path_errno (fault_behind t from fault front) ≡ errno_behind t from (path_errno fault) front
+  behind_told from fault None = refl
+  behind_told from fault (Some front) =
+      front_told fault (trace_of_text t from ending.Dot front Followed).outcome (resolution_of_text t from ending.Dot front Followed)
+      (text_traces_answer t from ending.Dot front Followed)
+
+  fault_told : (whose : Rules) (from : ℕ) (text : List ℕ) (fault : PathFault) →
+      path_errno (fault_by whose t from text fault) ≡ errno_by whose t from text (path_errno fault)
+  fault_told Standard from text fault = refl
+  fault_told Openbsd from text fault = behind_told from fault (before_long text)
+
+  named_in_told : (whose : Rules) (from : ℕ) (text : List ℕ) (o : Result Found PathFault) →
+      object_or_errno (outcome_in whose t from text o) ≡ named_in whose t from text (object_or_errno o)
+  named_in_told whose from text (Ok x) = refl
+  named_in_told whose from text (Err fault) = ap failing (fault_told whose from text fault)
+    where
+      failing : Errno → Result Found Errno
+      failing errno = Err errno
+
+  path_told : (whose : Rules) (end : Ending) (text : List ℕ) (mode : Last) →
+      object_or_errno (outcome_in whose t (working_dir h) text (trace_of_text t (working_dir h) end text mode).outcome)
+      ≡ path_named whose t (working_dir h) end text mode
+  path_told whose end text mode =
+      named_in_told whose (working_dir h) text (trace_of_text t (working_dir h) end text mode).outcome
+      ∙ ap (named_in whose t (working_dir h) text) (text_traces_answer t (working_dir h) end text mode)
 
   -- a call of the table, whose promises are held
   call_told : (table : CallTable) (c : Call) (path : List ℕ) (f : Found → Change) →
       decision_of (object_by faults table t (faults_of h) c path (λ x. Ok (f x)))
       ≡ object_by refusals table t (asker_of h) c path (λ x. Ok (f x))
   call_told table c path f =
-      named_told Sole (trace_of_text t (working_dir h) (ending_of c) path (last_of c)).outcome (object_named t h c path) _ _
-      (text_traces_answer t (working_dir h) (ending_of c) path (last_of c)) λ x.
+      named_told Sole (outcome_in table.whose t (working_dir h) path (trace_of_text t (working_dir h) (ending_of c) path (last_of c)).outcome)
+      (path_named table.whose t (working_dir h) (ending_of c) path (last_of c)) _ _
+      (path_told table.whose (ending_of c) path (last_of c)) λ x.
       failed_told _ (found_fault t table h c x) (Ok (f x)) (Ok (f x)) (or_told _ _ _ _ (cover_told Sole x (rule_of table c).perms)
-      (object_told c x)) refl
+      (object_told table c x)) refl
 
   -- two paths
-  pair_told : (rules : PairRule) (end : Ending) (old new : List ℕ) (f : Found → Found → Outcome Fault) (g : Found → Found → Decision) →
+  pair_told : (whose : Rules) (rules : PairRule) (end : Ending) (old new : List ℕ) (f : Found → Found → Outcome Fault) (g : Found → Found → Decision) →
       ((a b : Found) → decision_of (f a b) ≡ g a b) →
-      decision_of (pair_by faults rules t (faults_of h) end old new f) ≡ pair_by refusals rules t (asker_of h) end old new g
-  pair_told rules end old new f g each =
+      decision_of (pair_by faults whose rules t (faults_of h) end old new f) ≡ pair_by refusals whose rules t (asker_of h) end old new g
+  pair_told whose rules end old new f g each =
       refused_told _ _ _ _ (promises_told h rules.old.needs.alternatives)
       (refused_told _ _ _ _ (promises_told h rules.new.needs.alternatives)
-      (named_told Old (trace_of_text t (working_dir h) end old rules.old.last).outcome
-      (resolution_of_text t (working_dir h) end old rules.old.last) _ _ (text_traces_answer t (working_dir h) end old rules.old.last)
+      (named_told Old (outcome_in whose t (working_dir h) old (trace_of_text t (working_dir h) end old rules.old.last).outcome)
+      (path_named whose t (working_dir h) end old rules.old.last) _ _ (path_told whose end old rules.old.last)
       λ a.
-      named_told New (trace_of_text t (working_dir h) end new rules.new.last).outcome
-      (resolution_of_text t (working_dir h) end new rules.new.last) _ _ (text_traces_answer t (working_dir h) end new rules.new.last)
+      named_told New (outcome_in whose t (working_dir h) new (trace_of_text t (working_dir h) end new rules.new.last).outcome)
+      (path_named whose t (working_dir h) end new rules.new.last) _ _ (path_told whose end new rules.new.last)
       λ b.
       failed_told _ _ (f a b) (g a b) (or_told _ _ _ _ (cover_told Old a rules.old.needs.perms) (cover_told New b rules.new.needs.perms))
       (each a b)))
@@ -221,9 +261,12 @@ inside_told : (t : Tree) (x : ℕ) (a b : Found) (spot : Option Spot) →
 inside_told t x a b None = refl
 inside_told t x a b (Some spot) = when_told (is_inside t x spot.0) (Inside a b) EINVAL refl
 
-rename_told : (t : Tree) (a b : Found) (node : Option ℕ) → decision_of (rename_by faults t a b node) ≡ rename_by refusals t a b node
-rename_told t a b None = refl
-rename_told t a b (Some x) = failed_told _ _ _ _ (ways_told a b) (by (is_same_node x (node_named b)))
+rename_told : (t : Tree) (asks : Bool) (a b : Found) (node : Option ℕ) →
+    decision_of (rename_by faults t asks a b node) ≡ rename_by refusals t asks a b node
+rename_told t asks a b None = refl
+rename_told t asks a b (Some x) = failed_told _ _ _ _ (ways_told a b)
+    (failed_told _ _ _ _ (when_told (asks && not (is_whole a)) (Unfit Old a IsNoDirectory) (misfit_errno IsNoDirectory) refl)
+    (by (is_same_node x (node_named b))))
   where
     moves : Decision
     moves = Ok (shifting (spot_named a) (spot_named b))
@@ -243,17 +286,22 @@ link_told a b (Some x) = failed_told _ _ _ (Ok (tying x (spot_named b)))
     (when_told (is_some (node_named b)) (Unfit New b Exists) (misfit_errno Exists) refl)) refl
 
 -- a pledge
-pledge_told : (h : ProcessState) (p x : Option ℕ) → Told (pledge_beyond h p x) ≡ Failing (pledge_fault h p x)
-pledge_told h p x = by (has_error h) (is_within p (pledged_set h)) (is_within x (held_for_exec h))
+pledge_told : (whose : Rules) (h : ProcessState) (p x : Option ℕ) →
+    Told (pledge_beyond whose h p x) ≡ Failing (pledge_fault whose h p x)
+pledge_told whose h p x =
+    by (has_error h) (error_frees_exec whose (has_error h)) (is_within p (pledged_set h)) (is_within x (held_for_exec h))
   where
-    by : (w u v : Bool) →
-        Told (if w then None else or_fault (fault_if (not u) (AsksPromises false (beyond p (pledged_set h))))
-        (fault_if (not v) (AsksPromises true (beyond x (held_for_exec h)))))
-        ≡ Failing (if w || (u && v) then None else Some EPERM)
-    by true u v = refl
-    by false false v = refl
-    by false true false = refl
-    by false true true = refl
+    by : (w f u v : Bool) →
+        Told (or_fault (if w then None else fault_if (not u) (AsksPromises false (beyond p (pledged_set h))))
+        (if f then None else fault_if (not v) (AsksPromises true (beyond x (held_for_exec h)))))
+        ≡ Failing (if (w || u) && (f || v) then None else Some EPERM)
+    by true true u v = refl
+    by true false u true = refl
+    by true false u false = refl
+    by false f false v = refl
+    by false true true v = refl
+    by false false true true = refl
+    by false false true false = refl
 
 -- an unveil
 place_told : (place : Place) (o : Option ℕ) (places perms : ℕ) →
@@ -279,12 +327,12 @@ unveil_told h place perms = by (is_locked h)
     by true = refl
     by false = place_told place (perms_kept h place) (length (veils h)) perms
 
-veil_told : (t : Tree) (h : ProcessState) (path : List ℕ) (letters : Option ℕ) →
-    decision_of (veil_by faults t (faults_of h) path letters) ≡ veil_by refusals t (asker_of h) path letters
-veil_told t h path None = refl
-veil_told t h path (Some perms) =
-    named_told Sole (trace_of_text t (working_dir h) ending.Dot path Followed).outcome (resolution_of_text t (working_dir h) ending.Dot path
-    Followed) _ _ (text_traces_answer t (working_dir h) ending.Dot path Followed) λ x.
+veil_told : (whose : Rules) (t : Tree) (h : ProcessState) (path : List ℕ) (letters : Option ℕ) →
+    decision_of (veil_by faults whose t (faults_of h) path letters) ≡ veil_by refusals whose t (asker_of h) path letters
+veil_told whose t h path None = refl
+veil_told whose t h path (Some perms) =
+    named_told Sole (outcome_in whose t (working_dir h) path (trace_of_text t (working_dir h) ending.Dot path Followed).outcome)
+    (path_named whose t (working_dir h) ending.Dot path Followed) _ _ (path_told t h whose ending.Dot path Followed) λ x.
     failed_told _ _ _ _ (unveil_told h (place_of x) perms) refl
 
 pub reasons_give_decisions : ReasonsGiveDecisions
@@ -294,14 +342,14 @@ reasons_give_decisions table t h (Symlink target path) =
     refused_told _ _ _ _ (promises_told h (rule_of table call.Symlink).alternatives)
     (failed_told _ _ _ _ (target_told target) (call_told t h table call.Symlink path (adding (link_node target))))
 reasons_give_decisions table t h (Rename old new) =
-    pair_told t h table.rename ending.Dropped old new _ _ (λ a b. rename_told t a b (node_named a))
-reasons_give_decisions table t h (Link old new) = pair_told t h table.link ending.Dot old new _ _ (λ a b. link_told a b (node_named a))
+    pair_told t h table.whose table.rename ending.Dropped old new _ _ (λ a b. rename_told t (asks_directory table.whose old new) a b (node_named a))
+reasons_give_decisions table t h (Link old new) = pair_told t h table.whose table.link ending.Dot old new _ _ (λ a b. link_told a b (node_named a))
 reasons_give_decisions table t h (Pledge p x) =
     failed_told _ _ _ _ (when_told (is_unknown p || is_unknown x) (UnknownPromise (not (is_unknown p))) EINVAL refl)
-    (failed_told _ _ _ _ (pledge_told h (given_set p) (given_set x)) refl)
+    (failed_told _ _ _ _ (pledge_told table.whose h (given_set p) (given_set x)) refl)
 reasons_give_decisions table t h (Unveil path perms) =
     refused_told _ _ _ _ (promises_told h (unveil ∷ [])) (failed_told _ _ _ _ (when_told (is_locked h) IsLocked EPERM refl)
-    (veil_told t h path perms))
+    (veil_told table.whose t h path perms))
 reasons_give_decisions table t h Lock = refused_told _ _ _ _ (promises_told h (unveil ∷ [])) refl
 reasons_give_decisions table t h (Fork new) = refused_told _ _ _ _ (promises_told h (proc ∷ [])) refl
 reasons_give_decisions table t h Exit = refl
@@ -343,8 +391,8 @@ verdict_is t table h c (Err errno) = refl
 pub reasons_give_verdicts : ReasonsGiveVerdicts
 reasons_give_verdicts t table h c text =
     verdict_told (change_or_fault table t h (OnPath c text)) ∙ ap verdict_as (reasons_give_decisions table t h (OnPath c text))
-    ∙ decided_as t table h c (may_any h (rule_of table c).alternatives) (object_named t h c text)
-    ∙ verdict_is t table h c (object_named t h c text)
+    ∙ decided_as t table h c (may_any h (rule_of table c).alternatives) (named_in table.whose t (working_dir h) text (object_named t h c text))
+    ∙ verdict_is t table h c (named_in table.whose t (working_dir h) text (object_named t h c text))
 
 -- the answer to a change
 abbrev told : Option Fault → Answer

@@ -6,32 +6,44 @@ use Rattle.std.specs.Prelude.{IfSome}
 use Rattle.pua_script.specs.Decide.{object_by}
 use Rattle.pua_calls.specs.declared.fits.Misfit.{Misfit}
 use Rattle.pua_policy.specs.ReasonLaws.{MisfitHolds}
+use Rattle.pua_path.specs.declared.traced.PathFault.{PathFault}
+use Rattle.pua_calls.specs.declared.rules.Rules.{Rules}
+use Rattle.pua_policy.specs.States.{working_dir}
+use Rattle.pua_why.specs.Reasons.{outcome_in}
+use Rattle.std.specs.Prelude.{Result}
 use Rattle.pua_why.specs.Laws.{CallFaultHolds, CallFaultsHold}
 use Rattle.pua_why.proofs.Steps.{refused_true, failed_true, named_true, either_true, unpromised_true, uncovered_true}
 use Rattle.pua_policy.proofs.ForCallers.{misfits_hold}
+
+-- what a path names by any rules, its text names
+pub outcome_ok : (whose : Rules) (t : Tree) (from : ℕ) (text : List ℕ) (o : Result Found PathFault) (x : Found) →
+    outcome_in whose t from text o ≡ Ok x → o ≡ Ok x
+outcome_ok whose t from text (Ok y) x e = e
+outcome_ok whose t from text (Err fault) x e = cc
 
 module _ (t : Tree) (table : CallTable) (h : ProcessState) (c : Call) (text : List ℕ) where
   abbrev Is : Fault → Type 0
   Is = CallFaultHolds t table h c text
 
-  wrong_true : (object : Found) (wrong : Option Misfit) (bad : Fault) → misfit t c (object_of t object) ≡ wrong →
+  wrong_true : (object : Found) (wrong : Option Misfit) (bad : Fault) → misfit table.whose t c (object_of t object) ≡ wrong →
       (call_trace t h c text).outcome ≡ Ok object →
       option_map (Unfit Sole object) wrong ≡ Some bad → Is bad
   wrong_true object None bad m o e = cc
   wrong_true object (Some wrong) bad m o e =
       let same : Unfit Sole object wrong ≡ bad = cc in
-      subst Is same (o, m, subst (λ x. IfSome x (MisfitHolds t (object_of t object))) m (misfits_hold t c (object_of t object)))
+      subst Is same (o, m, subst (λ x. IfSome x (MisfitHolds t (object_of t object))) m (misfits_hold table.whose t c (object_of t object)))
 
   -- once its promises are held
   pub object_true : (f : Found → Change) (fault : Fault) →
       object_by faults table t (faults_of h) c text (λ x. Ok (f x)) ≡ Err fault → Is fault
   object_true f fault e =
-      named_true Sole (call_trace t h c text).outcome _ fault Is (λ bad o. o)
-      (λ object o e. failed_true _ _ fault Is
+      named_true Sole (outcome_in table.whose t (working_dir h) text (call_trace t h c text).outcome) _ fault Is (λ bad o. o)
+      (λ object told e. let o = outcome_ok table.whose t (working_dir h) text (call_trace t h c text).outcome object told in
+      failed_true _ _ fault Is
       (λ bad e. either_true _ _ bad Is
       (uncovered_true Sole object (rule_of table c).perms (covering t h object) bad Is (λ none. (o, none))
       (λ place given over lacks. (object, o, over, lacks, refl)))
-      (wrong_true object (misfit t c (object_of t object)) bad refl o) e)
+      (wrong_true object (misfit table.whose t c (object_of t object)) bad refl o) e)
       (λ granted. cc) e) e
 
 pub call_faults_hold : CallFaultsHold

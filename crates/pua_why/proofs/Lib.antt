@@ -1,7 +1,7 @@
 pub mod Common
 pub mod Decisions
 pub mod Sincing
-pub mod Lines
+pub mod ReasonsAddToLines
 pub mod Chains
 pub mod Steps
 pub mod Faults

@@ -1,7 +1,7 @@
 -- What a request passed, as it is told one after another.
 use Rattle.pua_why.proofs.Common.{◌≡◌, ℕ, false, List, [], ◌∷◌, ◌++◌, map, Some, None, refl, sym, ap, ◌∙◌, append_assoc, Result, Ok, Err}
 use Rattle.pua_why.proofs.Common.{Option, if◌then◌else◌, is_some, option_map, Spot, Found, PathFault, PathTrace, ProcessState, Place, IsLocked}
-use Rattle.pua_why.proofs.Common.{place_beyond, Promising, Holds, Outcome, Side, unless_refused, unless_failed, TextFault}
+use Rattle.pua_why.proofs.Common.{place_beyond, Promising, Holds, Outcome, Side, unless_refused, unless_failed, PathTextFault}
 use Rattle.pua_why.proofs.Common.{fault_seen, refused_by, Fact, Needs, Follows, facts_promised, facts_named}
 use Rattle.std.specs.Prelude.{bit_or, length}
 use Rattle.pua_policy.specs.States.{veil_at}
@@ -55,7 +55,7 @@ promises_passed None further p d none told rest = rest ∙ ap (λ q. refused_by 
 promises_passed (Some fault) further p d none told rest = cc
 
 -- and a target that is a path
-pub target_passed : (further : Option told.Fault) (o : Option TextFault) (d : Outcome reasons.Fault) → None ≡ o
+pub target_passed : (further : Option told.Fault) (o : Option PathTextFault) (d : Outcome reasons.Fault) → None ≡ o
     → option_map fault_seen further ≡ refused_by d →
     option_map fault_seen further ≡ refused_by (unless_failed (λ fault. fault) (option_map reasons.BadTarget o) d)
 target_passed further o d none rest = rest ∙ ap (λ q. refused_by (unless_failed (λ fault. fault) (option_map reasons.BadTarget q) d)) none

@@ -2,7 +2,7 @@
 use Rattle.pua_why.proofs.Common.{◌≡◌, ℕ, Bool, true, false, List, [], ◌∷◌, length, Some, None, refl, sym, Result, Ok, Err, Option, subst}
 use Rattle.pua_why.proofs.Common.{ap, ◌∙◌, if◌then◌else◌, not, ◌||◌, is_some, nat_le, option_map, Tree, Spot, add, cut, tie, shift}
 use Rattle.pua_why.proofs.Common.{TreeFault, spot_named, node_named, Ending, Followed, Found, Whole, Slot, text_fault, trace_of_text}
-use Rattle.pua_why.proofs.Common.{TextFault, holds, unveil, CallTable, PairRule, rule_of, ProcessState, is_locked, perms_kept, working_dir}
+use Rattle.pua_why.proofs.Common.{PathTextFault, holds, unveil, CallTable, PairRule, rule_of, ProcessState, is_locked, perms_kept, working_dir}
 use Rattle.pua_why.proofs.Common.{or_fault, Place, most_processes, Change, NoChange, AddNode, CutRow, ShiftRow, TieRow, BeginProgram}
 use Rattle.pua_why.proofs.Common.{AddEvent, CopyAs, Outcome, Side, Sole, Old, New, unless_refused, unless_failed, adding, link_node}
 use Rattle.pua_why.proofs.Common.{shifting, pair_by, World, kept_at, change_effect, come_of, edit_effect, edited_tree, OnPath, Symlink}
@@ -16,12 +16,12 @@ use Rattle.pua_path.specs.declared.errno.Errno.TheVariants.{ENOSPC}
 use Rattle.pua_path.specs.declared.text.Ending.TheVariants as ending
 use Rattle.pua_path.specs.declared.found.Way.TheVariants as way
 use Rattle.pua_calls.specs.Promises.{proc}
-use Rattle.pua_policy.specs.States.{pledged_set, held_for_exec, has_error, is_within, veils}
+use Rattle.pua_policy.specs.States.{error_frees_exec, pledged_set, held_for_exec, has_error, is_within, veils}
 use Rattle.pua_policy.specs.States.{most_places}
 use Rattle.pua_policy.specs.Verdict.{place_of}
 use Rattle.pua_calls.specs.declared.call.Call.TheVariants as call
 use Rattle.pua_script.specs.Decide.{dots_by, top_by, kinds_by, inside_by, is_whole}
-use Rattle.pua_script.specs.Decide.{given_set, is_unknown, rename_by, link_by, veil_by}
+use Rattle.pua_script.specs.Decide.{asks_directory, given_set, is_unknown, rename_by, link_by, veil_by}
 use Rattle.pua_calls.specs.declared.fits.Misfit.TheVariants.{Missing, Exists, IsDirectory, IsNoFile, IsNoDirectory, IsNotEmpty, ByDot}
 use Rattle.pua_calls.specs.declared.fits.Misfit.TheVariants.{ByDotDot, ByNothing}
 use Rattle.pua_script.specs.Replay.{Fails, effect}
@@ -29,15 +29,19 @@ use Rattle.pua_script.specs.declared.request.Given.{Given}
 use Rattle.pua_script.specs.declared.request.Action.{Action}
 use Rattle.pua_why.specs.Reasons.{Ends, LacksPromises, BadTarget, BadPath, Uncovered, Inside, UnknownPromise}
 use Rattle.pua_why.specs.Reasons.{AsksPromises, UnknownLetter, AsksLetters, NoPlaceLeft, NoRoom}
-use Rattle.pua_why.specs.Reasons.{beyond, asks_beyond, unveil_beyond}
+use Rattle.pua_why.specs.Reasons.{beyond, asks_beyond, pledge_beyond, unless, unveil_beyond}
 use Rattle.pua_why.specs.Laws.{CallFaultHolds}
 use Rattle.pua_why.specs.Truths.{PromiseFaultHolds, SymlinkFaultHolds, side_outcome, PairFaultHolds, PledgeFaultHolds, UnveilFaultHolds}
 use Rattle.pua_why.specs.Truths.{CheckFaultHolds, CheckFaultsHold, RoomFaultHolds, RequestFaultHolds, RequestFaultsHold, FullTreesAreFull}
+use Rattle.pua_calls.specs.declared.rules.Rules.{Rules}
+use Rattle.pua_why.specs.Reasons.{outcome_in}
+use Rattle.pua_why.proofs.Faults.{outcome_ok}
 use Rattle.pua_why.proofs.Steps.{same_fault, refused_true, failed_true, named_true, either_true, when_true, unpromised_true, uncovered_true}
 use Rattle.pua_script.proofs.ForCallers.{requests_lack}
 use Rattle.pua_why.proofs.Decisions.{reasons_give_decisions}
 use Rattle.pua_why.proofs.Faults.{object_true, call_faults_hold}
-use Rattle.std.proofs.lemmas.Bool.{not-true}
+use Rattle.std.proofs.lemmas.Bool.{false≢true, not-true}
+use Rattle.std.proofs.Common.{◌&&◌}
 
 -- a symlink: a fault of a call on its path, or of its target
 by_target : (table : CallTable) (t : Tree) (h : ProcessState) (target path : List ℕ) (fault : Fault) →
@@ -64,7 +68,7 @@ target_true : (table : CallTable) (t : Tree) (h : ProcessState) (target path : L
     option_map BadTarget (text_fault target) ≡ Some bad → SymlinkFaultHolds table t h target path bad
 target_true table t h target path bad e = by (text_fault target) refl e
   where
-    by : (o : Option TextFault) → text_fault target ≡ o → option_map BadTarget o ≡ Some bad → SymlinkFaultHolds table t h target path bad
+    by : (o : Option PathTextFault) → text_fault target ≡ o → option_map BadTarget o ≡ Some bad → SymlinkFaultHolds table t h target path bad
     by None o e = cc
     by (Some fault) o e = let same : BadTarget fault ≡ bad = cc in subst (SymlinkFaultHolds table t h target path) same o
 
@@ -78,9 +82,9 @@ symlink_true table t h target path fault e =
     (λ e. by_target table t h target path fault (object_true t table h call.Symlink path (adding (link_node target)) fault e)) e) e
 
 -- two paths
-module _ (pair : PairRule) (t : Tree) (h : ProcessState) (end : Ending) (a b : List ℕ) where
+module _ (whose : Rules) (pair : PairRule) (t : Tree) (h : ProcessState) (end : Ending) (a b : List ℕ) where
   abbrev Pair : Fault → Type 0
-  Pair = PairFaultHolds pair t h end a b
+  Pair = PairFaultHolds whose pair t h end a b
 
   abbrev Led : Side → Found → Type 0
   Led side object = side_outcome pair t h end a b side ≡ Ok object
@@ -124,16 +128,23 @@ module _ (pair : PairRule) (t : Tree) (h : ProcessState) (end : Ending) (a b : L
         record { node = x; spot = spot; is_node = is_x; is_spot = is_spot; inside = v },
       )) e
 
-  rename_true : (old new : Found) (node : Option ℕ) (fault : Fault) → node_named old ≡ node → Led Old old → Led New new →
-      rename_by faults t old new node ≡ Err fault → Pair fault
-  rename_true old new None fault is o n e = subst Pair (same_fault (Unfit Old old Missing) fault e) (o, is)
-  rename_true old new (Some x) fault is o n e =
+  rename_true : (asks : Bool) (old new : Found) (node : Option ℕ) (fault : Fault) → node_named old ≡ node → Led Old old → Led New new →
+      rename_by faults t asks old new node ≡ Err fault → Pair fault
+  rename_true asks old new None fault is o n e = subst Pair (same_fault (Unfit Old old Missing) fault e) (o, is)
+  rename_true asks old new (Some x) fault is o n e =
       failed_true _ _ fault Pair
       (λ bad e. either_true _ _ bad Pair (dots_true Old old bad o)
       (λ e. either_true _ _ bad Pair (dots_true New new bad n)
       (λ e. either_true _ _ bad Pair (top_true Old old bad o) (top_true New new bad n) e) e) e)
-      (λ e. by (is_same_node x (node_named new)) e) e
+      (λ e. failed_true _ _ fault Pair
+      (λ bad e. when_true (asks && not (is_whole old)) (Unfit Old old IsNoDirectory) bad Pair
+      (λ v. (o, (not-true (is_whole old) (asked asks (is_whole old) v), ap is_some is))) e)
+      (λ e. by (is_same_node x (node_named new)) e) e) e
     where
+      asked : (a b : Bool) → (a && not b) ≡ true → not b ≡ true
+      asked true b v = v
+      asked false b v = absurd (false≢true v)
+
       by : (v : Bool) →
           (if v then Ok NoChange else unless_failed (λ fault. fault) (or_fault (inside_by (Inside old new) t x (spot_named new))
           (kinds_by (λ wrong. Unfit New new wrong) t old new)) (Ok (shifting (spot_named old) (spot_named new)))) ≡ Err fault →
@@ -162,53 +173,59 @@ module _ (pair : PairRule) (t : Tree) (h : ProcessState) (end : Ending) (a b : L
 
   pair_true : (further : Found → Found → Outcome Fault) (fault : Fault) →
       ((old new : Found) → Led Old old → Led New new → further old new ≡ Err fault → Pair fault) →
-      pair_by faults pair t (faults_of h) end a b further ≡ Err fault → Pair fault
+      pair_by faults whose pair t (faults_of h) end a b further ≡ Err fault → Pair fault
   pair_true further fault each e =
       refused_true _ _ fault Pair
       (λ bad e. unpromised_true h pair.old.needs.alternatives bad Pair (λ ended. ended) (λ error lacks is. inl is) e)
       (λ e. refused_true _ _ fault Pair
       (λ bad e. unpromised_true h pair.new.needs.alternatives bad Pair (λ ended. ended) (λ error lacks is. inr is) e)
-      (λ e. named_true Old (name_trace pair.old t h end a).outcome _ fault Pair (λ bad o. o)
-      (λ old o e. named_true New (name_trace pair.new t h end b).outcome _ fault Pair (λ bad n. n)
-      (λ new n e. failed_true _ _ fault Pair
+      (λ e. named_true Old (outcome_in whose t (working_dir h) a (name_trace pair.old t h end a).outcome) _ fault Pair (λ bad o. o)
+      (λ old led_old e. named_true New (outcome_in whose t (working_dir h) b (name_trace pair.new t h end b).outcome) _ fault Pair
+      (λ bad n. n)
+      (λ new led_new e.
+      let o = outcome_ok whose t (working_dir h) a (name_trace pair.old t h end a).outcome old led_old in
+      let n = outcome_ok whose t (working_dir h) b (name_trace pair.new t h end b).outcome new led_new in
+      failed_true _ _ fault Pair
       (λ bad e. either_true _ _ bad Pair
       (cover_true Old old bad pair.old.needs.perms o (λ place given over lacks. (old, o, over, lacks, refl)))
       (cover_true New new bad pair.new.needs.perms n (λ place given over lacks. (new, n, over, lacks, refl))) e)
       (λ e. each old new o n e) e) e) e) e) e
 
 -- a pledge
-asks_true : (h : ProcessState) (p x : Given) (of_exec : Bool) (request given : Option ℕ) (bad : Fault) →
-    (is_within request given ≡ false → PledgeFaultHolds h p x (AsksPromises of_exec (beyond request given))) →
-    asks_beyond of_exec request given ≡ Some bad → PledgeFaultHolds h p x bad
-asks_true h p x of_exec request given bad is e =
-    when_true (not (is_within request given)) (AsksPromises of_exec (beyond request given)) bad (PledgeFaultHolds h p x)
-    (λ v. is (not-true (is_within request given) v)) e
+asks_true : (Holds : Fault → Type 0) (of_exec : Bool) (request given : Option ℕ) (lets : Bool) (bad : Fault) →
+    (lets ≡ false → is_within request given ≡ false → Holds (AsksPromises of_exec (beyond request given))) →
+    unless lets (asks_beyond of_exec request given) ≡ Some bad → Holds bad
+asks_true Holds of_exec request given true bad is e = cc
+asks_true Holds of_exec request given false bad is e =
+    when_true (not (is_within request given)) (AsksPromises of_exec (beyond request given)) bad Holds
+    (λ v. is refl (not-true (is_within request given) v)) e
 
 pledge_true : (table : CallTable) (t : Tree) (h : ProcessState) (p x : Given) (fault : Fault) →
-    change_or_fault table t h (Pledge p x) ≡ Err fault → PledgeFaultHolds h p x fault
+    change_or_fault table t h (Pledge p x) ≡ Err fault → PledgeFaultHolds table.whose h p x fault
 pledge_true table t h p x fault e =
-    failed_true _ _ fault (PledgeFaultHolds h p x)
-    (λ bad e. when_true (is_unknown p || is_unknown x) (UnknownPromise (not (is_unknown p))) bad (PledgeFaultHolds h p x)
+    failed_true _ _ fault Holds
+    (λ bad e. when_true (is_unknown p || is_unknown x) (UnknownPromise (not (is_unknown p))) bad Holds
     (λ v. unknown (is_unknown p) refl v) e)
-    (λ e. failed_true _ _ fault (PledgeFaultHolds h p x) (λ bad e. more bad (has_error h) refl e) (λ granted. cc) e) e
+    (λ e. failed_true _ _ fault Holds more (λ granted. cc) e) e
   where
-    unknown : (v : Bool) → is_unknown p ≡ v → v || is_unknown x ≡ true → PledgeFaultHolds h p x (UnknownPromise (not v))
+    Holds : Fault → Type 0
+    Holds = PledgeFaultHolds table.whose h p x
+
+    unknown : (v : Bool) → is_unknown p ≡ v → v || is_unknown x ≡ true → Holds (UnknownPromise (not v))
     unknown true is e = is
     unknown false is e = e
 
-    more : (bad : Fault) (v : Bool) → has_error h ≡ v →
-        (if v then None else or_fault (asks_beyond false (given_set p) (pledged_set h)) (asks_beyond true (given_set x) (held_for_exec h)))
-        ≡ Some bad → PledgeFaultHolds h p x bad
-    more bad true v e = cc
-    more bad false v e =
-        either_true _ _ bad (PledgeFaultHolds h p x)
-        (asks_true h p x false (given_set p) (pledged_set h) bad (λ lacks. (v, lacks, refl)))
-        (asks_true h p x true (given_set x) (held_for_exec h) bad (λ lacks. (v, lacks, refl))) e
+    more : (bad : Fault) → pledge_beyond table.whose h (given_set p) (given_set x) ≡ Some bad → Holds bad
+    more bad e =
+        either_true _ _ bad Holds
+        (asks_true Holds false (given_set p) (pledged_set h) (has_error h) bad (λ own lacks. (own, lacks, refl)))
+        (asks_true Holds true (given_set x) (held_for_exec h) (error_frees_exec table.whose (has_error h)) bad
+        (λ frees lacks. (frees, lacks, refl))) e
 
 -- an unveil
-module _ (t : Tree) (h : ProcessState) (path : List ℕ) where
+module _ (whose : Rules) (t : Tree) (h : ProcessState) (path : List ℕ) where
   abbrev Veil : Option ℕ → Fault → Type 0
-  Veil letters = UnveilFaultHolds t h path letters
+  Veil letters = UnveilFaultHolds whose t h path letters
 
   place_true : (place : Place) (o : Option ℕ) (perms : ℕ) (bad : Fault) → perms_kept h place ≡ o →
       place_beyond place o (length (veils h)) perms ≡ Some bad → Veil (Some perms) bad
@@ -234,19 +251,20 @@ module _ (t : Tree) (h : ProcessState) (path : List ℕ) where
       by true v e = let same : IsLocked ≡ bad = cc in subst (Veil (Some perms)) same v
       by false v e = place_true place (perms_kept h place) perms bad refl e
 
-  veil_true : (letters : Option ℕ) (fault : Fault) → veil_by faults t (faults_of h) path letters ≡ Err fault → Veil letters fault
+  veil_true : (letters : Option ℕ) (fault : Fault) → veil_by faults whose t (faults_of h) path letters ≡ Err fault → Veil letters fault
   veil_true None fault e = subst (Veil None) (same_fault UnknownLetter fault e) refl
   veil_true (Some perms) fault e =
-      named_true Sole (trace_of_text t (working_dir h) ending.Dot path Followed).outcome _ fault (Veil (Some perms)) (λ bad o. o)
+      named_true Sole (outcome_in whose t (working_dir h) path (trace_of_text t (working_dir h) ending.Dot path Followed).outcome) _ fault
+      (Veil (Some perms)) (λ bad o. o)
       (λ object o e. failed_true _ _ fault (Veil (Some perms)) (λ bad e. beyond_true (place_of object) perms bad e) (λ granted. cc) e) e
 
 unveil_true : (table : CallTable) (t : Tree) (h : ProcessState) (path : List ℕ) (letters : Option ℕ) (fault : Fault) →
-    change_or_fault table t h (Unveil path letters) ≡ Err fault → UnveilFaultHolds t h path letters fault
+    change_or_fault table t h (Unveil path letters) ≡ Err fault → UnveilFaultHolds table.whose t h path letters fault
 unveil_true table t h path letters fault e =
-    refused_true _ _ fault (UnveilFaultHolds t h path letters)
-    (λ bad e. unpromised_true h (unveil ∷ []) bad (UnveilFaultHolds t h path letters) (λ ended. ended) (λ error lacks is. is) e)
-    (λ e. failed_true _ _ fault (UnveilFaultHolds t h path letters)
-    (λ bad e. when_true (is_locked h) IsLocked bad (UnveilFaultHolds t h path letters) (λ v. v) e) (λ e. veil_true t h path letters fault e)
+    refused_true _ _ fault (UnveilFaultHolds table.whose t h path letters)
+    (λ bad e. unpromised_true h (unveil ∷ []) bad (UnveilFaultHolds table.whose t h path letters) (λ ended. ended) (λ error lacks is. is) e)
+    (λ e. failed_true _ _ fault (UnveilFaultHolds table.whose t h path letters)
+    (λ bad e. when_true (is_locked h) IsLocked bad (UnveilFaultHolds table.whose t h path letters) (λ v. v) e) (λ e. veil_true table.whose t h path letters fault e)
     e) e
 
 -- promises alone
@@ -260,10 +278,10 @@ pub check_faults_hold : CheckFaultsHold
 check_faults_hold table t h (OnPath c path) fault e = call_faults_hold t table h c path fault e
 check_faults_hold table t h (Symlink target path) fault e = symlink_true table t h target path fault e
 check_faults_hold table t h (Rename old new) fault e =
-    pair_true table.rename t h ending.Dropped old new _ fault (λ a b o n e. rename_true table.rename t h ending.Dropped old new a b
-    (node_named a) fault refl o n e) e
+    pair_true table.whose table.rename t h ending.Dropped old new _ fault (λ a b o n e. rename_true table.whose table.rename t h ending.Dropped old new
+    (asks_directory table.whose old new) a b (node_named a) fault refl o n e) e
 check_faults_hold table t h (Link old new) fault e =
-    pair_true table.link t h ending.Dot old new _ fault (λ a b o n e. link_true table.link t h ending.Dot old new a b (node_named a) fault
+    pair_true table.whose table.link t h ending.Dot old new _ fault (λ a b o n e. link_true table.whose table.link t h ending.Dot old new a b (node_named a) fault
     refl o n e) e
 check_faults_hold table t h (Pledge p x) fault e = pledge_true table t h p x fault e
 check_faults_hold table t h (Unveil path letters) fault e = unveil_true table t h path letters fault e

@@ -68,6 +68,9 @@ pub record WhyRows : Type 0 where
       ∷ codes "1 symlink = /l" ∷ []) ≡
       codes "1 EINVAL path ends in .." ∷ codes "2 ENOTEMPTY /etc is not empty" ∷ codes "3 ENOTDIR /etc/passwd is no directory"
       ∷ codes "4 ENOENT /nope is missing" ∷ codes "5 ENOENT target is empty" ∷ []
+  -- OpenBSD's rules look at the directory that `..` names
+  pub openbsd_misfits : why_by Openbsd example (codes "1 rmdir /etc/.." ∷ codes "1 rmdir /etc/." ∷ codes "1 rename /etc/.. /x" ∷ []) ≡
+      codes "1 ENOTEMPTY / is not empty" ∷ codes "2 EINVAL path ends in ." ∷ codes "3 EINVAL old: path ends in .." ∷ []
   pub locks : why_of example (codes "1 unveil /etc r" ∷ codes "1 unveil /etc rw" ∷ codes "1 unveil /etc q" ∷ codes "1 unveil - -"
       ∷ codes "1 unveil /tmp r" ∷ []) ≡
       codes "1 ok" ∷ codes "2 EPERM no w in veil r on /etc since line 1" ∷ codes "3 EINVAL unknown letter" ∷ codes "4 ok"
@@ -141,6 +144,11 @@ pub record WhyRows : Type 0 where
       codes "needs unveil" ∷ codes "names file /etc/passwd" ∷ codes "ok" ∷ []
   pub by_kernel : why_by Openbsd ordered_tree (codes "1 pledge stdio,cpath -" ∷ codes "1 rename /f /g" ∷ []) ≡
       codes "1 ok" ∷ codes "2 killed no rpath since line 1" ∷ []
+  pub kernel_slash : why_by Openbsd ordered_tree (codes "1 rename /f/ /y" ∷ codes "1 rename /d/f /y/" ∷ []) ≡
+      codes "1 ENOTDIR old: /f is no directory" ∷ codes "2 ENOTDIR old: /d/f is no directory" ∷ []
+  pub kernel_exec_promises : why_by Openbsd root_alone (codes "1 pledge stdio,error stdio" ∷ codes "1 pledge stdio,rpath,error stdio"
+      ∷ codes "1 pledge stdio stdio,rpath" ∷ []) ≡
+      codes "1 ok" ∷ codes "2 ok" ∷ codes "3 EPERM no rpath in execpromises since line 1" ∷ []
   pub by_kernel_new : why_by Openbsd ordered_tree (codes "1 pledge stdio,rpath -" ∷ codes "1 link /f /g" ∷ []) ≡
       codes "1 ok" ∷ codes "2 killed no cpath since line 1" ∷ []
   pub kernel_pair : chain_by Openbsd ordered_tree [] (codes "1 rename /d/f /d/h") ≡
@@ -229,6 +237,7 @@ why_rows = record {
   misfits = refl;
   more_misfits = refl;
   last_misfits = refl;
+  openbsd_misfits = refl;
   locks = refl;
   pledges = refl;
   forks = refl;
@@ -254,6 +263,8 @@ why_rows = record {
   lacking_veil = refl;
   another_veil = refl;
   by_kernel = refl;
+  kernel_slash = refl;
+  kernel_exec_promises = refl;
   by_kernel_new = refl;
   kernel_pair = refl;
   kernel_link = refl;

@@ -1,8 +1,8 @@
 -- When two reasons are the same: what a path names may be another, but it lacks the same for the same cause.
 use Rattle.std.specs.Prelude.{ℕ, Bool, true, false, List, [], ◌∷◌}
 use Rattle.pua_path.specs.declared.traced.Stop.TheVariants.{NoEntry, NoDirectory, LinkBeyond}
-use Rattle.pua_path.specs.declared.traced.TextFault.{TextFault}
-use Rattle.pua_path.specs.declared.traced.TextFault.TheVariants.{EmptyText, LongText, LongComponent, NulInText}
+use Rattle.pua_path.specs.declared.traced.PathTextFault.{PathTextFault}
+use Rattle.pua_path.specs.declared.traced.PathTextFault.TheVariants.{EmptyText, LongText, LongComponent, NulInText}
 use Rattle.pua_path.specs.declared.traced.PathFault.{PathFault}
 use Rattle.pua_path.specs.declared.traced.PathFault.TheVariants.{InText, NoStart, Stops}
 use Rattle.pua_policy.specs.declared.place.Place.{Place}
@@ -24,7 +24,7 @@ side_key Sole = 0
 side_key Old = 1
 side_key New = 2
 
-abbrev pub text_key : TextFault → ℕ
+abbrev pub text_key : PathTextFault → ℕ
 text_key EmptyText = 0
 text_key LongText = 1
 text_key LongComponent = 2

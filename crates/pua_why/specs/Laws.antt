@@ -7,8 +7,8 @@ use Rattle.pua_path.specs.declared.found.Found.{Found}
 use Rattle.pua_calls.specs.Promises.{holds}
 use Rattle.pua_calls.specs.Calls.{CallTable, PairRule, rule_of}
 use Rattle.pua_calls.specs.declared.rules.Rules.{Rules}
-use Rattle.pua_policy.specs.States.{ProcessState, is_ended}
-use Rattle.pua_policy.specs.Verdict.{object_of, verdict_on}
+use Rattle.pua_policy.specs.States.{ProcessState, is_ended, working_dir}
+use Rattle.pua_policy.specs.Verdict.{object_of, object_named, verdict_of}
 use Rattle.pua_policy.specs.ReasonLaws.{LackSome, MisfitHolds}
 use Rattle.pua_calls.specs.declared.call.Call.{Call}
 use Rattle.pua_script.specs.Requests.{Asked}
@@ -20,14 +20,14 @@ use Rattle.pua_policy.specs.Misfits.{misfit}
 use Rattle.pua_policy.specs.declared.reason.Covering.{Covering}
 use Rattle.pua_policy.specs.declared.reason.Covering.TheVariants.{NoneOver, By}
 use Rattle.pua_policy.specs.Reasons.{Holds, promising, covering}
-use Rattle.pua_script.specs.Decide.{Change, Outcome, Decision, Sole, Old, New, decide}
+use Rattle.pua_script.specs.Decide.{Change, Outcome, Decision, Sole, Old, New, decide, named_in}
 use Rattle.pua_script.specs.declared.request.Action.{Action}
 use Rattle.pua_script.specs.declared.request.Action.TheVariants.{OnPath, Rename, Link}
 use Rattle.pua_policy.specs.Verdict.{refusal_verdict}
 use Rattle.pua_policy.specs.declared.answer.Verdict.{Verdict}
 use Rattle.pua_policy.specs.declared.answer.Verdict.TheVariants.{Allowed}
 use Rattle.pua_why.specs.Reasons.{Fault, Ends, LacksPromises, BadPath, Uncovered, LacksLetters, Unfit, fault_refusal, change_or_fault}
-use Rattle.pua_why.specs.Reasons.{reason, answer_of}
+use Rattle.pua_why.specs.Reasons.{reason, answer_of, outcome_in}
 use Rattle.pua_why.specs.Facts.{Needs, Follows, Names, Under, call_trace, call_facts, name_trace, pair_facts}
 use Rattle.pua_why.specs.Keys.{reason_key}
 use Rattle.pua_why.specs.Since.{Test, since, IsSince}
@@ -47,10 +47,10 @@ abbrev pub verdict_by : Outcome Fault → Verdict
 verdict_by (Ok _) = Allowed
 verdict_by (Err fault) = refusal_verdict (fault_refusal fault)
 
--- a reason never contradicts the verdict
+-- a reason never contradicts the verdict on what the path names by the table's rules, which tell apart nothing but errnos
 abbrev pub ReasonsGiveVerdicts : Type 0
 ReasonsGiveVerdicts = (t : Tree) (table : CallTable) (h : ProcessState) (call : Call) (text : List ℕ) →
-    verdict_by (change_or_fault table t h (OnPath call text)) ≡ verdict_on t table h call text
+    verdict_by (change_or_fault table t h (OnPath call text)) ≡ verdict_of t table h call (named_in table.whose t (working_dir h) text (object_named t h call text))
 
 -- nor the answer of a request
 abbrev pub ReasonsGiveAnswers : Type 0
@@ -119,14 +119,15 @@ pub record PairsAreTold : Type 0 where
 abbrev pub CallFaultHolds : Tree → CallTable → ProcessState → Call → List ℕ → Fault → Type 0
 CallFaultHolds t table h call text Ends = is_ended h ≡ true
 CallFaultHolds t table h call text (LacksPromises error sets) = LackSome h (rule_of table call).alternatives sets
-CallFaultHolds t table h call text (BadPath Sole fault) = (call_trace t h call text).outcome ≡ Err fault
+CallFaultHolds t table h call text (BadPath Sole fault) =
+    outcome_in table.whose t (working_dir h) text (call_trace t h call text).outcome ≡ Err fault
 CallFaultHolds t table h call text (Uncovered Sole object) = ((call_trace t h call text).outcome ≡ Ok object) ×
     (covering t h object ≡ NoneOver)
 CallFaultHolds t table h call text (LacksLetters Sole place given lacks) =
     (object : Found) × ((call_trace t h call text).outcome ≡ Ok object) × (covering t h object ≡ By place given)
     × (holds given (rule_of table call).perms ≡ false) × (lacks ≡ lacking given (rule_of table call).perms)
 CallFaultHolds t table h call text (Unfit Sole object wrong) =
-    ((call_trace t h call text).outcome ≡ Ok object) × (misfit t call (object_of t object) ≡ Some wrong) ×
+    ((call_trace t h call text).outcome ≡ Ok object) × (misfit table.whose t call (object_of t object) ≡ Some wrong) ×
     MisfitHolds t (object_of t object) wrong
 CallFaultHolds t table h call text _ = ⊥
 

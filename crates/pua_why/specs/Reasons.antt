@@ -4,12 +4,16 @@ use Rattle.std.specs.Prelude.{Err, is_some, unwrap_or}
 use Rattle.pua_tree.specs.Tree.{Tree}
 use Rattle.pua_path.specs.declared.errno.Errno.TheVariants.{EPERM, ENOENT, E2BIG, EACCES, EAGAIN, EINVAL, ENOSPC, ENOSYS}
 use Rattle.pua_path.specs.declared.found.Found.{Found}
+use Rattle.pua_path.specs.declared.found.Last.TheVariants.{Followed}
+use Rattle.pua_path.specs.declared.text.Ending.TheVariants as ending
 use Rattle.pua_path.specs.Traces.{text_errno, text_fault, path_errno, trace_of_text}
-use Rattle.pua_path.specs.declared.traced.TextFault.{TextFault}
+use Rattle.pua_path.specs.declared.traced.PathTextFault.{PathTextFault}
 use Rattle.pua_path.specs.declared.traced.PathFault.{PathFault}
-use Rattle.pua_calls.specs.Promises.{holds, error}
+use Rattle.pua_calls.specs.Promises.{holds}
+use Rattle.pua_calls.specs.declared.rules.Rules.{Rules}
 use Rattle.pua_calls.specs.Calls.{CallTable}
-use Rattle.pua_policy.specs.States.{ProcessState, held_set, is_within, is_ended, perms_kept, most_places}
+use Rattle.pua_calls.specs.declared.rules.Rules.TheVariants.{Standard, Openbsd}
+use Rattle.pua_policy.specs.States.{ProcessState, has_error, error_frees_exec, is_within, is_ended, perms_kept, most_places}
 use Rattle.pua_policy.specs.Verdict.{or_fault}
 use Rattle.pua_policy.specs.declared.place.Place.{Place}
 use Rattle.pua_policy.specs.declared.answer.Refusal.{Refusal}
@@ -20,7 +24,7 @@ use Rattle.pua_policy.specs.declared.reason.Covering.TheVariants.{InView, NoneOv
 use Rattle.pua_policy.specs.Reasons.{Promising, Holds, HasEnded, Lacks, promising, covering}
 use Rattle.pua_script.specs.Limits.{most_processes}
 use Rattle.pua_script.specs.Requests.{Asked}
-use Rattle.pua_script.specs.Decide.{Change, CopyAs, Outcome, Side, Telling, Asker, fault_if, decide_by}
+use Rattle.pua_script.specs.Decide.{Change, CopyAs, Outcome, Side, Telling, Asker, fault_if, decide_by, before_long}
 use Rattle.pua_policy.specs.Misfits.{misfit_errno}
 use Rattle.pua_calls.specs.declared.fits.Misfit.{Misfit}
 use Rattle.pua_script.specs.Replay.{World, Effect, Fails, kept_at, change_effect}
@@ -32,7 +36,7 @@ use Rattle.pua_script.specs.declared.answer.Answer.TheVariants.{Okay, Failed, Ki
 pub data Fault : Type 0 where
   Ends : Fault
   LacksPromises : Bool → List ℕ → Fault
-  BadTarget : TextFault → Fault
+  BadTarget : PathTextFault → Fault
   BadPath : Side → PathFault → Fault
   Uncovered : Side → Found → Fault
   LacksLetters : Side → Place → ℕ → ℕ → Fault
@@ -75,6 +79,24 @@ unpromised_fault (Holds set) = None
 unpromised_fault HasEnded = Some Ends
 unpromised_fault (Lacks error sets) = Some (LacksPromises error sets)
 
+-- why a path names nothing: by OpenBSD's rules the fault of what stands before a component that is too long, if that names no directory
+abbrev pub front_fault : PathFault → Result Found PathFault → PathFault
+front_fault fault (Ok directory) = fault
+front_fault fault (Err front) = front
+
+abbrev pub fault_behind : Tree → ℕ → PathFault → Option (List ℕ) → PathFault
+fault_behind t from fault None = fault
+fault_behind t from fault (Some front) = front_fault fault (trace_of_text t from ending.Dot front Followed).outcome
+
+abbrev pub fault_by : Rules → Tree → ℕ → List ℕ → PathFault → PathFault
+fault_by Standard t from text fault = fault
+fault_by Openbsd t from text fault = fault_behind t from fault (before_long text)
+
+-- what a path names by these rules, or why it names nothing, by the outcome of its text
+abbrev pub outcome_in : Rules → Tree → ℕ → List ℕ → Result Found PathFault → Result Found PathFault
+outcome_in whose t from text (Ok object) = Ok object
+outcome_in whose t from text (Err fault) = Err (fault_by whose t from text fault)
+
 -- what a path names, or why it names nothing
 abbrev pub told_path : Side → Result Found PathFault → Result Found Fault
 told_path side (Ok object) = Ok object
@@ -94,11 +116,15 @@ beyond request given = lacking (unwrap_or given 0) (unwrap_or request 0)
 abbrev pub asks_beyond : Bool → Option ℕ → Option ℕ → Option Fault
 asks_beyond of_exec request given = fault_if (not (is_within request given)) (AsksPromises of_exec (beyond request given))
 
--- a pledge that asks for more: its promises first
-abbrev pub pledge_beyond : ProcessState → Option ℕ → Option ℕ → Option Fault
-pledge_beyond p promises execpromises =
-    if holds (held_set p) error then None
-    else or_fault (asks_beyond false promises p.promises) (asks_beyond true execpromises p.execpromises)
+-- a fault that nothing lets pass
+abbrev pub unless : Bool → Option Fault → Option Fault
+unless lets fault = if lets then None else fault
+
+-- a pledge that asks for more than `error` lets it: its promises first
+abbrev pub pledge_beyond : Rules → ProcessState → Option ℕ → Option ℕ → Option Fault
+pledge_beyond whose p promises execpromises =
+    or_fault (unless (has_error p) (asks_beyond false promises p.promises))
+    (unless (error_frees_exec whose (has_error p)) (asks_beyond true execpromises p.execpromises))
 
 -- permissions at a place, by what is kept there and by the number of places
 abbrev pub place_beyond : Place → Option ℕ → ℕ → ℕ → Option Fault
@@ -123,9 +149,9 @@ faults = record {
 abbrev pub faults_of : ProcessState → Asker Fault Fault
 faults_of p = record {
   promises = λ sets. unpromised_fault (promising p sets);
-  path = λ side t ending text last. told_path side (trace_of_text t p.dir ending text last).outcome;
+  path = λ whose side t ending text last. told_path side (outcome_in whose t p.dir text (trace_of_text t p.dir ending text last).outcome);
   cover = λ side t object perms. uncovered_fault side object perms (covering t p object);
-  beyond = pledge_beyond p;
+  beyond = λ whose promises execpromises. pledge_beyond whose p promises execpromises;
   locked = fault_if p.locked IsLocked;
   place = unveil_beyond p;
 }

@@ -9,8 +9,8 @@ use Rattle.pua_path.specs.Limits.{most_links, most_path}
 use Rattle.pua_path.specs.declared.found.Found.{Found}
 use Rattle.pua_path.specs.declared.found.Found.TheVariants.{Whole, Slot}
 use Rattle.pua_path.specs.declared.traced.Stop.TheVariants.{NoEntry, NoDirectory, LinkBeyond}
-use Rattle.pua_path.specs.declared.traced.TextFault.{TextFault}
-use Rattle.pua_path.specs.declared.traced.TextFault.TheVariants.{EmptyText, LongText, LongComponent, NulInText}
+use Rattle.pua_path.specs.declared.traced.PathTextFault.{PathTextFault}
+use Rattle.pua_path.specs.declared.traced.PathTextFault.TheVariants.{EmptyText, LongText, LongComponent, NulInText}
 use Rattle.pua_path.specs.declared.traced.PathFault.{PathFault}
 use Rattle.pua_path.specs.declared.traced.PathFault.TheVariants.{InText, NoStart, Stops}
 use Rattle.pua_calls.specs.Promises.{keywords_of, perm_letters}
@@ -97,7 +97,7 @@ side_text Sole = []
 side_text Old = codes "old: "
 side_text New = codes "new: "
 
-abbrev pub text_fault_text : TextFault → List ℕ
+abbrev pub text_fault_text : PathTextFault → List ℕ
 text_fault_text EmptyText = codes "is empty"
 text_fault_text LongText = codes "has more than " ++ decimal most_path ++ codes " bytes"
 text_fault_text LongComponent = codes "has a component of more than " ++ decimal most_name ++ codes " bytes"

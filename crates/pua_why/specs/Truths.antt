@@ -16,7 +16,8 @@ use Rattle.pua_path.specs.declared.traced.PathFault.{PathFault}
 use Rattle.pua_calls.specs.Promises.{holds, proc, unveil}
 use Rattle.pua_policy.specs.ReasonLaws.{LackSome}
 use Rattle.pua_calls.specs.Calls.{CallTable, PairRule}
-use Rattle.pua_policy.specs.States.{ProcessState, pledged_set, held_for_exec, has_error, is_within, is_ended, is_locked, perms_kept, veils}
+use Rattle.pua_calls.specs.declared.rules.Rules.{Rules}
+use Rattle.pua_policy.specs.States.{ProcessState, error_frees_exec, pledged_set, held_for_exec, has_error, is_within, is_ended, is_locked, perms_kept, veils}
 use Rattle.pua_policy.specs.States.{working_dir, most_places}
 use Rattle.pua_calls.specs.declared.call.Call.TheVariants as call
 use Rattle.pua_script.specs.Limits.{most_processes}
@@ -34,7 +35,7 @@ use Rattle.pua_policy.specs.declared.reason.Covering.TheVariants.{NoneOver, By}
 use Rattle.pua_policy.specs.Reasons.{covering}
 use Rattle.pua_why.specs.Reasons.{Fault, Ends, LacksPromises, BadTarget, BadPath, Uncovered, LacksLetters, Unfit, Inside, UnknownPromise}
 use Rattle.pua_why.specs.Reasons.{AsksPromises, IsLocked, UnknownLetter, AsksLetters, NoPlaceLeft, NumberTaken, NoProcessLeft, NoRoom}
-use Rattle.pua_why.specs.Reasons.{beyond, change_or_fault, request_fault}
+use Rattle.pua_why.specs.Reasons.{beyond, change_or_fault, outcome_in, request_fault}
 use Rattle.pua_why.specs.Facts.{name_trace}
 use Rattle.pua_why.specs.Laws.{CallFaultHolds}
 
@@ -78,49 +79,55 @@ pub record IsInside (t : Tree) (old new : Found) : Type 0 where
   pub is_spot : spot_named new ≡ Some spot
   pub inside : is_inside t node spot.0 ≡ true
 
-abbrev pub PairFaultHolds : PairRule → Tree → ProcessState → Ending → List ℕ → List ℕ → Fault → Type 0
-PairFaultHolds pair t h ending old new Ends = is_ended h ≡ true
-PairFaultHolds pair t h ending old new (LacksPromises error lacks) =
+abbrev pub side_text : List ℕ → List ℕ → Side → List ℕ
+side_text old new New = new
+side_text old new _ = old
+
+abbrev pub PairFaultHolds : Rules → PairRule → Tree → ProcessState → Ending → List ℕ → List ℕ → Fault → Type 0
+PairFaultHolds whose pair t h ending old new Ends = is_ended h ≡ true
+PairFaultHolds whose pair t h ending old new (LacksPromises error lacks) =
     LackSome h pair.old.needs.alternatives lacks ⊎ LackSome h pair.new.needs.alternatives lacks
-PairFaultHolds pair t h ending old new (BadPath side fault) = side_outcome pair t h ending old new side ≡ Err fault
-PairFaultHolds pair t h ending old new (Uncovered side object) = (side_outcome pair t h ending old new side ≡ Ok object) ×
+PairFaultHolds whose pair t h ending old new (BadPath side fault) =
+    outcome_in whose t (working_dir h) (side_text old new side) (side_outcome pair t h ending old new side) ≡ Err fault
+PairFaultHolds whose pair t h ending old new (Uncovered side object) = (side_outcome pair t h ending old new side ≡ Ok object) ×
     (covering t h object ≡ NoneOver)
-PairFaultHolds pair t h ending old new (LacksLetters side place given lacks) =
+PairFaultHolds whose pair t h ending old new (LacksLetters side place given lacks) =
     (object : Found) × (side_outcome pair t h ending old new side ≡ Ok object) × (covering t h object ≡ By place given)
     × (holds given (side_perms pair side) ≡ false) × (lacks ≡ lacking given (side_perms pair side))
-PairFaultHolds pair t h ending old new (Unfit side object wrong) = (side_outcome pair t h ending old new side ≡ Ok object) ×
+PairFaultHolds whose pair t h ending old new (Unfit side object wrong) = (side_outcome pair t h ending old new side ≡ Ok object) ×
     PairMisfitHolds t object wrong
-PairFaultHolds pair t h ending old new (Inside a b) =
+PairFaultHolds whose pair t h ending old new (Inside a b) =
     (side_outcome pair t h ending old new Old ≡ Ok a) × (side_outcome pair t h ending old new New ≡ Ok b) × IsInside t a b
-PairFaultHolds pair t h ending old new _ = ⊥
+PairFaultHolds whose pair t h ending old new _ = ⊥
 
-abbrev pub PledgeFaultHolds : ProcessState → Given → Given → Fault → Type 0
-PledgeFaultHolds h promises execpromises (UnknownPromise false) = is_unknown promises ≡ true
-PledgeFaultHolds h promises execpromises (UnknownPromise true) = is_unknown execpromises ≡ true
-PledgeFaultHolds h promises execpromises (AsksPromises false lacks) =
+abbrev pub PledgeFaultHolds : Rules → ProcessState → Given → Given → Fault → Type 0
+PledgeFaultHolds whose h promises execpromises (UnknownPromise false) = is_unknown promises ≡ true
+PledgeFaultHolds whose h promises execpromises (UnknownPromise true) = is_unknown execpromises ≡ true
+PledgeFaultHolds whose h promises execpromises (AsksPromises false lacks) =
     (has_error h ≡ false) × (is_within (given_set promises) (pledged_set h) ≡ false) × (lacks ≡ beyond (given_set promises) (pledged_set h))
-PledgeFaultHolds h promises execpromises (AsksPromises true lacks) =
-    (has_error h ≡ false) × (is_within (given_set execpromises) (held_for_exec h) ≡ false) ×
+PledgeFaultHolds whose h promises execpromises (AsksPromises true lacks) =
+    (error_frees_exec whose (has_error h) ≡ false) × (is_within (given_set execpromises) (held_for_exec h) ≡ false) ×
     (lacks ≡ beyond (given_set execpromises) (held_for_exec h))
-PledgeFaultHolds h promises execpromises _ = ⊥
+PledgeFaultHolds whose h promises execpromises _ = ⊥
 
-abbrev pub UnveilFaultHolds : Tree → ProcessState → List ℕ → Option ℕ → Fault → Type 0
-UnveilFaultHolds t h path letters IsLocked = is_locked h ≡ true
-UnveilFaultHolds t h path letters UnknownLetter = letters ≡ None
-UnveilFaultHolds t h path letters (BadPath Sole fault) = (trace_of_text t (working_dir h) ending.Dot path Followed).outcome ≡ Err fault
-UnveilFaultHolds t h path letters (AsksLetters place given lacks) =
+abbrev pub UnveilFaultHolds : Rules → Tree → ProcessState → List ℕ → Option ℕ → Fault → Type 0
+UnveilFaultHolds whose t h path letters IsLocked = is_locked h ≡ true
+UnveilFaultHolds whose t h path letters UnknownLetter = letters ≡ None
+UnveilFaultHolds whose t h path letters (BadPath Sole fault) =
+    outcome_in whose t (working_dir h) path (trace_of_text t (working_dir h) ending.Dot path Followed).outcome ≡ Err fault
+UnveilFaultHolds whose t h path letters (AsksLetters place given lacks) =
     (perms : ℕ) × (letters ≡ Some perms) × (perms_kept h place ≡ Some given) × (holds given perms ≡ false) × (lacks ≡ lacking given perms)
-UnveilFaultHolds t h path letters NoPlaceLeft = nat_le most_places (length (veils h)) ≡ true
-UnveilFaultHolds t h path letters fault = PromiseFaultHolds h (unveil ∷ []) fault
+UnveilFaultHolds whose t h path letters NoPlaceLeft = nat_le most_places (length (veils h)) ≡ true
+UnveilFaultHolds whose t h path letters fault = PromiseFaultHolds h (unveil ∷ []) fault
 
 -- what a fault of a check says is so
 abbrev pub CheckFaultHolds : CallTable → Tree → ProcessState → Action → Fault → Type 0
 CheckFaultHolds table t h (OnPath call path) fault = CallFaultHolds t table h call path fault
 CheckFaultHolds table t h (Symlink target path) fault = SymlinkFaultHolds table t h target path fault
-CheckFaultHolds table t h (Rename old new) fault = PairFaultHolds table.rename t h ending.Dropped old new fault
-CheckFaultHolds table t h (Link old new) fault = PairFaultHolds table.link t h ending.Dot old new fault
-CheckFaultHolds table t h (Pledge promises execpromises) fault = PledgeFaultHolds h promises execpromises fault
-CheckFaultHolds table t h (Unveil path letters) fault = UnveilFaultHolds t h path letters fault
+CheckFaultHolds table t h (Rename old new) fault = PairFaultHolds table.whose table.rename t h ending.Dropped old new fault
+CheckFaultHolds table t h (Link old new) fault = PairFaultHolds table.whose table.link t h ending.Dot old new fault
+CheckFaultHolds table t h (Pledge promises execpromises) fault = PledgeFaultHolds table.whose h promises execpromises fault
+CheckFaultHolds table t h (Unveil path letters) fault = UnveilFaultHolds table.whose t h path letters fault
 CheckFaultHolds table t h Lock fault = PromiseFaultHolds h (unveil ∷ []) fault
 CheckFaultHolds table t h (Fork new) fault = PromiseFaultHolds h (proc ∷ []) fault
 CheckFaultHolds table t h Exit fault = ⊥

@@ -4,6 +4,8 @@ ghost use Rattle.std.specs.Prelude.{◌≡◌, ◌∷◌, [], ℕ, IfOk, Ok, Som
 ghost use Rattle.pua_path.specs.Fits.{FoundFits, StandsAsNamed};
 ghost use Rattle.pua_path.specs.Traces.{trace_of_text};
 ghost use Rattle.pua_path.specs.declared.found.Found as founds;
+ghost use Rattle.pua_path.specs.declared.found.Last.TheVariants.{Followed};
+ghost use Rattle.pua_path.specs.declared.text.Ending.TheVariants.{Dot};
 ghost use Rattle.pua_policy.specs.Reasons.{covering, promising};
 ghost use Rattle.pua_policy.specs.Verdict.{place_of};
 ghost use Rattle.pua_policy.specs.declared.reason.Covering.TheVariants.{By};
@@ -11,18 +13,20 @@ ghost use Rattle.pua_script.specs.Decide.{Change, call_by, object_by, symlink_by
 ghost use Rattle.pua_script.specs.Decide.{veil_by};
 ghost use Rattle.pua_why.specs.Checked.{refused_by};
 ghost use Rattle.pua_why.specs.Openings.{uncovered_by};
-ghost use Rattle.pua_why.specs.Reasons.{faults, faults_of, place_beyond, uncovered_fault};
+ghost use Rattle.pua_why.specs.Reasons.{fault_by, faults, faults_of, front_fault, outcome_in};
+ghost use Rattle.pua_why.specs.Reasons.{place_beyond, uncovered_fault};
 ghost use Rattle.pua_why.specs.Reasons.{unpromised_fault, unveil_beyond};
 ghost use Rattle.pua_why.specs.Seen.{fault_seen, side_seen};
 
 use crate::told::{Fault, Side};
 use pua_calls::needs::ending;
-use pua_calls::{Call, CallTable, Perms, Promises};
+use pua_calls::{Call, CallTable, Perms, Promises, Rules};
 use pua_path::{
     Counted, Ending, Found, Last, Links, PathFault, PathText, Probe, text_fault, trace,
 };
 use pua_policy::judge::misfit;
 use pua_policy::{Covering, MOST_PLACES, Place, Process, Promising};
+use pua_script::before_long;
 use pua_tree::{FileTree, NodeId, OutOfMemory};
 use std::alloc::Global;
 
@@ -49,6 +53,68 @@ pub(crate) fn traced<'t, P: Probe<'t>>(
     match PathText::read(path, ending) {
         Ok(text) => trace(probe, from, &text, last, links),
         Err(_) => unreachable!(),
+    }
+}
+
+/// What a path names from a directory by a table's rules, or why it names nothing.
+pub(crate) fn named_by<'t, P: Probe<'t>>(
+    probe: &mut P,
+    table: &CallTable,
+    from: NodeId,
+    path: &[u8],
+    ending: Ending,
+    last: Last,
+    links: &mut Links,
+) -> Result<Found, PathFault>
+    ensures exact { result ≡ outcome_in table.now.whose (P.tree probe.old) from path.now
+        (trace_of_text (P.tree probe.old) from ending path.now last).outcome }
+    ensures fits { IfOk result (FoundFits (P.tree probe.old)) }
+    ensures named { IfOk result (StandsAsNamed (P.tree probe.old)) }
+    ensures tree { P.tree probe.new ≡ P.tree probe.old }
+{
+    match traced(probe, from, path, ending, last, links) {
+        Ok(found) => Ok(found),
+        Err(fault) => Err(fault_by(probe, table.rules(), from, path, fault, links)),
+    }
+}
+
+/// Why a path with this fault names nothing: by OpenBSD's rules the fault of what stands before a
+/// component that is too long, if that names no directory.
+fn fault_by<'t, P: Probe<'t>>(
+    probe: &mut P,
+    rules: Rules,
+    from: NodeId,
+    path: &[u8],
+    fault: PathFault,
+    links: &mut Links,
+) -> PathFault
+    ensures fault { result ≡ fault_by rules (P.tree probe.old) from path.now fault }
+    ensures tree { P.tree probe.new ≡ P.tree probe.old }
+{
+    match rules {
+        Rules::Standard => fault,
+        Rules::Openbsd => match before_long(path) {
+            None => fault,
+            Some(front) => front_fault(probe, from, front, fault, links),
+        },
+    }
+}
+
+/// The fault of what stands before it, if that names no directory.
+fn front_fault<'t, P: Probe<'t>>(
+    probe: &mut P,
+    from: NodeId,
+    front: &[u8],
+    fault: PathFault,
+    links: &mut Links,
+) -> PathFault
+    ensures fault { result ≡ front_fault fault
+        (trace_of_text (P.tree probe.old) from Dot front.now Followed).outcome }
+    ensures tree { P.tree probe.new ≡ P.tree probe.old }
+{
+    match traced(probe, from, front, Ending::Dot, Last::Followed, links) {
+        Ok(_) => fault,
+        Err(front) => front,
     }
 }
 
@@ -139,7 +205,8 @@ pub(crate) fn object_fault<'s, T: FileTree>(
 {
     let mut probe = Counted::new(tree);
     let last = call.last();
-    let found = match traced(&mut probe, process.dir(), path, ending(call), last, links) {
+    let dir = process.dir();
+    let found = match named_by(&mut probe, table, dir, path, ending(call), last, links) {
         Ok(found) => found,
         Err(fault) => return Some(Fault::BadPath(Side::Sole, fault)),
     };
@@ -147,7 +214,7 @@ pub(crate) fn object_fault<'s, T: FileTree>(
     if fault.is_some() {
         return fault;
     }
-    let wrong = misfit(&mut probe, call, &found)?;
+    let wrong = misfit(&mut probe, table.rules(), call, &found)?;
     Some(Fault::Unfit(Side::Sole, found, wrong))
 }
 
@@ -166,11 +233,12 @@ pub(crate) fn fit_fault<'s, T: FileTree>(
 {
     let mut probe = Counted::new(tree);
     let last = call.last();
-    let found = match traced(&mut probe, process.dir(), path, ending(call), last, links) {
+    let dir = process.dir();
+    let found = match named_by(&mut probe, table, dir, path, ending(call), last, links) {
         Ok(found) => found,
         Err(fault) => return Some(Fault::BadPath(Side::Sole, fault)),
     };
-    let wrong = misfit(&mut probe, call, &found)?;
+    let wrong = misfit(&mut probe, table.rules(), call, &found)?;
     Some(Fault::Unfit(Side::Sole, found, wrong))
 }
 
@@ -222,14 +290,15 @@ pub(crate) fn symlink_fault<'s, T: FileTree>(
 pub(crate) fn unveil_fault<'s, T: FileTree>(
     alloc: Global,
     tree: &T,
+    table: &CallTable,
     process: &Process,
     path: &[u8],
     perms: Option<Perms>,
     links: &mut Links,
 ) -> Result<Option<Fault<'s>>, OutOfMemory>
     ensures { IfOk result (λ fault. option_map fault_seen fault
-        ≡ refused_by (unveil_by faults (T.content tree.now) (faults_of process.now) path.now
-        perms)) }
+        ≡ refused_by (unveil_by faults table.now.whose (T.content tree.now)
+        (faults_of process.now) path.now perms)) }
 {
     let fault = promise_fault(process, Promises::UNVEIL);
     if fault.is_some() {
@@ -238,28 +307,30 @@ pub(crate) fn unveil_fault<'s, T: FileTree>(
     if process.locked() {
         return Ok(Some(Fault::IsLocked));
     }
-    veil_fault(alloc, tree, process, path, perms, links)
+    veil_fault(alloc, tree, table, process, path, perms, links)
 }
 
 /// The fault of an unveil that is not locked: the letters, the path, and what is kept at the place.
 fn veil_fault<'s, T: FileTree>(
     alloc: Global,
     tree: &T,
+    table: &CallTable,
     process: &Process,
     path: &[u8],
     perms: Option<Perms>,
     links: &mut Links,
 ) -> Result<Option<Fault<'s>>, OutOfMemory>
     ensures { IfOk result (λ fault. option_map fault_seen fault
-        ≡ refused_by (veil_by faults (T.content tree.now) (faults_of process.now) path.now
-        perms)) }
+        ≡ refused_by (veil_by faults table.now.whose (T.content tree.now)
+        (faults_of process.now) path.now perms)) }
 {
     let Some(perms) = perms else {
         return Ok(Some(Fault::UnknownLetter));
     };
     let mut probe = Counted::new(tree);
-    match traced(
+    match named_by(
         &mut probe,
+        table,
         process.dir(),
         path,
         Ending::Dot,

@@ -10,8 +10,8 @@ ghost use Rattle.pua_why.specs.Seen.{fault_seen};
 
 use crate::checks::{promise_fault, promises_fault};
 use crate::told::Fault;
-use pua_calls::Promises;
-use pua_policy::Process;
+use pua_calls::{Promises, Rules};
+use pua_policy::{Process, error_frees_exec};
 use pua_script::{Given, MOST_PROCESSES, World};
 use pua_tree::{FileTree, OutOfMemory};
 use std::alloc::Global;
@@ -19,12 +19,13 @@ use std::alloc::Global;
 /// The fault of a pledge: an unknown word in either argument, and then what asks for more, the
 /// promises first each time.
 pub(crate) fn pledge_fault<'s>(
+    rules: Rules,
     process: &Process,
     promises: &Given,
     execpromises: &Given,
 ) -> Option<Fault<'s>>
     ensures { option_map fault_seen result
-        ≡ refused_by (pledge_by faults (faults_of process.now) promises.now execpromises.now) }
+        ≡ refused_by (pledge_by faults (faults_of process.now) rules promises.now execpromises.now) }
 {
     if is_unknown(promises) {
         return Some(Fault::UnknownPromise { of_exec: false });
@@ -32,23 +33,28 @@ pub(crate) fn pledge_fault<'s>(
     if is_unknown(execpromises) {
         return Some(Fault::UnknownPromise { of_exec: true });
     }
-    beyond_given(process, given_set(promises), given_set(execpromises))
+    beyond_given(rules, process, given_set(promises), given_set(execpromises))
 }
 
-/// The fault of a pledge that asks for more than was given, where `error` is not held.
+/// The fault of a pledge that asks for more than was given, where `error` doesn't let it.
 fn beyond_given<'s>(
+    rules: Rules,
     process: &Process,
     promises: Option<Promises>,
     execpromises: Option<Promises>,
 ) -> Option<Fault<'s>>
-    ensures { option_map fault_seen result ≡ pledge_beyond process.now promises execpromises }
+    ensures { option_map fault_seen result ≡ pledge_beyond rules process.now promises
+        execpromises }
 {
-    if process.held().contains(Promises::ERROR) {
-        return None;
+    let error = process.held().contains(Promises::ERROR);
+    if !error {
+        let fault = asks_beyond(false, promises, process.promises());
+        if fault.is_some() {
+            return fault;
+        }
     }
-    let fault = asks_beyond(false, promises, process.promises());
-    if fault.is_some() {
-        return fault;
+    if error_frees_exec(rules, error) {
+        return None;
     }
     asks_beyond(true, execpromises, process.execpromises())
 }

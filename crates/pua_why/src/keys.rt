@@ -10,7 +10,7 @@ ghost use Rattle.pua_why.specs.Seen.{fault_seen, reason_seen, side_seen};
 
 use crate::told::{Fault, Reason, Side};
 use pua_calls::{Perms, Promises};
-use pua_path::{PathFault, Stop, TextFault};
+use pua_path::{PathFault, PathTextFault, Stop};
 use pua_policy::{Misfit, Place};
 use pua_tree::OutOfMemory;
 use std::alloc::Global;
@@ -188,14 +188,14 @@ fn side_number(side: Side) -> u64
     }
 }
 
-fn text_number(fault: TextFault) -> u64
+fn text_number(fault: PathTextFault) -> u64
     ensures { result ≡ text_key fault }
 {
     match fault {
-        TextFault::EmptyText => 0,
-        TextFault::LongText => 1,
-        TextFault::LongComponent => 2,
-        TextFault::NulInText => 3,
+        PathTextFault::EmptyText => 0,
+        PathTextFault::LongText => 1,
+        PathTextFault::LongComponent => 2,
+        PathTextFault::NulInText => 3,
     }
 }
 

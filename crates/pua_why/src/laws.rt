@@ -34,7 +34,7 @@ pub fn checks_law()
     ensures { ChecksTell }
 {}
 
-/// What is so at the end was so all the time, or since the line that is told.
+/// What holds at the end held all the time, or since the line that is named.
 pub fn since_law()
     ensures tests { SinceHolds }
     ensures reasons { ReasonsSince }
@@ -45,7 +45,7 @@ pub fn line_law()
     ensures { WhyLinesTellMore }
 {}
 
-/// A chain tells on what a call rests, and ends with what is told of the request as a script's
+/// A chain has the facts on which a call rests, and ends with the line of the request as a script's
 /// line.
 pub fn chain_law()
     ensures ends { ChainsEnd }
@@ -54,21 +54,21 @@ pub fn chain_law()
     ensures further { CoveringsIn }
 {}
 
-/// What a fault of a call on a path says is so.
+/// What a fault of a call on a path says is true.
 pub fn fault_law()
     ensures { CallFaultsHold }
 {}
 
-/// What a fault of a request says is so, and a request has no other faults than its own. A tree
-/// that is told to be full lacks the room that the change wants.
+/// What a fault of a request says is true, and a request has no other faults than its own. A tree
+/// that a fault calls full lacks the room that the change wants.
 pub fn truth_law()
     ensures checks { CheckFaultsHold }
     ensures requests { RequestFaultsHold }
     ensures full { FullTreesAreFull }
 {}
 
-/// Which word is no promise, and which letter no permission, is told where a request is refused
-/// for it.
+/// A request that is refused for a word that is no promise, or a letter that is no permission, has
+/// a reason that names it.
 pub fn unknown_law()
     ensures { UnknownsAreTold }
 {}

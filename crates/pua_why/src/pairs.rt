@@ -6,18 +6,19 @@ ghost use Rattle.pua_tree.specs.Tree.{is_dir};
 ghost use Rattle.pua_path.specs.Fits.{FoundFits, StandsAsNamed, node_named, spot_named};
 ghost use Rattle.pua_path.specs.declared.found.Found as founds;
 ghost use Rattle.pua_path.specs.declared.text.Ending.TheVariants as endings;
-ghost use Rattle.pua_script.specs.Decide.{New, Outcome, covers_by, dots_by, inside_by, is_whole};
-ghost use Rattle.pua_script.specs.Decide.{kinds_by, link_by, objects_by, pair_by, rename_by};
-ghost use Rattle.pua_script.specs.Decide.{top_by, ways_by};
+ghost use Rattle.pua_script.specs.Decide.{New, Outcome, asks_directory, covers_by, dots_by};
+ghost use Rattle.pua_script.specs.Decide.{inside_by, is_whole, kinds_by, link_by, objects_by};
+ghost use Rattle.pua_script.specs.Decide.{pair_by, rename_by, top_by, ways_by};
 ghost use Rattle.pua_why.specs.Checked.{refused_by};
 ghost use Rattle.pua_why.specs.Reasons.{Fault as Meant, faults, faults_of};
 ghost use Rattle.pua_why.specs.Seen.{fault_seen, on_found, side_seen};
 
-use crate::checks::{cover_fault, promises_fault, traced};
+use crate::checks::{cover_fault, named_by, promises_fault};
 use crate::told::{Fault, Side};
 use pua_calls::{CallTable, PairNeed};
 use pua_path::{Counted, Ending, Found, Links, Probe, Way};
 use pua_policy::{Misfit, Process};
+use pua_script::asks_directory;
 use pua_tree::{FileTree, Kind, NodeId};
 
 /// What an old path and a new one name.
@@ -37,12 +38,15 @@ pub(crate) fn rename_fault<'s, T: FileTree>(
     links: &mut Links,
 ) -> Option<Fault<'s>>
     ensures { option_map fault_seen result
-        ≡ refused_by (pair_by faults table.now.rename (T.content tree.now) (faults_of process.now)
-        endings.Dropped old.now new.now
-        (λ a b. rename_by faults (T.content tree.now) a b (node_named a))) }
+        ≡ refused_by (pair_by faults table.now.whose table.now.rename (T.content tree.now)
+        (faults_of process.now) endings.Dropped old.now new.now
+        (λ a b. rename_by faults (T.content tree.now)
+        (asks_directory table.now.whose old.now new.now) a b (node_named a))) }
 {
+    let asks = asks_directory(table.rules(), old, new);
     match judged(
         tree,
+        table,
         table.rename(),
         process,
         Ending::Dropped,
@@ -50,7 +54,7 @@ pub(crate) fn rename_fault<'s, T: FileTree>(
         new,
         links,
     ) {
-        Ok(pair) => shift_fault(tree, &pair),
+        Ok(pair) => shift_fault(tree, asks, &pair),
         Err(fault) => Some(fault),
     }
 }
@@ -65,10 +69,20 @@ pub(crate) fn link_fault<'s, T: FileTree>(
     links: &mut Links,
 ) -> Option<Fault<'s>>
     ensures { option_map fault_seen result
-        ≡ refused_by (pair_by faults table.now.link (T.content tree.now) (faults_of process.now)
-        endings.Dot old.now new.now (λ a b. link_by faults a b (node_named a))) }
+        ≡ refused_by (pair_by faults table.now.whose table.now.link (T.content tree.now)
+        (faults_of process.now) endings.Dot old.now new.now
+        (λ a b. link_by faults a b (node_named a))) }
 {
-    match judged(tree, table.link(), process, Ending::Dot, old, new, links) {
+    match judged(
+        tree,
+        table,
+        table.link(),
+        process,
+        Ending::Dot,
+        old,
+        new,
+        links,
+    ) {
         Ok(pair) => tie_fault(&pair),
         Err(fault) => Some(fault),
     }
@@ -78,6 +92,7 @@ pub(crate) fn link_fault<'s, T: FileTree>(
 /// name first each time.
 fn judged<'s, T: FileTree>(
     tree: &T,
+    table: &CallTable,
     need: &'s PairNeed,
     process: &Process,
     ending: Ending,
@@ -86,8 +101,8 @@ fn judged<'s, T: FileTree>(
     links: &mut Links,
 ) -> Result<Pair, Fault<'s>>
     ensures exact { (further : founds.Found → founds.Found → Outcome Meant) →
-        pair_by faults need.now (T.content tree.now) (faults_of process.now) ending old.now new.now
-        further
+        pair_by faults table.now.whose need.now (T.content tree.now) (faults_of process.now) ending
+        old.now new.now further
         ≡ on_found result (λ pair. further pair.old pair.new) }
     ensures named { IfOk result (λ pair. StandsAsNamed (T.content tree.now) pair.new) }
 {
@@ -97,12 +112,13 @@ fn judged<'s, T: FileTree>(
     if let Some(fault) = promises_fault(process, need.new_name().alternatives()) {
         return Err(fault);
     }
-    objects(tree, need, process, ending, old, new, links)
+    objects(tree, table, need, process, ending, old, new, links)
 }
 
 /// What both paths name, or the fault of the paths, and of the veils.
 fn objects<'s, T: FileTree>(
     tree: &T,
+    table: &CallTable,
     need: &PairNeed,
     process: &Process,
     ending: Ending,
@@ -111,18 +127,34 @@ fn objects<'s, T: FileTree>(
     links: &mut Links,
 ) -> Result<Pair, Fault<'s>>
     ensures exact { (further : founds.Found → founds.Found → Outcome Meant) →
-        objects_by faults need.now (T.content tree.now) (faults_of process.now) ending old.now
-        new.now further
+        objects_by faults table.now.whose need.now (T.content tree.now) (faults_of process.now)
+        ending old.now new.now further
         ≡ on_found result (λ pair. further pair.old pair.new) }
     ensures named { IfOk result (λ pair. StandsAsNamed (T.content tree.now) pair.new) }
 {
     let mut probe = Counted::new(tree);
     let dir = process.dir();
-    let old = match traced(&mut probe, dir, old, ending, need.old_name().last(), links) {
+    let old = match named_by(
+        &mut probe,
+        table,
+        dir,
+        old,
+        ending,
+        need.old_name().last(),
+        links,
+    ) {
         Ok(found) => found,
         Err(fault) => return Err(Fault::BadPath(Side::Old, fault)),
     };
-    let new = match traced(&mut probe, dir, new, ending, need.new_name().last(), links) {
+    let new = match named_by(
+        &mut probe,
+        table,
+        dir,
+        new,
+        ending,
+        need.new_name().last(),
+        links,
+    ) {
         Ok(found) => found,
         Err(fault) => return Err(Fault::BadPath(Side::New, fault)),
     };
@@ -152,9 +184,9 @@ fn covers_fault<'s, 't, P: Probe<'t>>(
 }
 
 /// What is wrong with a rename of what was named.
-fn shift_fault<'s, T: FileTree>(tree: &T, pair: &Pair) -> Option<Fault<'s>>
+fn shift_fault<'s, T: FileTree>(tree: &T, asks: bool, pair: &Pair) -> Option<Fault<'s>>
     ensures { StandsAsNamed (T.content tree.now) pair.now.new → option_map fault_seen result
-        ≡ refused_by (rename_by faults (T.content tree.now) pair.now.old pair.now.new
+        ≡ refused_by (rename_by faults (T.content tree.now) asks pair.now.old pair.now.new
         (node_named pair.now.old)) }
 {
     let Some(node) = node_named(&pair.old) else {
@@ -163,6 +195,9 @@ fn shift_fault<'s, T: FileTree>(tree: &T, pair: &Pair) -> Option<Fault<'s>>
     let fault = ways_fault(pair);
     if fault.is_some() {
         return fault;
+    }
+    if asks && !is_whole(&pair.old) {
+        return Some(Fault::Unfit(Side::Old, pair.old, Misfit::IsNoDirectory));
     }
     if is_node(node, &pair.new) {
         return None;

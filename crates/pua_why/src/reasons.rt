@@ -152,10 +152,18 @@ fn fault_of<'s, T: FileTree>(
             Ok(fault)
         }
         Action::Pledge(promises, execpromises) => {
-            Ok(pledge_fault(process, promises, execpromises))
+            Ok(pledge_fault(table.rules(), process, promises, execpromises))
         }
         Action::Unveil(path, perms) => {
-            unveil_fault(alloc, tree, process, path.bytes(), *perms, &mut links)
+            unveil_fault(
+                alloc,
+                tree,
+                table,
+                process,
+                path.bytes(),
+                *perms,
+                &mut links,
+            )
         }
         Action::Lock => Ok(lock_fault(process)),
         Action::Exit => Ok(None),

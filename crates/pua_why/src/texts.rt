@@ -17,7 +17,7 @@ ghost use Rattle.pua_why.specs.Texts.{text_fault_text, veil_text};
 use crate::told::{Fact, Fault, Reason, Side};
 use crate::tree_paths::{TreePaths, push_spelled};
 use pua_calls::{Perms, Promises};
-use pua_path::{Found, MOST_PATH, PathFault, Spot, Stop, TextFault};
+use pua_path::{Found, MOST_PATH, PathFault, PathTextFault, Spot, Stop};
 use pua_policy::{Covering, MOST_PLACES, Misfit, Place};
 use pua_script::MOST_PROCESSES;
 use pua_tree::{FileTree, Kind, Name, NodeId};
@@ -91,7 +91,7 @@ fn push_fault<T: FileTree>(
     }
 }
 
-/// The word before what is told of one path of two.
+/// The word before the reason of one path of two.
 fn side_word(side: Side) -> &'static str
     ensures { result.now ≡ side_text (side_seen side) }
 {
@@ -270,22 +270,22 @@ pub(crate) fn push_found<T: FileTree>(
 }
 
 /// Adds the words of a text that is no path.
-fn push_text_words(text: &mut String, fault: TextFault) -> Result<(), AllocError>
+fn push_text_words(text: &mut String, fault: PathTextFault) -> Result<(), AllocError>
     ensures { OnOk result (string_bytes text.new
         ≡ string_bytes text.old ++ text_fault_text fault) }
 {
     match fault {
-        TextFault::EmptyText => text.push_str("is empty"),
-        TextFault::LongText => write!(text, "has more than {MOST_PATH} bytes"),
-        TextFault::LongComponent => {
+        PathTextFault::EmptyText => text.push_str("is empty"),
+        PathTextFault::LongText => write!(text, "has more than {MOST_PATH} bytes"),
+        PathTextFault::LongComponent => {
             write!(text, "has a component of more than {} bytes", Name::MOST)
         }
-        TextFault::NulInText => text.push_str("has a NUL"),
+        PathTextFault::NulInText => text.push_str("has a NUL"),
     }
 }
 
 /// Adds what is wrong with a link's target.
-fn push_target(text: &mut String, fault: TextFault) -> Result<(), AllocError>
+fn push_target(text: &mut String, fault: PathTextFault) -> Result<(), AllocError>
     ensures { OnOk result (string_bytes text.new
         ≡ string_bytes text.old ++ (codes "target " ++ text_fault_text fault)) }
 {
@@ -313,7 +313,7 @@ fn push_bad_path<T: FileTree>(
 }
 
 /// Adds what is wrong with a path's text.
-fn push_text_fault(text: &mut String, fault: TextFault) -> Result<(), AllocError>
+fn push_text_fault(text: &mut String, fault: PathTextFault) -> Result<(), AllocError>
     ensures { OnOk result (string_bytes text.new
         ≡ string_bytes text.old ++ (codes "path " ++ text_fault_text fault)) }
 {
@@ -338,7 +338,7 @@ fn push_stop<T: FileTree>(
     }
 }
 
-/// Adds what is so of a name in a directory.
+/// Adds what a fact says of a name in a directory.
 fn push_at<T: FileTree>(
     text: &mut String,
     paths: &mut TreePaths<'_, T>,
@@ -406,7 +406,7 @@ fn push_misfit<T: FileTree>(
     }
 }
 
-/// What is told of a misfit, and whether what was found stands before it.
+/// The words of a misfit, and whether the thing that was found stands before them.
 fn misfit_words(misfit: Misfit) -> (bool, &'static str)
     ensures { (object : List ℕ) → misfit_text object misfit
         ≡ (if result.0 then object ++ result.1.now else result.1.now) }
@@ -428,7 +428,7 @@ fn misfit_words(misfit: Misfit) -> (bool, &'static str)
     }
 }
 
-/// Adds where something was found, and what is so of it.
+/// Adds where something was found, and what is wrong with it.
 fn push_so<T: FileTree>(
     text: &mut String,
     paths: &mut TreePaths<'_, T>,
@@ -461,7 +461,7 @@ fn push_inside<T: FileTree>(
     push_found(text, paths, old)
 }
 
-/// Whether something is told of execpromises.
+/// Whether a reason is about execpromises.
 fn of_exec_words(of_exec: bool) -> &'static str
     ensures { result.now ≡ of_exec_text of_exec }
 {
@@ -492,7 +492,7 @@ fn push_asks(
 }
 
 /// Adds a fact to a text, as the tree of the moment has it: of a veil since which line it is on its
-/// place, if that is told. The only error is that a growth was refused.
+/// place, if there is such a line. The only error is that a growth was refused.
 pub fn push_fact<T: FileTree>(
     alloc: Global,
     text: &mut String,
@@ -514,7 +514,7 @@ pub fn push_fact<T: FileTree>(
     }
 }
 
-/// Adds since which line something is so, if that is told.
+/// Adds since which line something holds, if there is such a line.
 pub fn push_since(text: &mut String, line: Option<usize>) -> Result<(), AllocError>
     ensures { OnOk result (string_bytes text.new ≡ string_bytes text.old ++ since_text line) }
 {

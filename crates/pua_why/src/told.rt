@@ -1,7 +1,7 @@
-//! What is told of a request: why it is answered as it is.
+//! Why a request has its answer.
 
 use pua_calls::{Perms, Promises};
-use pua_path::{Found, PathFault, Spot, TextFault};
+use pua_path::{Found, PathFault, PathTextFault, Spot};
 use pua_policy::{Covering, Misfit, Place};
 
 /// Of two paths, which one; or the only one.
@@ -33,7 +33,7 @@ pub enum Fault<'s> {
         lacks: Promises,
     },
     /// The target of a link is no path.
-    BadTarget(TextFault),
+    BadTarget(PathTextFault),
     /// A path names nothing.
     BadPath(Side, PathFault),
     /// No veil is kept at what a path named, nor at a directory over it.

@@ -1,4 +1,4 @@
 mod Meeting
-mod Walking
+mod ClapFinds
 mod Meaning
 mod Numbers

@@ -18,7 +18,7 @@ use Rattle.pua_words.specs.Plain.{IsMadeOf, Meanings, IsMeantBy, means}
 use Rattle.pua_words.specs.Reading.{HasInputsOf, IsCommandOf, IsListRead}
 use Rattle.pua_words.specs.declared.command.Command.{Command}
 use Rattle.pua_words.specs.declared.command.Processes.TheVariants.{One}
-use Rattle.pua_words.proofs.Walking.{audit_meets, Meets, process_meets, how_meets, objects_meets, pua_is_simple, run_meets, tight_meets, tree_meets, why_meets}
+use Rattle.pua_words.proofs.ClapFinds.{audit_meets, Meets, process_meets, how_meets, objects_meets, pua_is_simple, run_meets, tight_meets, tree_meets, why_meets}
 
 some_is : {A : Type 0} {a b : A} → Some a ≡ Some b → a ≡ b
 some_is {A} {a} {b} e = ap (λ (o : Option A). unwrap_or o a) e

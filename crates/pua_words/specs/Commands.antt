@@ -13,8 +13,8 @@ use Rattle.pua_words.specs.declared.command.Columns.TheVariants as columns
 use Rattle.pua_words.specs.declared.command.Processes.{Processes}
 use Rattle.pua_words.specs.declared.command.Processes.TheVariants.{One, Named}
 use Rattle.pua_words.specs.declared.command.Processes.TheVariants as processes
-use Rattle.pua_words.specs.declared.command.Span.{Span}
-use Rattle.pua_words.specs.declared.command.Span.TheVariants.{Now, Ever}
+use Rattle.pua_words.specs.declared.command.Time.{Time}
+use Rattle.pua_words.specs.declared.command.Time.TheVariants.{Now, Ever}
 use Rattle.pua_tree.specs.Spelling.{number_within}
 use Rattle.pua_words.specs.declared.words.TheConstants.{MOST_NUMBER}
 
@@ -92,7 +92,7 @@ tight_asked false = Tight
 tight_asked true = TightWhy
 
 -- a list is of now, or for ever
-abbrev pub span_meant : Bool → Span
+abbrev pub span_meant : Bool → Time
 span_meant false = Now
 span_meant true = Ever
 

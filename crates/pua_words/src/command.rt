@@ -28,9 +28,9 @@ pub struct Command<'a> {
 pub enum Text<'a> {
     /// What each line of the script is answered.
     Run,
-    /// The same, and behind each answer that is not `ok` why it is so.
+    /// The same, and after each answer that is not `ok` why it is so.
     RunWhy,
-    /// What decides one request behind the script, check by check, and its answer.
+    /// What decides one request after the script, check by check, and its answer.
     Why(WhyWords<'a>),
     /// The same, and then what a process may still do, path by path.
     Audit(AuditWords<'a>),
@@ -68,7 +68,7 @@ pub struct WhyWords<'a> {
     /// The number of the process that asks, 1 to 999,999 where the words of the command line named
     /// it.
     pub process: u32,
-    /// What it asks, as the fields of a script's line behind the number: the call first.
+    /// What it asks, as the fields of a script's line after the number: the call first.
     pub fields: Vec<&'a [u8]>,
 }
 
@@ -87,14 +87,14 @@ pub enum Processes {
 
 /// Of which time a list is.
 #[derive(Clone, Copy, PartialEq, Eq)]
-pub enum Span {
+pub enum Time {
     /// What each process may do now.
     Now,
     /// All that a process and what it forks can ever touch.
     Ever,
 }
 
-/// What stands behind the calls of a line of a list.
+/// What stands after the calls of a line of a list.
 #[derive(Clone, Copy, PartialEq, Eq)]
 pub enum Columns {
     /// Nothing.
@@ -112,8 +112,8 @@ pub struct ListWords {
     /// The processes.
     pub whose: Processes,
     /// Of which time it is.
-    pub span: Span,
-    /// What stands behind the calls of its lines.
+    pub span: Time,
+    /// What stands after the calls of its lines.
     pub columns: Columns,
 }
 

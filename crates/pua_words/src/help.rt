@@ -6,13 +6,13 @@ pub(crate) const PROGRAM_USAGE: &str =
 
 /// How a list of objects is asked for, of now or for ever, in one line.
 pub(crate) const OBJECTS_USAGE: &str =
-    "pua: usage: pua objects [--ever [--how]|--why] [--process P,...|all] [--at N] [--rules profile|openbsd] [--table FILE] TREE SCRIPT";
+    "pua: usage: pua objects [--ever] [--how|--why] [--process P,...|all] [--at N] [--rules profile|openbsd] [--table FILE] TREE SCRIPT";
 
 /// How it is asked why a request is answered as it is, in one line.
 pub(crate) const WHY_USAGE: &str =
     "pua: usage: pua why [--process P] [--at N] [--rules profile|openbsd] [--table FILE] TREE SCRIPT CALL [ARG...]";
 
-/// How the listing of the tree behind a script is asked for, in one line.
+/// How the listing of the tree after a script is asked for, in one line.
 pub(crate) const TREE_USAGE: &str =
     "pua: usage: pua tree [--at N] [--rules profile|openbsd] [--table FILE] TREE SCRIPT";
 
@@ -122,8 +122,8 @@ written as a backslash and three octal digits: `a\\040b`.
 Example: pua objects TREE SCRIPT
 `pua run --help` lists the calls of a SCRIPT, and what is behind each fault.";
 
-/// What a command prints, and behind it what all commands share: the calls of a script, and what is
-/// behind each fault; and then the faults of this command alone.
+/// What a command prints, and after it what all commands share: the calls of a script, and what is
+/// after each fault; and then the faults of this command alone.
 macro_rules! with_calls_and_faults {
     ($output:literal, $faults:literal) => {
         concat!(
@@ -326,7 +326,8 @@ With `--why` an answer that is not ok has its reason, as of `pua run --why`, and
 behind CALLS a line has `PROMISES PLACE LETTERS LINE`: the promises by which
 these calls are let through, = for none, and of the veil that covers PATH its
 place, its letters, and the line of SCRIPT since which it has them. Where no
-veil was put, these are three times -. There are no such columns with `--ever`.
+veil was put, these are three times -. With `--ever` they are there of each veil
+under which the thing can come to stand and that lets one of its calls through.
 
 Example: pua objects --process all TREE SCRIPT",
     "
@@ -340,8 +341,8 @@ Example: pua objects --process all TREE SCRIPT",
                        all need `c`
   processes P and Q have other veils
                        `--ever` of several is for processes of the same veils
-  objects: no list ..  `--how` is for `--ever` of one process, and `--why` for a
-                       list of now"
+  objects: no list ..  `--how` is for `--ever` of one process, and so is `--why`
+                       with `--ever`"
 );
 
 pub(crate) const AUDIT_OUTPUT: &str = with_calls_and_faults!(

@@ -9,7 +9,7 @@ mod version;
 mod words;
 
 pub use command::{
-    AuditWords, Columns, Command, HowWords, ListWords, Processes, Span, Text, WhyWords,
+    AuditWords, Columns, Command, HowWords, ListWords, Processes, Text, Time, WhyWords,
 };
 pub use usage::UsageLine;
 pub use words::{Stop, read_words};

@@ -1,11 +1,11 @@
-//! Which line tells how the program is used.
+//! Which line says how the program is used.
 
 ghost use Rattle.std.specs.Prelude.{◌≡◌, map};
 ghost use Rattle.pua_words.specs.Usages.{line_for, usage_line_text};
 
 use crate::help;
 
-/// The lines that tell how the program is used, of which one is told for words that are no command.
+/// The lines that say how the program is used, of which words that are no command get one.
 #[derive(Clone, Copy)]
 pub enum UsageLine {
     /// How runs and audits are asked for.
@@ -14,7 +14,7 @@ pub enum UsageLine {
     Objects,
     /// How it is asked why a request is answered as it is.
     Why,
-    /// How the listing of the tree behind a script is asked for.
+    /// How the listing of the tree after a script is asked for.
     Tree,
     /// How a script is asked for without what none of its answers needs.
     Tight,

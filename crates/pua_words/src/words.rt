@@ -28,7 +28,7 @@ ghost use Rattle.pua_words.specs.Plain.{IsMeantBy};
 ghost use Rattle.pua_words.specs.Usages.{AsksAbout, IsStop, is_about};
 
 use crate::command::{
-    AuditWords, Columns, Command, HowWords, ListWords, Processes, Span, Text, WhyWords,
+    AuditWords, Columns, Command, HowWords, ListWords, Processes, Text, Time, WhyWords,
 };
 use crate::help;
 use crate::usage::UsageLine;
@@ -47,7 +47,7 @@ pub(crate) const MOST_NUMBER: u32 = 999_999;
 /// Why there is nothing to do.
 #[derive(Drop)]
 pub enum Stop {
-    /// The words are not those of any command. This line tells how they could be.
+    /// The words are not those of any command. This line says how they could be.
     Usage(UsageLine),
     /// Help or the version was asked for, and is this text, which is never empty.
     Display(String),
@@ -71,9 +71,9 @@ impl From<AllocError> for Stop {
 ///
 /// Where words in a plain form are a command, it is the one that they name, of the inputs that they
 /// name, by the standard rules: `run` and `tight`, with `--why` or without; `tree`; `objects`, with
-/// its other options or without, of process 1, or behind these `--process` with a number, several,
-/// or `all`; `why` and `how`, of process 1, with the call and what stands behind it; and `audit
-/// --limit N`, of process 1, from the root, with the names behind it. In each but `tight` the
+/// its other options or without, of process 1, or after these `--process` with a number, several,
+/// or `all`; `why` and `how`, of process 1, with the call and what stands after it; and `audit
+/// --limit N`, of process 1, from the root, with the names after it. In each but `tight` the
 /// last option may be `--at` with a line's number, 0 to 999,999 in decimal. There each word beside
 /// the options begins with no hyphen.
 pub fn read_words<'a>(alloc: Global, words: &'a [&'a str]) -> Result<Command<'a>, Stop>
@@ -283,7 +283,7 @@ fn with_inputs<'a>(alloc: Global, command: Built<'a>) -> Built<'a>
     )
 }
 
-/// A command of this name, with a line about it and what stands behind its help.
+/// A command of this name, with a line about it and what stands after its help.
 fn command<'a>(alloc: Global, name: &'a str, about: &'a str, output: &'a str) -> Built<'a>
     ensures { IsBuilt (new_app name.entry.now) result }
 {
@@ -538,13 +538,13 @@ fn read_objects<'a>(alloc: Global, found: &ArgMatches<'a>) -> Result<Option<Text
 }
 
 /// Of which time a list is.
-fn span_of(ever: bool) -> Span
+fn span_of(ever: bool) -> Time
     ensures { result ≡ span_meant ever }
 {
-    if ever { Span::Ever } else { Span::Now }
+    if ever { Time::Ever } else { Time::Now }
 }
 
-/// What stands behind the calls of its lines: not both what they rest on and ways.
+/// What stands after the calls of its lines: not both what they rest on and ways.
 fn columns_of(how: bool, why: bool) -> Option<Columns>
     ensures { result ≡ columns_meant how why }
 {
@@ -658,7 +658,7 @@ fn read_audit<'a>(
     }))
 }
 
-/// The request that is asked about: the call, and behind it its arguments, each to the byte.
+/// The request that is asked about: the call, and after it its arguments, each to the byte.
 fn read_why<'a>(alloc: Global, found: &ArgMatches<'a>) -> Result<Option<WhyWords<'a>>, AllocError>
     ensures process { IfOk result
         (λ words. IfSome words (λ words. IsProcessNumber words.process)) }

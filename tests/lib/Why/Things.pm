@@ -100,6 +100,7 @@ sub _not_empty {
     my ($case, $path) = @_;
     my @inside = grep { $_ ne $path && above($_) eq $path } sort keys %{ things_of($case) };
     return "$path is empty" if !@inside;
+    return _root_fault($case) if $path eq '/';
     my @lines = map { _moves($inside[$_]) . $_ } 0 .. $#inside;
     return same_words_fault($case, told_behind($case, @lines), "though $path is empty");
 }

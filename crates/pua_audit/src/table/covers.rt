@@ -52,8 +52,8 @@ impl Terms {
 }
 
 impl Directories {
-    /// What the veils of a process leave of what a part named in a directory, if a directory that
-    /// has a place tells it.
+    /// What the veils of a process leave of what a part named in a directory, if the cover of a
+    /// directory with a place decides that.
     fn handed(&self, process: &Process, from: NodeId, part: &Part, found: &Found) -> Option<Cover>
         ensures { IfSome result (λ left. (t : Tree) → WellFormed t →
             FoundFits t found.now → StandsAsNamed t found.now →

@@ -24,7 +24,7 @@ use std::alloc::Global;
 
 impl Spots<'_> {
     /// The row of a living directory, by its cover. Only the letters that it tells apart are looked
-    /// up: one set of calls tells all others. What a letter leads to is put after the other
+    /// up: all others share one set of calls. What a letter leads to is put after the other
     /// directories. The only error is that a growth was refused.
     pub(crate) fn row<'t, P: Probe<'t>>(
         &self,

@@ -91,7 +91,7 @@ impl CallTable {
 
     /// The table that a TOML text gives over this one: what `read` answers, but that the keys are
     /// names of calls that this table has; calls which the text does not name, rename and link need
-    /// what they need by this table, and an exec leaves of execpromises what it leaves by it.
+    /// what they need by this table, and whose rules answer the rest stays.
     pub fn read_over(&self, alloc: Global, text: &[u8]) -> Result<CallTable, TableFault>
         ensures read { IfOk result (λ table. table_over self.now text.now ≡ Ok table) }
         ensures pairs { IfOk result (HasPairsOf self.now) }

@@ -1,7 +1,7 @@
 //! Taking away what stands in the way: at a name, and in a directory.
 
 use crate::plan::Search;
-use crate::plan::draft::{Draft, Stop, is_open};
+use crate::plan::draft::{Draft, DraftFault, is_open};
 use crate::plan::planner::{By, Row};
 use pua_policy::Object;
 use pua_tree::Kind;
@@ -28,14 +28,19 @@ impl Search<'_, '_> {
 
     /// Frees a name with a veil of its own for what comes there: a directory or not, and how. What
     /// is moved onto its like replaces that, once it is empty.
-    pub(crate) fn free(&self, draft: &mut Draft, row: &Row, mover: (bool, By)) -> Result<(), Stop> {
+    pub(crate) fn free(
+        &self,
+        draft: &mut Draft,
+        row: &Row,
+        mover: (bool, By),
+    ) -> Result<(), DraftFault> {
         if !is_open(draft.closed.as_slice(), row.place) {
             return Ok(());
         }
         let places = self.planner.extent(row);
         draft.close(self.planner.extent(row))?;
         if !row.is_dir() && row.node.is_some() && row.node == self.followed {
-            return Err(Stop::NoWay);
+            return Err(DraftFault::NoWay);
         }
         let takes = !row.is_dir() || self.planner.takes(By::Rename).is_met(&row.cover);
         if mover != (row.is_dir(), By::Rename) || !takes || self.is_kept(draft, row) {
@@ -48,7 +53,7 @@ impl Search<'_, '_> {
     }
 
     /// Empties a directory. Nothing is put into it any more.
-    pub(crate) fn empty(&self, draft: &mut Draft, dir: &Row) -> Result<(), Stop> {
+    pub(crate) fn empty(&self, draft: &mut Draft, dir: &Row) -> Result<(), DraftFault> {
         let places = self.planner.extent(dir);
         let below = places.start.saturating_add(1)..places.end;
         draft.close(places)?;
@@ -57,7 +62,7 @@ impl Search<'_, '_> {
 
     /// Takes away what stands at rows: it is removed, or moved away with all that is below it. A
     /// directory for which neither is possible is removed once the others are taken out.
-    fn take_away(&self, draft: &mut Draft, rows: &[Row]) -> Result<(), Stop> {
+    fn take_away(&self, draft: &mut Draft, rows: &[Row]) -> Result<(), DraftFault> {
         let mut emptied = Vec::new(self.planner.alloc);
         let mut next = 0;
         for row in rows {
@@ -70,16 +75,16 @@ impl Search<'_, '_> {
             } else if self.move_away(draft, row)? {
                 next = self.planner.extent(row).end;
             } else if !is_removable {
-                return Err(Stop::NoWay);
+                return Err(DraftFault::NoWay);
             } else if emptied.push(*row).is_err() {
-                return Err(Stop::OutOfMemory);
+                return Err(DraftFault::OutOfMemory);
             }
         }
         self.remove(draft, emptied.as_slice())
     }
 
     /// Removes directories, the last one first.
-    fn remove(&self, draft: &mut Draft, rows: &[Row]) -> Result<(), Stop> {
+    fn remove(&self, draft: &mut Draft, rows: &[Row]) -> Result<(), DraftFault> {
         for row in rows.iter().rev() {
             draft.call(row.remover(), &row.at())?;
         }
@@ -88,12 +93,12 @@ impl Search<'_, '_> {
 
     /// Moves what stands at a name to where there is room for it. False where there is none, or
     /// it can't be moved.
-    pub(crate) fn move_away(&self, draft: &mut Draft, row: &Row) -> Result<bool, Stop> {
+    pub(crate) fn move_away(&self, draft: &mut Draft, row: &Row) -> Result<bool, DraftFault> {
         if !self.is_movable(row) {
             return Ok(false);
         }
         let room = match self.room(draft) {
-            Err(Stop::NoWay) => return Ok(false),
+            Err(DraftFault::NoWay) => return Ok(false),
             room => room?,
         };
         draft.bring(By::Rename, &row.at(), &room)?;

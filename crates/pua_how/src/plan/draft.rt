@@ -11,19 +11,19 @@ use std::ops::Range;
 
 /// Why a draft is given up: it leads nowhere, or a growth was refused.
 #[derive(Clone, Copy, PartialEq, Eq)]
-pub(crate) enum Stop {
+pub(crate) enum DraftFault {
     NoWay,
     OutOfMemory,
 }
 
-impl From<AllocError> for Stop {
+impl From<AllocError> for DraftFault {
     ghost use Rattle.std.specs.Prelude.{◌≡◌};
-    ghost use Rattle.pua_how.specs.declared.plan.draft.Stop.TheVariants.{OutOfMemory};
+    ghost use Rattle.pua_how.specs.declared.plan.draft.DraftFault.TheVariants.{OutOfMemory};
 
     ghost from_gives = { λ _ stop. stop ≡ OutOfMemory };
 
-    fn from(_refused: AllocError) -> Stop {
-        Stop::OutOfMemory
+    fn from(_refused: AllocError) -> DraftFault {
+        DraftFault::OutOfMemory
     }
 }
 
@@ -54,7 +54,7 @@ impl Draft {
         }
     }
 
-    /// Adds a call. The only error is that a growth was refused, as of all that add or close.
+    /// Adds a call. The only error is that a growth was refused.
     pub(crate) fn call(&mut self, call: Call, at: &At) -> Result<(), AllocError> {
         Ok(self.steps.push(Step::On(call, *at))?)
     }
@@ -82,18 +82,18 @@ pub(crate) fn is_open(closed: &[Range<usize>], place: usize) -> bool {
 }
 
 /// The new name of a number: `new`, `new2`, `new3`, ..
-fn new_name(alloc: Global, number: usize) -> Result<Name, Stop> {
+fn new_name(alloc: Global, number: usize) -> Result<Name, DraftFault> {
     let mut text = String::new(alloc);
     text.push_str("new")?;
     if number > 1 {
         write!(text, "{number}")?;
     }
-    Name::from_bytes(text.as_bytes()).ok_or(Stop::NoWay)
+    Name::from_bytes(text.as_bytes()).ok_or(DraftFault::NoWay)
 }
 
 impl Search<'_, '_> {
     /// The next new name in a directory, but for those that something or a veil has.
-    pub(crate) fn new_in(&self, draft: &mut Draft, dir: Dir) -> Result<At, Stop> {
+    pub(crate) fn new_in(&self, draft: &mut Draft, dir: Dir) -> Result<At, DraftFault> {
         let taken = &self.planner.taken;
         for _ in 0..=taken.len() {
             draft.number = draft.number.saturating_add(1);
@@ -102,12 +102,12 @@ impl Search<'_, '_> {
                 return Ok(At::Name(dir, name));
             }
         }
-        Err(Stop::NoWay)
+        Err(DraftFault::NoWay)
     }
 
     /// To where what stands in the way can be moved: a directory from where it could be moved on,
     /// or any, or else a name with a veil of its own.
-    pub(crate) fn room(&self, draft: &mut Draft) -> Result<At, Stop> {
+    pub(crate) fn room(&self, draft: &mut Draft) -> Result<At, DraftFault> {
         let takes = self.planner.takes(By::Rename);
         let gives = self.planner.gives(By::Rename, false);
         self.put(draft, &gives.and(takes), &takes, true)
@@ -115,7 +115,12 @@ impl Search<'_, '_> {
 
     /// Makes something that meets a need: in the nearest directory, or else, if it is none itself,
     /// at a name with a veil of its own, which a directory doesn't take over.
-    pub(crate) fn make(&self, draft: &mut Draft, call: Call, need: &Need) -> Result<At, Stop> {
+    pub(crate) fn make(
+        &self,
+        draft: &mut Draft,
+        call: Call,
+        need: &Need,
+    ) -> Result<At, DraftFault> {
         let at = self.put(draft, need, need, call != Call::Mkdir)?;
         draft.call(call, &at)?;
         Ok(at)
@@ -124,7 +129,13 @@ impl Search<'_, '_> {
     /// A new name in the nearest directory that meets both needs, or else the second one; or, if
     /// names are allowed, one with a veil of its own that meets that, to which nothing else comes
     /// then: where nothing stands, or where something is unlinked.
-    fn put(&self, draft: &mut Draft, both: &Need, need: &Need, names: bool) -> Result<At, Stop> {
+    fn put(
+        &self,
+        draft: &mut Draft,
+        both: &Need,
+        need: &Need,
+        names: bool,
+    ) -> Result<At, DraftFault> {
         let closed = draft.closed.as_slice();
         let dir = self.planner.nearest(closed, both);
         if let Some(dir) = dir.or(self.planner.nearest(closed, need)) {
@@ -140,7 +151,7 @@ impl Search<'_, '_> {
         };
         let veils = self.planner.veils.iter().filter(fits);
         let first = veils.min_by_key(|veil| veil.row.node.is_some());
-        let row = &first.ok_or(Stop::NoWay)?.row;
+        let row = &first.ok_or(DraftFault::NoWay)?.row;
         draft.close(self.planner.extent(row))?;
         if row.node.is_some() {
             draft.call(Call::Unlink, &row.at())?;

@@ -1,7 +1,7 @@
 //! The forms of plans: what comes from where, in what it is carried, and where it comes to.
 
 use crate::plan::Search;
-use crate::plan::draft::{Draft, Stop};
+use crate::plan::draft::{Draft, DraftFault};
 use crate::plan::planner::{By, Need, Row, Veil};
 use crate::step::{At, Dir};
 use crate::target::Target;
@@ -76,15 +76,15 @@ impl<'p> Form<'p> {
 impl Search<'_, '_> {
     /// The draft of a form: what is made elsewhere is made before all else, where there is none
     /// otherwise.
-    pub(crate) fn draft_of(&self, form: &Form<'_>) -> Result<Draft, Stop> {
+    pub(crate) fn draft_of(&self, form: &Form<'_>) -> Result<Draft, DraftFault> {
         match self.draft(form, false) {
-            Err(Stop::NoWay) => self.draft(form, true),
+            Err(DraftFault::NoWay) => self.draft(form, true),
             draft => draft,
         }
     }
 
     /// The same, where it is or is not made before all else.
-    fn draft(&self, form: &Form<'_>, is_early: bool) -> Result<Draft, Stop> {
+    fn draft(&self, form: &Form<'_>, is_early: bool) -> Result<Draft, DraftFault> {
         let mut draft = Draft::new(self.planner.alloc);
         self.leave(&mut draft, form)?;
         if is_early {
@@ -97,13 +97,13 @@ impl Search<'_, '_> {
 
     /// A directory is to leave for a destination: it is emptied, if it is to be removed, and
     /// nothing is put into it; a destination in it is pulled out.
-    fn leave(&self, draft: &mut Draft, form: &Form<'_>) -> Result<(), Stop> {
+    fn leave(&self, draft: &mut Draft, form: &Form<'_>) -> Result<(), DraftFault> {
         let dir = match (form.from, form.carrier) {
             (Origin::Standing(row), Carrier::Parent) => self.planner.parent(row),
             (Origin::Standing(row), _) if row.is_dir() => Some(row),
             _ => return Ok(()),
         };
-        let dir = dir.ok_or(Stop::NoWay)?;
+        let dir = dir.ok_or(DraftFault::NoWay)?;
         let (place, depth) = match form.to {
             Destination::Here => (0, 0),
             Destination::Inside(room) => (room.place, room.depth.saturating_add(1)),
@@ -114,7 +114,7 @@ impl Search<'_, '_> {
         draft.close(places)?;
         let removes = self.call == Call::Rmdir && matches!(self.target, Target::Directory(_));
         match (is_in, removes) {
-            (true, true) => Err(Stop::NoWay),
+            (true, true) => Err(DraftFault::NoWay),
             (true, false) => self.pull(draft, dir, place, depth),
             (false, true) => self.empty(draft, dir),
             (false, false) => Ok(()),
@@ -123,7 +123,13 @@ impl Search<'_, '_> {
 
     /// Pulls a place out of a directory above it: of the directories between, from the nearest one
     /// with a veil of its own upwards, the first that can be moved is moved away.
-    fn pull(&self, draft: &mut Draft, dir: &Row, place: usize, depth: usize) -> Result<(), Stop> {
+    fn pull(
+        &self,
+        draft: &mut Draft,
+        dir: &Row,
+        place: usize,
+        depth: usize,
+    ) -> Result<(), DraftFault> {
         let (mut depth, mut is_veiled) = (depth, false);
         let places = dir.place.saturating_add(1)..place.saturating_add(1);
         for row in self.planner.rows_at(places).iter().rev() {
@@ -136,11 +142,11 @@ impl Search<'_, '_> {
                 return Ok(());
             }
         }
-        Err(Stop::NoWay)
+        Err(DraftFault::NoWay)
     }
 
     /// Clears the destination, but of what leaves it by itself.
-    fn clear(&self, draft: &mut Draft, form: &Form<'_>) -> Result<(), Stop> {
+    fn clear(&self, draft: &mut Draft, form: &Form<'_>) -> Result<(), DraftFault> {
         let Destination::Name(veil) = form.to else {
             return Ok(());
         };
@@ -158,7 +164,7 @@ impl Search<'_, '_> {
     }
 
     /// From where something comes on. What a call makes right where it is to be comes from nowhere.
-    fn origin(&self, draft: &mut Draft, form: &Form<'_>) -> Result<At, Stop> {
+    fn origin(&self, draft: &mut Draft, form: &Form<'_>) -> Result<At, DraftFault> {
         match (draft.from, form.from, form.by) {
             (Some(from), _, _) => Ok(from),
             (None, Origin::Standing(row), _) => Ok(row.at()),
@@ -168,7 +174,7 @@ impl Search<'_, '_> {
     }
 
     /// Brings what comes to the destination. Answers where the thing is then.
-    fn bring(&self, draft: &mut Draft, form: &Form<'_>) -> Result<At, Stop> {
+    fn bring(&self, draft: &mut Draft, form: &Form<'_>) -> Result<At, DraftFault> {
         let (from, thing) = match (form.carrier, form.from) {
             (Carrier::Nothing, _) => (self.origin(draft, form)?, None),
             (Carrier::Parent, Origin::Standing(row)) => (At::Directory(row.dir), Some(row.at())),
@@ -184,7 +190,7 @@ impl Search<'_, '_> {
     }
 
     /// Brings it inside a directory that is made. Answers where both are then.
-    fn load(&self, draft: &mut Draft, form: &Form<'_>) -> Result<(At, Option<At>), Stop> {
+    fn load(&self, draft: &mut Draft, form: &Form<'_>) -> Result<(At, Option<At>), DraftFault> {
         let takes = self.planner.takes(form.by);
         let need = self.sends(Call::Mkdir, By::Rename).and(takes);
         let carrier = self.make(draft, Call::Mkdir, &need)?;

@@ -23,7 +23,7 @@ fn numbers_swapped() {
     }
 }
 
-/// The line of a call has its name behind a blank, and is as long as each other one.
+/// The line of a call has its name after a blank, and is as long as each other one.
 fn line_of_a_longer_name() {
     let line = Call::Stat.line();
     if line.len() != MOST_CALL_LINE || line[1] != b's' {

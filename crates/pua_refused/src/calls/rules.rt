@@ -20,6 +20,20 @@ fn execpromises_always_unset() {
     }
 }
 
+/// And by the standard ones they are unset.
+fn execpromises_always_stay() {
+    if let ExecPromises::Stay = Rules::Standard.execpromises() {
+        unreachable!()
+    }
+}
+
+/// The table of OpenBSD's rules says whose it is.
+fn table_always_standard() {
+    if let Rules::Standard = CallTable::openbsd().rules() {
+        unreachable!()
+    }
+}
+
 /// By OpenBSD's rules chmod needs rpath beside fattr.
 fn openbsd_chmod_reads_nothing() {
     let table = CallTable::openbsd();

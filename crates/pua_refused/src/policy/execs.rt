@@ -1,6 +1,6 @@
 //! What an exec and a fork keep of a process.
 
-use pua_calls::{ExecPromises, Perms, Promises};
+use pua_calls::{ExecPromises, Perms, Promises, Rules};
 use pua_policy::{May, Place, Process};
 use pua_tree::NodeId;
 use std::alloc::Global;
@@ -37,7 +37,7 @@ fn exec_drops_error(alloc: Global) {
     let Ok(mut process) = Process::new(alloc) else {
         return;
     };
-    let Ok(()) = process.pledge(None, Some(Promises::ERROR)) else {
+    let Ok(()) = process.pledge(Rules::Standard, None, Some(Promises::ERROR)) else {
         unreachable!()
     };
     process.exec_into();
@@ -51,7 +51,7 @@ fn exec_leaves_execpromises(alloc: Global) {
     let Ok(mut process) = Process::new(alloc) else {
         return;
     };
-    let Ok(()) = process.pledge(None, Some(Promises::RPATH)) else {
+    let Ok(()) = process.pledge(Rules::Standard, None, Some(Promises::RPATH)) else {
         unreachable!()
     };
     process.exec_into();
@@ -65,7 +65,7 @@ fn execpromises_unset(alloc: Global) {
     let Ok(mut process) = Process::new(alloc) else {
         return;
     };
-    let Ok(()) = process.pledge(None, Some(Promises::RPATH)) else {
+    let Ok(()) = process.pledge(Rules::Standard, None, Some(Promises::RPATH)) else {
         unreachable!()
     };
     process.exec_by(ExecPromises::Stay);
@@ -93,7 +93,7 @@ fn handed_down_forgotten(alloc: Global) {
     let Ok(mut process) = Process::new(alloc) else {
         return;
     };
-    let Ok(()) = process.pledge(Some(Promises::RPATH), None) else {
+    let Ok(()) = process.pledge(Rules::Standard, Some(Promises::RPATH), None) else {
         unreachable!()
     };
     let Ok(both) = process.with_both(alloc, Promises::CPATH) else {

@@ -1,6 +1,6 @@
 //! What pledges leave to a process.
 
-use pua_calls::Promises;
+use pua_calls::{Promises, Rules};
 use pua_policy::{May, Process};
 use std::alloc::Global;
 
@@ -9,7 +9,7 @@ fn death_for_enosys(alloc: Global) {
     let Ok(mut process) = Process::new(alloc) else {
         return;
     };
-    let Ok(()) = process.pledge(Some(Promises::ERROR), None) else {
+    let Ok(()) = process.pledge(Rules::Standard, Some(Promises::ERROR), None) else {
         unreachable!()
     };
     if process.may_any(&[Promises::WPATH]) != May::Enosys {
@@ -42,10 +42,10 @@ fn equal_promises_refused(alloc: Global) {
     let Ok(mut process) = Process::new(alloc) else {
         return;
     };
-    let Ok(()) = process.pledge(Some(Promises::RPATH), None) else {
+    let Ok(()) = process.pledge(Rules::Standard, Some(Promises::RPATH), None) else {
         unreachable!()
     };
-    let Ok(()) = process.pledge(Some(Promises::RPATH), None) else {
+    let Ok(()) = process.pledge(Rules::Standard, Some(Promises::RPATH), None) else {
         unreachable!()
     };
 }
@@ -55,7 +55,7 @@ fn promises_are_execpromises(alloc: Global) {
     let Ok(mut process) = Process::new(alloc) else {
         return;
     };
-    let Ok(()) = process.pledge(Some(Promises::RPATH), None) else {
+    let Ok(()) = process.pledge(Rules::Standard, Some(Promises::RPATH), None) else {
         unreachable!()
     };
     if process.promises().is_none() {
@@ -68,10 +68,10 @@ fn refused_pledge_narrows(alloc: Global) {
     let Ok(mut process) = Process::new(alloc) else {
         return;
     };
-    let Ok(()) = process.pledge(Some(Promises::RPATH), None) else {
+    let Ok(()) = process.pledge(Rules::Standard, Some(Promises::RPATH), None) else {
         unreachable!()
     };
-    let Err(_) = process.pledge(Some(Promises::WPATH), Some(Promises::NONE)) else {
+    let Err(_) = process.pledge(Rules::Standard, Some(Promises::WPATH), Some(Promises::NONE)) else {
         unreachable!()
     };
     if process.execpromises().is_some() {
@@ -84,10 +84,10 @@ fn execpromises_error_decides(alloc: Global) {
     let Ok(mut process) = Process::new(alloc) else {
         return;
     };
-    let Ok(()) = process.pledge(None, Some(Promises::ERROR)) else {
+    let Ok(()) = process.pledge(Rules::Standard, None, Some(Promises::ERROR)) else {
         unreachable!()
     };
-    if let Ok(()) = process.pledge(None, Some(Promises::RPATH)) {
+    if let Ok(()) = process.pledge(Rules::Standard, None, Some(Promises::RPATH)) {
         unreachable!()
     }
 }
@@ -97,10 +97,10 @@ fn error_takes_request_as_it_stands(alloc: Global) {
     let Ok(mut process) = Process::new(alloc) else {
         return;
     };
-    let Ok(()) = process.pledge(Some(Promises::ERROR), None) else {
+    let Ok(()) = process.pledge(Rules::Standard, Some(Promises::ERROR), None) else {
         unreachable!()
     };
-    let Ok(()) = process.pledge(Some(Promises::WPATH), None) else {
+    let Ok(()) = process.pledge(Rules::Standard, Some(Promises::WPATH), None) else {
         unreachable!()
     };
     if process.may(Promises::WPATH) == May::Yes {

@@ -1,4 +1,4 @@
-//! Wrong bodies of what `pua_tool` tells of a fault: its status and its line.
+//! Wrong bodies of what `pua_tool` reports of a fault: its status and its line.
 
 use pua_calls::Rules;
 use pua_tool::{
@@ -25,7 +25,7 @@ fn fault_lines_exchanged(alloc: Global, words: &[&str]) {
     }
 }
 
-/// Where no input is there, that of the tree is told, and not that of the script.
+/// Where no input is there, that of the tree is reported, and not that of the script.
 fn inputs_taken_in_other_order(alloc: Global) {
     let mut inputs = MemoryInputs::new(&[]);
     let (Ok(mut out), Ok(mut err)) = (MemorySink::new(alloc, 9), MemorySink::new(alloc, 99)) else {

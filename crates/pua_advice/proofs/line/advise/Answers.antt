@@ -1,7 +1,7 @@
 use Rattle.std.proofs.Common.{◌≡◌, ◌∙◌, ap, sym, subst, option_map}
 use Rattle.std.specs.Prelude.{IfOk}
 use Rattle.pua_advice.specs.Advice.{advice_seen, fields_advice}
-use Rattle.pua_advice.proofs.Lines.{by_form, by_fields}
+use Rattle.pua_advice.proofs.LineParts.{by_form, by_fields}
 use Rattle.pua_advice.proofs.line.advise.Goals as goal
 
 pub returns-in-None : goal.returns-in-None

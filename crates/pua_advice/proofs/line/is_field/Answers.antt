@@ -4,7 +4,7 @@ use Rattle.std.proofs.lemmas.Iterator.Search.{all_from_yields_List}
 use Rattle.std.specs.List.{list_all}
 use Rattle.std.specs.Prelude.{◌&&◌, length}
 use Rattle.pua_advice.specs.Advice.{is_visible}
-use Rattle.pua_advice.proofs.Lines.{some_bytes}
+use Rattle.pua_advice.proofs.LineParts.{some_bytes}
 use Rattle.pua_advice.proofs.line.is_field.Goals as goal
 
 pub returns-then-not-is_empty : goal.returns-then-not-is_empty

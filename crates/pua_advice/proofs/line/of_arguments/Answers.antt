@@ -1,5 +1,5 @@
 use Rattle.std.proofs.Common.{◌∙◌, sym, arith}
-use Rattle.pua_advice.proofs.Lines.{many_arguments}
+use Rattle.pua_advice.proofs.LineParts.{many_arguments}
 use Rattle.pua_advice.proofs.line.of_arguments.Goals as goal
 
 pub returns-in_default : goal.returns-in_default

@@ -3,7 +3,7 @@ use Rattle.std.proofs.lemmas.Iterator.{YieldsList-from_slice}
 use Rattle.std.proofs.lemmas.Iterator.Search.{find_from_yields_List}
 use Rattle.std.specs.Prelude.{not, find}
 use Rattle.pua_advice.specs.Advice.{HiddenByte, advice_seen, is_visible}
-use Rattle.pua_advice.proofs.Lines.{field_behind}
+use Rattle.pua_advice.proofs.LineParts.{field_behind}
 use Rattle.pua_advice.proofs.line.of_field.Goals as goal
 
 pub returns-in_err-byte : goal.returns-in_err-byte

@@ -4,7 +4,7 @@ use Rattle.std.proofs.lemmas.Iterator.Splits.{YieldsList-from_slice_split}
 use Rattle.std.specs.Prelude.{not, find, option_and_then}
 use Rattle.pua_tree.specs.Spelling.{fields, is_field}
 use Rattle.pua_advice.specs.Advice.{advice_seen, field_advice}
-use Rattle.pua_advice.proofs.Lines.{form_behind}
+use Rattle.pua_advice.proofs.LineParts.{form_behind}
 use Rattle.pua_advice.proofs.line.of_form.Goals as goal
 
 pub returns-in_err-field : goal.returns-in_err-field

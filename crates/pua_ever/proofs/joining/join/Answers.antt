@@ -2,6 +2,7 @@ use Rattle.pua_ever.proofs.Common.{◌≡◌, ℕ, Bool, true, false, cond, map,
 use Rattle.pua_ever.proofs.Common.{state_after}
 use Rattle.std.specs.Prelude.{MatchResult}
 use Rattle.pua_path.specs.declared.errno.Errno.{Errno}
+use Rattle.pua_calls.specs.declared.rules.Rules.TheVariants.{Standard}
 use Rattle.pua_path.specs.declared.errno.Errno.TheVariants.{EPERM}
 use Rattle.pua_policy.specs.States.{Pledged, Locked, has_error, held_set, is_within, narrowed_set, pledge_fault, with_both}
 use Rattle.pua_ever.specs.Joints.{joint_told}
@@ -9,7 +10,7 @@ use Rattle.pua_ever.specs.Together.{Joint, confined_part, joint_after, joint_of}
 use Rattle.pua_ever.proofs.joining.join.Goals as goal
 
 -- who hands nothing down is refused no first execpromises, and then hands down these
-none_refused : (b : Bool) (given : Option ℕ) → cond (b || (true && is_within given None)) None (Some EPERM) ≡ None
+none_refused : (b : Bool) (given : Option ℕ) → cond ((b || true) && (b || is_within given None)) None (Some EPERM) ≡ None
 none_refused true given = refl
 none_refused false None = refl
 none_refused false (Some asked) = refl
@@ -35,8 +36,8 @@ returns c =
     let given : c.confined_part-given.result ≡ confined_part all.locked (held_set (with_both first all.held)) all.given
     = c.confined_part-given.ensures ∙ (λ i. confined_part (joint i).locked ((c.held.ensures.state ∙ ap held_set bare) i) (joint i).given) in
     let done = pledged (c.pledge-given.new.self ≡ state_after (Pledged None c.confined_part-given.result) c.in_ok-one.one)
-    (pledge_fault c.in_ok-one.one None c.confined_part-given.result)
-    (ap (λ p. pledge_fault p None c.confined_part-given.result) bare ∙ none_refused (has_error (with_both first all.held)) c.confined_part-given.result)
+    (pledge_fault Standard c.in_ok-one.one None c.confined_part-given.result)
+    (ap (λ p. pledge_fault Standard p None c.confined_part-given.result) bare ∙ none_refused (has_error (with_both first all.held)) c.confined_part-given.result)
     c.pledge-given.result c.pledge-given.ensures.state in
     c.lock.ensures.state ∙ ap (state_after Locked) (done ∙ (λ i. state_after (Pledged None (given i)) (bare i)) ∙
     ap (λ o. record (with_both first all.held) { execpromises = o }) (first_given _))

@@ -2,7 +2,7 @@ use Rattle.pua_ever.proofs.Common.{◌≡◌, [], true, false, sym, subst, ◌�
 use Rattle.std.proofs.lemmas.Result.{err_from_is_err_and}
 use Rattle.std.specs.Option.{option_copied}
 use Rattle.pua_ever.specs.EverList.{AreEverTold}
-use Rattle.pua_ever.specs.LastingList.{IsBothOf}
+use Rattle.pua_ever.specs.LastingList.{IsBoundedExecOf}
 use Rattle.pua_ever.specs.Through.{has_exec}
 use Rattle.pua_ever.proofs.Chosen.{lasting_through, lasting_unbounded, lasting_unstarted, starts_bounded, starts_open, starts_unlisted}
 use Rattle.pua_ever.proofs.lasting_list.list_lasting.Goals as goal
@@ -28,7 +28,7 @@ returns-in_default-clause-list g c = λ whose.
     let t = g.T.FileTree.content c.args.tree.now in
     let table = c.args.table.now in
     let told = c.in_ok-rows.ensures.rows in
-    let unbound = subst (λ o. IsBothOf table h (option_copied o)) c.in_default.is whose in
+    let unbound = subst (λ o. IsBoundedExecOf table h (option_copied o)) c.in_default.is whose in
     let some : has_exec (ever t table h) ≡ true =
     sym (c.some_exec.ensures t (ever t table h) (subst (λ rows. AreEverTold t [] rows (ever t table h) []) (sym c.as_slice.ensures.value) told))
     ∙ c.if-not-some_exec.false in
@@ -44,7 +44,7 @@ returns-clause-list g c = λ whose.
     let t = g.T.FileTree.content c.args.tree.now in
     let table = c.args.table.now in
     let told = c.in_ok-rows.ensures.rows in
-    let here = subst (λ o. IsBothOf table h (option_copied o)) c.in-Some.is whose in
+    let here = subst (λ o. IsBoundedExecOf table h (option_copied o)) c.in-Some.is whose in
     let some : has_exec (ever t table h) ≡ true =
     sym (c.some_exec.ensures t (ever t table h) (subst (λ rows. AreEverTold t [] rows (ever t table h) []) (sym c.as_slice.ensures.value) told))
     ∙ c.if-not-some_exec.false in
@@ -77,7 +77,7 @@ pub returns-in_err-through-clause-refused : goal.returns-in_err-through-clause-r
 returns-in_err-through-clause-refused g c =
     let p = err_from_is_err_and c.from_residual-in_err-through.result c.from_residual-in_err-through.ensures.1 in
     rw (p.1, p.2) (λ whose.
-    let here = subst (λ o. IsBothOf c.args.table.now c.args.process.now (option_copied o)) c.in-Some.is whose in
+    let here = subst (λ o. IsBoundedExecOf c.args.table.now c.args.process.now (option_copied o)) c.in-Some.is whose in
     let none = c.in_ok-rows.ensures.refused in
     none ∙ sym (c.in_err-through.ensures.unrefused c.args.process.now here none))
 

@@ -1,7 +1,8 @@
 -- The laws are the theorems.
 use Rattle.pua_ever.proofs.JointlyDone.{jointly_within, jointly_complete, jointly_through, jointly_after_read}
 use Rattle.pua_ever.proofs.JointlyLasts.{jointly_lasts}
-use Rattle.pua_ever.proofs.JointlyGrows.{jointly_grows}
+use Rattle.pua_ever.proofs.JointlyGrows.{joint_lists_grow, jointly_grows}
+use Rattle.pua_ever.proofs.JointTurning.{joint_starts_listed}
 use Rattle.pua_ever.proofs.laws.jointly_law.Goals as goal
 
 pub returns-clause-within : goal.returns-clause-within
@@ -21,3 +22,9 @@ returns-clause-lasts c = jointly_lasts
 
 pub returns-clause-grows : goal.returns-clause-grows
 returns-clause-grows c = jointly_grows
+
+pub returns-clause-lists : goal.returns-clause-lists
+returns-clause-lists c = joint_lists_grow
+
+pub returns-clause-starts : goal.returns-clause-starts
+returns-clause-starts c = joint_starts_listed

@@ -4,7 +4,7 @@ use Rattle.pua_how.specs.Served.{AreGranted, IsLine}
 use Rattle.pua_how.specs.Steps.{made_behind}
 use Rattle.pua_how.specs.declared.line.WayLine.{WayLine}
 use Rattle.pua_how.proofs.Granting.{one_more}
-use Rattle.pua_how.proofs.Stepping.{exec_on, none_on, refused_on, step_on}
+use Rattle.pua_how.proofs.StepsComeToCall.{exec_on, none_on, refused_on, step_on}
 use Rattle.pua_how.proofs.serve.serve_first.Goals as goal
 
 pub loop-step-preserved : goal.loop-step-preserved

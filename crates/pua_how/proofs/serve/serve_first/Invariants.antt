@@ -1,5 +1,5 @@
 use Rattle.pua_how.specs.Served.{AreGranted}
-use Rattle.pua_how.proofs.Stepping.{AreOn}
+use Rattle.pua_how.proofs.StepsComeToCall.{AreOn}
 use Rattle.pua_how.proofs.serve.serve_first.Given as goal
 
 -- the lines so far were granted, and the steps come to a call where those that are left do

@@ -1,4 +1,4 @@
-use Rattle.pua_listing.proofs.Written.{are_bytes}
+use Rattle.pua_listing.proofs.ListingLines.{are_bytes}
 use Rattle.pua_listing.proofs.line.add_spelled.Goals as goal
 
 pub returns-in_err-push-clause-bytes : goal.returns-in_err-push-clause-bytes

@@ -1,5 +1,5 @@
 use Rattle.pua_listing.specs.Numbers.{number_in}
-use Rattle.pua_listing.proofs.Written.{text_more, bytes_more}
+use Rattle.pua_listing.proofs.ListingLines.{text_more, bytes_more}
 use Rattle.pua_listing.proofs.listing.add_lines.Goals as goal
 
 pub loop-place-preserved : goal.loop-place-preserved

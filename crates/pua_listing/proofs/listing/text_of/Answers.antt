@@ -1,4 +1,4 @@
-use Rattle.pua_listing.proofs.Common.{◌≡◌, ◌∙◌, ◌++◌, ap, sym, subst, map, arith, spot_cmp, ℕ, List, Row}
+use Rattle.pua_listing.proofs.Common.{◌≡◌, ◌∙◌, ◌++◌, ap, sym, subst, map, spot_cmp, ℕ, List, Row}
 use Rattle.std.proofs.Common.{IsTrue}
 use Rattle.std.specs.FinMap.{is_sorted}
 use Rattle.pua_tree.specs.Grammar.{entry_text}
@@ -8,26 +8,8 @@ use Rattle.pua_listing.specs.Lent.{rows_held}
 use Rattle.pua_listing.specs.Listed.{text_of_lines}
 use Rattle.pua_listing.specs.Numbers.{number_in}
 use Rattle.pua_listing.specs.Order.{order_of}
-use Rattle.pua_listing.proofs.ReadBack.{text_is, bytes_are, as_many}
+use Rattle.pua_listing.proofs.ReadBack.{text_is, bytes_are}
 use Rattle.pua_listing.proofs.listing.text_of.Goals as goal
-
-pub of-requires : goal.of-requires
-of-requires g c =
-    let t = g.T.FileTree.content c.args.tree.now in
-    let same_rows : map lent_entry c.deref.result.now ≡ t.rows = ap (map lent_entry) c.deref.ensures.value ∙ c.in_ok-rows.ensures in
-    let order_is = c.in_ok-order.ensures (subst (λ rows. IsTrue (is_sorted spot_cmp rows)) (sym same_rows) c.known.ensures.rows_in_order) ∙
-    ap order_of same_rows in
-    let many = as_many t c.known.ensures c.deref-2.result.now (ap rows_held c.deref-2.ensures.value ∙ order_is) in
-    omega (arith, many, c.requires)
-
-pub add_lines-requires : goal.add_lines-requires
-add_lines-requires g c =
-    let t = g.T.FileTree.content c.args.tree.now in
-    let same_rows : map lent_entry c.deref.result.now ≡ t.rows = ap (map lent_entry) c.deref.ensures.value ∙ c.in_ok-rows.ensures in
-    let order_is = c.in_ok-order.ensures (subst (λ rows. IsTrue (is_sorted spot_cmp rows)) (sym same_rows) c.known.ensures.rows_in_order) ∙
-    ap order_of same_rows in
-    let many = as_many t c.known.ensures c.deref-3.result.now (ap rows_held c.deref-3.ensures.value ∙ order_is) in
-    omega (arith, many, c.requires)
 
 pub returns : goal.returns
 returns g c =

@@ -1,4 +1,4 @@
-use Rattle.pua_policy.proofs.Narrowing.{state_never_grows, pledges_narrow}
+use Rattle.pua_policy.proofs.PromisesGoAway.{state_never_grows, pledges_narrow}
 use Rattle.pua_policy.proofs.laws.promise_laws.Goals as goal
 
 pub returns : goal.returns

@@ -1,15 +1,24 @@
-use Rattle.pua_script.proofs.Common.{sym, ap, ◌∙◌, Ok, asker_of}
-use Rattle.pua_script.specs.Decide.{decide, decide_uses}
+use Rattle.pua_script.proofs.Common.{◌≡◌, sym, ap, ◌∙◌, Ok, Tree, CallTable, ProcessState, Decision, Action, asker_of}
+use Rattle.pua_calls.specs.declared.rules.Rules.{Rules}
+use Rattle.pua_script.specs.declared.request.Given.{Given}
+use Rattle.pua_script.specs.declared.request.Action.TheVariants.{Pledge}
+use Rattle.pua_script.specs.Decide.{decide, decide_pledge, decide_uses}
 use Rattle.pua_script.specs.declared.granted.Granted.TheVariants as granted
 use Rattle.pua_script.proofs.Acting.{acts}
 use Rattle.pua_script.proofs.act.act.Goals as goal
 
+-- a pledge is decided by whose rules the table is of
+pledges_by : (table : CallTable) (t : Tree) (p : ProcessState) (whose : Rules) (x y : Given) (d : Decision) (action : Action) →
+    whose ≡ table.whose → action ≡ Pledge x y → d ≡ decide_pledge (asker_of p) whose x y → d ≡ decide table t p action
+pledges_by table t p whose x y d action same is e =
+    e ∙ ap (λ rules. decide_pledge (asker_of p) rules x y) same ∙ sym (ap (decide table t p) is)
+
 pub returns-in-Pledge-clause-exact : goal.returns-in-Pledge-clause-exact
 returns-in-Pledge-clause-exact g c =
     let t = g.T.FileTree.content c.args.tree.now in
-    acts c.args.table.now t c.args.process.now c.args.action.now c.decide_pledge.result
-    (c.decide_pledge.ensures (asker_of c.args.process.now)
-    ∙ sym (ap (decide c.args.table.now t c.args.process.now) c.in-Pledge.is)) _ _ c.answer.result c.answer.ensures.exact
+    acts c.args.table.now t c.args.process.now c.args.action.now c.decide_pledge-granted.result
+    (pledges_by c.args.table.now t c.args.process.now _ _ _ _ c.args.action.now c.rules.ensures c.in-Pledge.is
+    (c.decide_pledge-granted.ensures (asker_of c.args.process.now))) _ _ c.answer.result c.answer.ensures.exact
 
 pub returns-in-Lock-clause-exact : goal.returns-in-Lock-clause-exact
 returns-in-Lock-clause-exact g c =
@@ -34,4 +43,4 @@ returns-in-Uses-clause-exact g c =
     c.answer-in-Uses.result c.answer-in-Uses.ensures.exact
 
 pub returns-in-Unveil-clause-exact : goal.returns-in-Unveil-clause-exact
-returns-in-Unveil-clause-exact g c = rw (c.in-Unveil.is, ← c.bytes-in-Unveil.ensures) (c.unveil.ensures.exact c.args.table.now)
+returns-in-Unveil-clause-exact g c = rw (c.in-Unveil.is, ← c.bytes-in-Unveil.ensures) c.unveil.ensures.exact

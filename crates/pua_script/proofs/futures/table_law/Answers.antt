@@ -1,4 +1,4 @@
-use Rattle.pua_script.proofs.Served.{rules_narrow, read_tables_narrow}
+use Rattle.pua_script.proofs.WorldsLeft.{rules_narrow, read_tables_narrow}
 use Rattle.pua_script.proofs.futures.table_law.Goals as goal
 
 pub returns : goal.returns

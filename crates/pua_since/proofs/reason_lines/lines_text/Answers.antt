@@ -1,7 +1,7 @@
 use Rattle.pua_since.proofs.Common.{◌≡◌, ◌++◌, ◌+◌, ◌∙◌, [], suc, sym, ap, subst, flat_map, append-nil, string_bytes, inl, inr, ◌⊎◌}
 use Rattle.pua_since.proofs.Common.{iter_rest, with_end, state_after_all, world_of, AreWatched}
 use Rattle.pua_why.specs.Texts.{why_lines}
-use Rattle.pua_since.proofs.Telling.{IsTurn, all_told, none_told, past_all, turned}
+use Rattle.pua_since.proofs.RunWithReasons.{IsTurn, all_told, none_told, past_all, turned}
 use Rattle.pua_since.proofs.reason_lines.lines_text.Goals as goal
 use Rattle.std.proofs.lemmas.List.{nil_from_length}
 

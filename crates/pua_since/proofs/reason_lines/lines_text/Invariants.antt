@@ -1,5 +1,5 @@
 use Rattle.pua_since.proofs.Common.{string_bytes, iter_rest}
-use Rattle.pua_since.proofs.Telling.{IsTold}
+use Rattle.pua_since.proofs.RunWithReasons.{IsTold}
 use Rattle.pua_since.proofs.reason_lines.lines_text.Given as goal
 
 abbrev pub invariant-loop-done : goal.invariant-loop-done

@@ -1,4 +1,4 @@
-use Rattle.pua_texts.proofs.Common.{◌≡◌, ◌++◌, [], ℕ, drop, Posed, world_left}
+use Rattle.pua_texts.proofs.Common.{◌≡◌, ◌++◌, [], ℕ, drop, ServedScript, world_left}
 use Rattle.std.specs.List.{AllByRecursion}
 use Rattle.pua_objects.specs.ListItems.{IsToldIn, items_told}
 use Rattle.pua_texts.specs.ListLines.{last_word, lines_text}
@@ -14,7 +14,7 @@ invariant-loop-item l = record {
   veils : l.columns.veils ≡ l.fn.columns.veils;
   unveiled : l.columns.unveiled ≡ l.fn.columns.unveiled;
   numbered : AreNumbered l.columns.resting l.lines.items;
-  lines : (p : Posed) (number : ℕ) → l.table ≡ p.table →
+  lines : (p : ServedScript) (number : ℕ) → l.table ≡ p.table →
       AllByRecursion (IsToldIn (world_left p).tree l.process) l.items → AreColumnsOf p number l.process.veils l.fn.columns →
       lines_text l.columns [] l.lines.items ++ told (world_left p).tree p.table l.process (behind p number l.process)
       (items_told (world_left p).tree (last_word [] l.lines.items) (drop l.item-index l.items))

@@ -7,7 +7,7 @@ use Rattle.pua_texts.specs.EndingsState.{EndingsState}
 use Rattle.pua_texts.specs.ListLines.{lines_text}
 use Rattle.pua_texts.specs.Members.{named_by}
 use Rattle.pua_texts.specs.States.{bound_lines}
-use Rattle.pua_texts.specs.declared.members.Joint.{Joint}
+use Rattle.pua_texts.specs.declared.members.Joined.{Joined}
 use Rattle.pua_texts.specs.declared.state.Time.TheVariants.{Ever}
 use Rattle.pua_texts.proofs.Outcomes.{if_ok}
 use Rattle.pua_texts.proofs.States.{shown}
@@ -18,7 +18,7 @@ pub returns : goal.returns
 returns c = if_ok c.new-2.result (λ list is t table joint.
     let named = named_by c.args.members.now in
     let one = c.in-Some.joint.one.now in
-    let lasting = subst (λ (o : Option Joint). IfSome o (λ j. IsLasting t table j.one.now j.list.now)) c.in-Some.is joint.lasting in
+    let lasting = subst (λ (o : Option Joined). IfSome o (λ j. IsLasting t table j.one.now j.list.now)) c.in-Some.is joint.lasting in
     let told = ap (λ (s : EndingsState). lines_text s [] c.in_ok-lines.lines.items) c.plain-2.ensures ∙
     c.in_ok-lines.ensures t (ever_lasting t table one)
     (subst (λ rows. AreEverTold t [] rows (ever_lasting t table one) []) (sym c.as_slice.ensures.value) lasting.rows) in
@@ -27,5 +27,5 @@ returns c = if_ok c.new-2.result (λ list is t table joint.
     (is ∙ (λ i. record { head = c.of-head-2.ensures i; lines = c.in_ok-lines.lines.items; columns = c.plain-2.result }))
     (c.in_ok-push_bounds.ensures
     ∙ (λ j. c.in_ok-text.ensures j ++ bound_lines c.args.rules (Ever (lasting.execs j)) one))
-    c.in_ok-veils.ensures.state told (sym joint.is ∙ ap (option_map (λ (joint : Joint). joint.one.now)) c.in-Some.is))
+    c.in_ok-veils.ensures.state told (sym joint.is ∙ ap (option_map (λ (joint : Joined). joint.one.now)) c.in-Some.is))
     c.new-2.ensures

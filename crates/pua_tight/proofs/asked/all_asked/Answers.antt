@@ -2,7 +2,7 @@ use Rattle.std.proofs.Common.{◌∙◌, ap}
 use Rattle.std.specs.Prelude.{bit_or, flat_map}
 use Rattle.pua_calls.specs.Calls.{calls, rule_of}
 use Rattle.pua_calls.specs.Promises.{proc, unveil}
-use Rattle.pua_tight.proofs.Asking.{all_together, added}
+use Rattle.pua_tight.proofs.PromisesTogether.{all_together, added}
 use Rattle.pua_tight.proofs.asked.all_asked.Goals as goal
 
 pub returns : goal.returns

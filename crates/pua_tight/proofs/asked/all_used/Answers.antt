@@ -1,7 +1,7 @@
 use Rattle.std.proofs.Common.{◌∙◌, ap}
 use Rattle.std.specs.Prelude.{bit_or}
 use Rattle.pua_tight.specs.Tight.{union, used_by}
-use Rattle.pua_tight.proofs.Asking.{gathered_next}
+use Rattle.pua_tight.proofs.PromisesTogether.{gathered_next}
 use Rattle.pua_tight.proofs.asked.all_used.Goals as goal
 
 pub loop-request-preserved : goal.loop-request-preserved

@@ -3,7 +3,7 @@ use Rattle.std.specs.Prelude.{bit_or}
 use Rattle.pua_calls.specs.Calls.{calls, rule_of}
 use Rattle.pua_calls.specs.declared.call.Call.TheVariants.{Stat}
 use Rattle.pua_tight.specs.Tight.{union}
-use Rattle.pua_tight.proofs.Asking.{gathered_call}
+use Rattle.pua_tight.proofs.PromisesTogether.{gathered_call}
 use Rattle.pua_tight.proofs.asked.called.Goals as goal
 
 pub loop-call-preserved : goal.loop-call-preserved

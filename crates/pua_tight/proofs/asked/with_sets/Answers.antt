@@ -1,5 +1,5 @@
 use Rattle.std.proofs.Common.{◌∙◌}
-use Rattle.pua_tight.proofs.Asking.{set_more}
+use Rattle.pua_tight.proofs.PromisesTogether.{set_more}
 use Rattle.pua_tight.proofs.asked.with_sets.Goals as goal
 
 pub loop-set-preserved : goal.loop-set-preserved

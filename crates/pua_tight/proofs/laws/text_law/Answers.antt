@@ -1,4 +1,4 @@
-use Rattle.pua_tight.proofs.Written.{texts_are_read, tight_texts_are_read}
+use Rattle.pua_tight.proofs.TextOfFewer.{texts_are_read, tight_texts_are_read}
 use Rattle.pua_tight.proofs.laws.text_law.Goals as goal
 
 pub returns-clause-written : goal.returns-clause-written

@@ -3,7 +3,7 @@ use Rattle.std.proofs.lemmas.Result.{IfOk-weaker}
 use Rattle.pua_tight.specs.Left.{lines_by}
 use Rattle.pua_tight.specs.Trials.{trials_from}
 use Rattle.pua_tight.specs.Tight.{asked_in}
-use Rattle.pua_tight.proofs.Several.{to_try}
+use Rattle.pua_tight.proofs.WithoutSeveral.{to_try}
 use Rattle.pua_tight.proofs.Trying.{tightens_all}
 use Rattle.pua_tight.proofs.tighten.tighten.Goals as goal
 

@@ -1,4 +1,4 @@
-use Rattle.pua_tight.proofs.Several.{kept_more, left_more}
+use Rattle.pua_tight.proofs.WithoutSeveral.{kept_more, left_more}
 use Rattle.pua_tight.proofs.together.leave_all.Goals as goal
 
 pub loop-trial-preserved : goal.loop-trial-preserved

@@ -2,7 +2,7 @@ use Rattle.std.proofs.Common.{◌≡◌, ◌-◌, length, take, drop, arith, Lis
 use Rattle.std.proofs.lemmas.List.{length-drop, length-take, take_all}
 use Rattle.pua_script.specs.Replay.{new_world}
 use Rattle.pua_tight.specs.Trials.{Trial}
-use Rattle.pua_tight.proofs.Several.{all_done, more_done, none_done}
+use Rattle.pua_tight.proofs.WithoutSeveral.{all_done, more_done, none_done}
 use Rattle.pua_tight.proofs.together.try_all.Goals as goal
 
 pub loop-done-init : goal.loop-done-init

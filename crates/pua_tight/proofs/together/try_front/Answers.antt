@@ -4,7 +4,7 @@ use Rattle.pua_script.specs.Replay.{World, answers_to, new_world}
 use Rattle.pua_tight.specs.Tight.{same_answers}
 use Rattle.pua_tight.specs.Several.{all_left}
 use Rattle.pua_tight.specs.Trials.{Trial}
-use Rattle.pua_tight.proofs.Several.{front_done, front_fewer, front_more, more_left}
+use Rattle.pua_tight.proofs.WithoutSeveral.{front_done, front_fewer, front_more, more_left}
 use Rattle.pua_tight.proofs.together.try_front.Goals as goal
 
 pub loop-spare-preserved-then-branch : goal.loop-spare-preserved-then-branch

@@ -1,7 +1,7 @@
 use Rattle.std.proofs.Common.{◌≡◌, ◌≤◌, ◌-◌, length, take}
 use Rattle.pua_script.specs.Replay.{new_world}
 use Rattle.pua_tight.specs.Several.{IsToTry, all_left}
-use Rattle.pua_tight.proofs.Several.{IsFront}
+use Rattle.pua_tight.proofs.WithoutSeveral.{IsFront}
 use Rattle.pua_tight.proofs.together.try_front.Given as goal
 
 -- so many are left out, and how many at most can be

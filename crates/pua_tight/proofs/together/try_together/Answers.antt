@@ -1,6 +1,6 @@
 use Rattle.std.proofs.Common.{◌∙◌, ap, not}
 use Rattle.pua_script.specs.Replay.{new_world}
-use Rattle.pua_tight.proofs.Several.{told_by}
+use Rattle.pua_tight.proofs.WithoutSeveral.{told_by}
 use Rattle.pua_tight.proofs.together.try_together.Goals as goal
 
 pub returns-then-is_none-clause-told : goal.returns-then-is_none-clause-told

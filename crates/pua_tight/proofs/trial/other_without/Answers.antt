@@ -1,5 +1,5 @@
 use Rattle.pua_script.specs.Replay.{new_world}
-use Rattle.pua_tight.proofs.Several.{no_other}
+use Rattle.pua_tight.proofs.WithoutSeveral.{no_other}
 use Rattle.pua_tight.proofs.trial.other_without.Goals as goal
 
 pub returns-then-not-has_piece-clause-other : goal.returns-then-not-has_piece-clause-other

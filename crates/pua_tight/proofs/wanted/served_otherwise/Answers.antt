@@ -1,7 +1,7 @@
 use Rattle.std.proofs.Common.{◌≡◌, ◌≢◌, ◌∙◌, ap, sym, arith, rules, length, Some}
 use Rattle.std.proofs.lemmas.Bool.{ltb-true}
 use Rattle.std.proofs.lemmas.Option.{slice_get-get_or}
-use Rattle.pua_tight.proofs.Served.{goes_on, more_wanted, stops}
+use Rattle.pua_tight.proofs.FirstOtherAnswer.{goes_on, more_wanted, stops}
 use Rattle.pua_tight.proofs.wanted.served_otherwise.Goals as goal
 
 pub returns-then-requests-wanted : goal.returns-then-requests-wanted

@@ -1,4 +1,4 @@
-use Rattle.pua_tight.proofs.Served.{IsServedTo}
+use Rattle.pua_tight.proofs.FirstOtherAnswer.{IsServedTo}
 use Rattle.pua_tight.proofs.wanted.served_otherwise.Given as goal
 
 -- the requests so far were answered as is wanted

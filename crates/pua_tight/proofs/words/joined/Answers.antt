@@ -1,4 +1,4 @@
-use Rattle.pua_tight.proofs.Kept.{joined_next}
+use Rattle.pua_tight.proofs.KeptWords.{joined_next}
 use Rattle.pua_tight.proofs.words.joined.Goals as goal
 
 pub loop-word-preserved : goal.loop-word-preserved

@@ -4,7 +4,7 @@ use Rattle.std.proofs.lemmas.Iterator.Consumers.{map_from_collect, YieldsList-at
 use Rattle.std.proofs.lemmas.Iterator.Splits.{YieldsList-from_slice_split}
 use Rattle.pua_calls.specs.Promises.{promises_of}
 use Rattle.pua_tight.specs.Left.{stays_as_read}
-use Rattle.pua_tight.proofs.Kept.{same_left, pieces_free}
+use Rattle.pua_tight.proofs.KeptWords.{same_left, pieces_free}
 use Rattle.pua_tight.proofs.words.words_left.Goals as goal
 
 pub returns : goal.returns

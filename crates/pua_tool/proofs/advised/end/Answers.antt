@@ -1,7 +1,7 @@
 use Rattle.pua_tool.proofs.Common.{subst, sym}
 use Rattle.pua_tool.specs.Ended.{IsEndOf, IsEndedAs}
 use Rattle.pua_tool.specs.declared.advised.Halt.{Halt}
-use Rattle.pua_tool.proofs.Telling.{untaken_end, unwritten_end}
+use Rattle.pua_tool.proofs.FaultsWritten.{untaken_end, unwritten_end}
 use Rattle.pua_tool.proofs.advised.end.Goals as goal
 
 pub returns-in-Untaken : goal.returns-in-Untaken

@@ -1,7 +1,7 @@
 use Rattle.pua_tool.proofs.Common.{map}
 use Rattle.std.proofs.Common.{inl, inr}
 use Rattle.pua_io.proofs.ForCallers.{asks_for_nothing}
-use Rattle.pua_tool.proofs.Telling.{plainly_told}
+use Rattle.pua_tool.proofs.FaultsWritten.{plainly_told}
 use Rattle.pua_tool.proofs.Stops.{told_by_stop, shown_by_stop, cut_by_stop}
 use Rattle.pua_tool.proofs.cli.command.Goals as goal
 

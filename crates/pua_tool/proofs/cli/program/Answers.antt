@@ -4,7 +4,7 @@ use Rattle.pua_tool.specs.Told.{IsLineTold}
 use Rattle.pua_tool.specs.Advised.{HasTold}
 use Rattle.pua_tool.proofs.Ends.{answered_by_status, ended_by_status, told_by_status}
 use Rattle.pua_tool.proofs.Stops.{not_done}
-use Rattle.pua_tool.proofs.Telling.{plainly_told}
+use Rattle.pua_tool.proofs.FaultsWritten.{plainly_told}
 use Rattle.pua_tool.proofs.cli.program.Goals as goal
 
 pub returns-clause-done : goal.returns-clause-done

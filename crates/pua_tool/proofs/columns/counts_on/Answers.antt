@@ -4,6 +4,10 @@ use Rattle.std.specs.List.{AllByRecursion}
 use Rattle.pua_calls.specs.Calls.{call_count, calls}
 use Rattle.pua_calls.specs.declared.call.Call.{Call}
 use Rattle.pua_calls.specs.declared.call.Call.TheVariants.{Stat}
+use Rattle.std.specs.Prelude.{IfErr}
+use Rattle.pua_script.specs.Worlds.{world_of}
+use Rattle.pua_how.specs.Served.{Tried}
+use Rattle.pua_how.specs.Steps.{NoneComes}
 use Rattle.pua_how.specs.declared.way.NoWay.{NoWay}
 use Rattle.pua_tool.specs.RowColumns.{IsCountTo, done_behind}
 use Rattle.pua_tool.proofs.Counts.{Count, all_counted, call_counted, call_passed, calls_of, steps_counted}
@@ -31,11 +35,15 @@ loop-call-preserved c =
             counted =
                 subst (AllByRecursion (IsCountTo rules done n target)) (sym all)
                 (steps_counted rules done n target counts call found things c.in_ok-meant.ensures c.loop-call.invariant.counted
-                w.in_ok-steps.ensures.steps w.in_ok-steps.ensures.none);
+                (w.in_ok-steps.ensures.steps c.args.behind.now c.loop-call.invariant.trials)
+                (subst (λ (t : Tried). IfErr found (NoneComes t.rules t.world.table t.process call things (world_of t.world)))
+                c.loop-call.invariant.trials w.in_ok-steps.ensures.none));
+            trials = w.trials-is ∙ w.in_ok-steps.ensures.same ∙ c.loop-call.invariant.trials;
           })
       | else-contains w ↦ rw w.counts-is (record {
         calls = call_passed set i c.loop-call-test.true counts (sym c.contains.ensures ∙ w.if-contains.false) c.loop-call.invariant.calls;
         counted = c.loop-call.invariant.counted;
+        trials = w.trials-is ∙ c.loop-call.invariant.trials;
       })
     ]
 

@@ -1,7 +1,7 @@
 use Rattle.pua_tool.proofs.Common.{◌≡◌, ℕ, List, ◌++◌, Err, Ok, ap, sym, subst, ◌∙◌, None, ProcessState, kept_at, answer_lines, AnswersTo}
 use Rattle.pua_tool.proofs.Common.{◌≢◌, err_from_is_err_and, unless_reason, as_replayed, OutOfMemory, Write}
 use Rattle.std.specs.Prelude.{ok_or}
-use Rattle.pua_ever.specs.LastingList.{IsBothOf}
+use Rattle.pua_ever.specs.LastingList.{IsBoundedExecOf}
 use Rattle.pua_ever.specs.Refusals.{refusal}
 use Rattle.pua_texts.specs.EverLines.{ever_list}
 use Rattle.pua_tool.specs.declared.fault.ToolFault.TheVariants.{NoProcess}
@@ -14,7 +14,7 @@ returns-in-Err g c =
     let n : ℕ = c.args.number in
     let done = as_replayed c.args.replay.now in
     let h = c.in-Some.process.now in
-    let whose = subst (IsBothOf c.table-table.result.now h) (sym c.as_ref.ensures.value) c.in_ok-both.ensures in
+    let whose = subst (IsBoundedExecOf c.table-table.result.now h) (sym c.as_ref.ensures.value) c.in_ok-both.ensures in
     let text = λ (h : ProcessState). answer_lines 1 done.answers ++ ever_list c.args.rules done.table done.world.tree n h in
     next_answers g.S.Sink.written g.S.Sink.failed (ok_or (kept_at done.world n) NoProcess)
     (λ h. unless_reason n (refusal done.table h) (text h)) h (Err fault) c.args.sink.now c.args.sink.now
@@ -59,7 +59,7 @@ returns g c =
     let n : ℕ = c.args.number in
     let done = as_replayed c.args.replay.now in
     let h = c.in-Some.process.now in
-    let whose = subst (IsBothOf c.table-table.result.now h) (sym c.as_ref.ensures.value) c.in_ok-both.ensures in
+    let whose = subst (IsBoundedExecOf c.table-table.result.now h) (sym c.as_ref.ensures.value) c.in_ok-both.ensures in
     let front : c.as_str.result.now ≡ answer_lines 1 done.answers = c.as_str.ensures.value ∙ c.in_ok-front.ensures ∙
     ap (answer_lines 1) c.as_slice.ensures.value in
     let lasting = c.in-Ok.ensures.list whose in

@@ -4,7 +4,7 @@ use Rattle.std.specs.List.{AllByRecursion}
 use Rattle.std.specs.Prelude.{string_bytes}
 use Rattle.pua_tree.specs.Tree.{WellFormed}
 use Rattle.pua_ever.specs.EverList.{IsRowOn}
-use Rattle.pua_ever.specs.LastingList.{IsBothOf, IsLasting}
+use Rattle.pua_ever.specs.LastingList.{IsBoundedExecOf, IsLasting}
 use Rattle.pua_ever.specs.Refusals.{refusal}
 use Rattle.pua_ever.specs.Through.{ever_lasting}
 use Rattle.pua_ever.specs.declared.list.EverRow.{EverRow}
@@ -39,7 +39,7 @@ returns-in-Err g c =
     let n : ℕ = behind.number in
     let fault = c.fault_of.result in
     let h = c.in-Some.process.now in
-    let whose = subst (IsBothOf c.table-table.result.now h) (sym c.as_ref.ensures.value) c.in_ok-both.ensures in
+    let whose = subst (IsBoundedExecOf c.table-table.result.now h) (sym c.as_ref.ensures.value) c.in_ok-both.ensures in
     let reason = (λ i. refusal (sym c.table-table.ensures i) h) ∙ c.in-Err.ensures.refused whose in
     fault_after behind.rules done n g.S.Sink.written g.S.Sink.failed fault c.args.sink.now c.fault_of.ensures.unwritten
     (λ other. refused_after behind.rules done n h fault (sym c.in-Some.ensures)
@@ -86,7 +86,7 @@ returns g c =
     let t : Tree = c.tree-tree.result.now in
     let ruled : table ≡ done.table = c.table-table.ensures in
     let at : t ≡ done.world.tree = c.tree-tree.ensures in
-    let whose = subst (IsBothOf table h) (sym c.as_ref.ensures.value) c.in_ok-both.ensures in
+    let whose = subst (IsBoundedExecOf table h) (sym c.as_ref.ensures.value) c.in_ok-both.ensures in
     let list = c.in-Ok.list in
     let rows : List EverRow = list.rows.items in
     let texts : List (List ℕ) = map string_bytes c.in_ok-columns.columns.items in

@@ -1,7 +1,7 @@
 use Rattle.pua_tool.proofs.Common.{◌≡◌, ℕ, ◌∙◌, ap, sym, Some}
 use Rattle.std.specs.Prelude.{◌==◌, option_map}
 use Rattle.std.proofs.lemmas.Bool.{eqb-true, false≢true}
-use Rattle.pua_how.specs.Asking.{asking_of}
+use Rattle.pua_how.specs.PathQuestion.{path_question}
 use Rattle.pua_how.specs.Asked.{asking_given}
 use Rattle.pua_tool.specs.HowTexts.{way_wanted}
 use Rattle.pua_tool.proofs.HowTexts.{bad_path, none_meant, some_meant}
@@ -17,7 +17,7 @@ returns-in_default-asking-clause-refused g c = λ other. (
 pub returns-then-is_empty-clause-refused : goal.returns-then-is_empty-clause-refused
 returns-then-is_empty-clause-refused g c = λ other.
     let targets = c.in-Ok-find_meant.meant.targets in
-    let read : asking_of c.args.words.now.path.now ≡ Some (asking_given c.in-Some.asking) =
+    let read : path_question c.args.words.now.path.now ≡ Some (asking_given c.in-Some.asking) =
     sym c.in-Ok.ensures ∙ ap (option_map asking_given) c.in-Some.is in
     let meant = c.in-Ok-find_meant.ensures in (
       meant.last,
@@ -28,7 +28,7 @@ returns-then-is_empty-clause-refused g c = λ other.
 pub returns-clause-meant : goal.returns-clause-meant
 returns-clause-meant g c =
     let targets = c.in-Ok-find_meant.meant.targets in
-    let read : asking_of c.args.words.now.path.now ≡ Some (asking_given c.in-Some.asking) =
+    let read : path_question c.args.words.now.path.now ≡ Some (asking_given c.in-Some.asking) =
     sym c.in-Ok.ensures ∙ ap (option_map asking_given) c.in-Some.is in
     let meant = c.in-Ok-find_meant.ensures in
     record {

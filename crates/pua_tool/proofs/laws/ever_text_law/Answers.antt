@@ -1,4 +1,4 @@
-use Rattle.pua_tool.proofs.Written.{ever_as_written}
+use Rattle.pua_tool.proofs.EverTextForesees.{ever_as_written}
 use Rattle.pua_tool.proofs.laws.ever_text_law.Goals as goal
 
 pub returns : goal.returns

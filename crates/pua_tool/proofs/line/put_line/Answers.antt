@@ -1,5 +1,5 @@
 use Rattle.pua_tool.specs.Pieces.{line_of}
-use Rattle.pua_tool.proofs.Pieces.{leads_on}
+use Rattle.pua_tool.proofs.LinesWritten.{leads_on}
 use Rattle.pua_tool.proofs.line.put_line.Goals as goal
 
 pub loop-piece-preserved : goal.loop-piece-preserved

@@ -1,6 +1,6 @@
 use Rattle.std.proofs.Common.{drop}
 use Rattle.pua_tool.specs.Pieces.{line_of}
-use Rattle.pua_tool.proofs.Pieces.{Leads}
+use Rattle.pua_tool.proofs.LinesWritten.{Leads}
 use Rattle.pua_tool.proofs.line.put_line.Given as goal
 
 -- what is still to come is written behind the pieces so far

@@ -1,5 +1,5 @@
 use Rattle.std.proofs.Common.{rules, refl, Err}
-use Rattle.pua_tool.specs.declared.fault.ToolFault.TheVariants.{EverWhy, NowHow}
+use Rattle.pua_tool.specs.declared.fault.ToolFault.TheVariants.{NowHow}
 use Rattle.pua_tool.proofs.TextAnswers.{answers_refused}
 use Rattle.pua_tool.proofs.lists.list_to.Goals as goal
 
@@ -9,14 +9,5 @@ returns-in-Now-How g c = record {
     Err NowHow,
     search rules,
     answers_refused g.S.Sink.written g.S.Sink.failed (Err NowHow) NowHow c.args.sink.now (λ same. cc) (λ other. refl),
-  );
-}
-
-pub returns-in-Ever-Why : goal.returns-in-Ever-Why
-returns-in-Ever-Why g c = record {
-  text = (
-    Err EverWhy,
-    search rules,
-    answers_refused g.S.Sink.written g.S.Sink.failed (Err EverWhy) EverWhy c.args.sink.now (λ same. cc) (λ other. refl),
   );
 }

@@ -1,13 +1,13 @@
 use Rattle.pua_tool.proofs.Common.{◌≡◌, ◌++◌, ◌∙◌, List, ℕ, Ok, ap, sym, subst, map, answers_to, world_of, AnswersTo}
 use Rattle.pua_since.specs.Dates.{veil_date, veil_seen}
 use Rattle.pua_texts.specs.ListLines.{lists_text}
-use Rattle.pua_tool.specs.PosedScripts.{as_asking}
+use Rattle.pua_tool.specs.TwoWorlds.{as_served}
 use Rattle.pua_tool.specs.WhyTexts.{reason_lines}
 use Rattle.pua_tool.proofs.objects_why.write_all.Goals as goal
 
 pub returns : goal.returns
 returns g c = λ read is.
-    let p = as_asking c.args.posed.now in
+    let p = as_served c.args.worlds.now in
     let asks : c.requests-requests.result.now ≡ p.asks = c.requests-requests.ensures in
     let dated = c.in_ok-front.ensures (read ∙ ap Ok (sym asks))
     (c.as_slice-answers.ensures.value ∙ is.answers ∙ ap (answers_to p.table p.world) (sym asks)) in

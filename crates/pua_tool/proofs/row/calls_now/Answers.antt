@@ -4,7 +4,8 @@ use Rattle.pua_calls.specs.CallSets.{has}
 use Rattle.pua_ever.specs.Ever.{Thing}
 use Rattle.pua_ever.specs.EverList.{IsAboutOn, own_name, subject_at, thing_by}
 use Rattle.pua_tool.specs.RowColumns.{is_now_on}
-use Rattle.pua_tool.proofs.RowColumns.{by_standing, now_freed, now_made}
+use Rattle.pua_ever.proofs.ForCallers.{by_standing}
+use Rattle.pua_tool.proofs.RowColumns.{now_freed, now_made}
 use Rattle.pua_tool.proofs.row.calls_now.Goals as goal
 
 pub returns-in-Stands : goal.returns-in-Stands

@@ -1,4 +1,4 @@
-use Rattle.pua_tool.proofs.Telling.{stopping}
+use Rattle.pua_tool.proofs.FaultsWritten.{stopping}
 use Rattle.pua_tool.proofs.service.perform.Goals as goal
 
 pub returns-in-Err-clause-done : goal.returns-in-Err-clause-done

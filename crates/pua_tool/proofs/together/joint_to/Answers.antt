@@ -1,6 +1,6 @@
 use Rattle.pua_tool.proofs.Common.{◌≡◌, ℕ, List, ◌++◌, ◌∷◌, Ok, ap, sym, subst, ◌∙◌, None, CallTable, unless_reason, AnswersTo}
 use Rattle.pua_tool.proofs.Common.{◌≢◌, err_from_is_err_and, OutOfMemory, Write}
-use Rattle.pua_ever.specs.LastingList.{IsBothOf}
+use Rattle.pua_ever.specs.LastingList.{IsBoundedExecOf}
 use Rattle.pua_texts.specs.Members.{named_by}
 use Rattle.pua_texts.specs.TogetherLines.{one_for, together_list}
 use Rattle.pua_tool.specs.TogetherTexts.{first_refused}
@@ -36,7 +36,7 @@ returns-in-Err g c = λ live none.
     let named = named_by c.args.members.now in
     let listed = one_living of named (named_by (c.args.first.now ∷ c.args.more.now)) one
     (subst (λ (table : CallTable). first_refused table named ≡ None) (sym c.table-table.ensures) none) (sym live) c.in_ok-one.ensures.joined in
-    let whose = subst (IsBothOf of one) (sym c.as_ref.ensures.value) c.in_ok-both.ensures in
+    let whose = subst (IsBoundedExecOf of one) (sym c.as_ref.ensures.value) c.in_ok-both.ensures in
     let text = c.args.front.now ++ together_list c.args.rules w.table w.tree named in
     answers_refused g.S.Sink.written g.S.Sink.failed (Ok text) c.fault_of.result c.args.sink.now c.fault_of.ensures.unwritten
     (λ other. ap (λ reason. unless_reason c.args.first.now.number reason text) (sym listed ∙ c.in-Err.ensures.refused whose)
@@ -48,7 +48,7 @@ returns g c = λ live none.
     let of = c.table-table.result.now in
     let one = c.in_ok-one.one in
     let named = named_by c.args.members.now in
-    let whose = subst (IsBothOf of one) (sym c.as_ref.ensures.value) c.in_ok-both.ensures in
+    let whose = subst (IsBoundedExecOf of one) (sym c.as_ref.ensures.value) c.in_ok-both.ensures in
     subst (λ (text : List ℕ). AnswersTo g.S.Sink.written g.S.Sink.failed (Ok text) c.put_lists.result c.args.sink.now c.put_lists.new.sink)
     (ap (λ text. c.args.front.now ++ text) (c.in_ok-lists.ensures c.tree-tree.result.now of
     (record { is = sym c.in_ok-one.ensures.joined ∙ ap (one_for of) live; lasting = c.in-Ok.ensures.list whose }))

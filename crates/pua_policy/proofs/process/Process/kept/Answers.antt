@@ -1,6 +1,6 @@
 use Rattle.pua_policy.proofs.Common.{◌∙◌, ap, sym, veil_at, ghosts}
-use Rattle.pua_policy.proofs.Places.{same_place-eq}
-use Rattle.pua_policy.proofs.Standing.{kept_by}
+use Rattle.pua_policy.proofs.SamePlace.{same_place-eq}
+use Rattle.pua_policy.proofs.StatesLeft.{kept_by}
 use Rattle.pua_policy.proofs.Veils.{veil_at-lookup}
 use Rattle.pua_policy.proofs.process.Process.kept.Goals as goal
 

@@ -1,6 +1,6 @@
 use Rattle.pua_policy.proofs.Common.{◌≡◌, ◌∙◌, ap, subst, sym, Some, ghosts, veil_at}
 use Rattle.std.specs.Prelude.{IfSome, slice_get}
-use Rattle.pua_policy.proofs.Places.{same_place-eq}
+use Rattle.pua_policy.proofs.SamePlace.{same_place-eq}
 use Rattle.pua_policy.proofs.Veils.{lookup_key-same, veil_at-lookup}
 use Rattle.pua_policy.proofs.process.Process.own_veil.Goals as goal
 

@@ -5,9 +5,9 @@ use Rattle.std.specs.Prelude.{Result, Ok, Err, OnOk, OnErr}
 use Rattle.std.specs.Result.{is_err}
 use Rattle.indexmap.specs.IndexMap.{insert_entry}
 use Rattle.pua_policy.specs.declared.answer.UnveilFault.TheVariants.{OutOfMemory}
-use Rattle.pua_policy.proofs.Standing.{unveil_fault_by}
+use Rattle.pua_policy.proofs.StatesLeft.{unveil_fault_by}
 use Rattle.pua_policy.proofs.Histories.{stands_after}
-use Rattle.pua_policy.proofs.Places.{same_place-eq}
+use Rattle.pua_policy.proofs.SamePlace.{same_place-eq}
 use Rattle.pua_policy.proofs.Veils.{with_veil-insert_entry, veil_at-lookup, once_more}
 use Rattle.pua_policy.proofs.process.Process.unveil_at.Goals as goal
 

@@ -1,5 +1,5 @@
 use Rattle.pua_script.proofs.Common.{ap, subst, WellFormed, WorldState}
-use Rattle.pua_script.proofs.Served.{is_narrowing, is_sparing, stays_narrow}
+use Rattle.pua_script.proofs.WorldsLeft.{is_narrowing, is_sparing, stays_narrow}
 use Rattle.pua_script.proofs.world.World.apply.Goals as goal
 
 pub returns-in_err-answer-clause-narrows : goal.returns-in_err-answer-clause-narrows

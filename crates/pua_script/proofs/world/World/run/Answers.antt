@@ -1,4 +1,4 @@
-use Rattle.pua_script.proofs.Served.{run_served, run_held, run_in_part}
+use Rattle.pua_script.proofs.WorldsLeft.{run_served, run_held, run_in_part}
 use Rattle.pua_script.proofs.world.World.run.Goals as goal
 
 pub returns-clause-served : goal.returns-clause-served

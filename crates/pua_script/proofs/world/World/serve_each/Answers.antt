@@ -2,7 +2,7 @@ use Rattle.pua_script.proofs.Common.{◌+◌, ◌∷◌, ◌++◌, ◌∙◌, []
 use Rattle.std.proofs.lemmas.List.{take_all}
 use Rattle.std.proofs.lemmas.Result.{err_from_is_err_and}
 use Rattle.pua_script.specs.Futures.{AreDoneInPart}
-use Rattle.pua_script.proofs.Served.{done_before, done_next}
+use Rattle.pua_script.proofs.WorldsLeft.{done_before, done_next}
 use Rattle.pua_script.proofs.world.World.serve_each.Goals as goal
 
 pub returns-in_err-answer : goal.returns-in_err-answer

@@ -1,5 +1,5 @@
 use Rattle.pua_steps.proofs.Common.{ℕ, ◌≡◌, ◌-◌, ◌<◌, ◌++◌, ◌∷◌, [], refl, ◌∙◌, arith, get_or_default, Lists}
-use Rattle.pua_steps.proofs.Listing.{longer_none, list_same, shared_layer, made_layer, listed_more}
+use Rattle.pua_steps.proofs.WalkLists.{longer_none, list_same, shared_layer, made_layer, listed_more}
 use Rattle.pua_steps.proofs.lists.Lists.add_layer.Goals as goal
 
 pub returns-then-repeats : goal.returns-then-repeats

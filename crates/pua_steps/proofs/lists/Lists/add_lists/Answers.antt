@@ -1,7 +1,7 @@
 use Rattle.pua_steps.proofs.Common.{ℕ, ◌≡◌, ◌+◌, ◌<◌, ◌∷◌, [], List, length, get_or, ap, sym, ◌∙◌, arith, inl, inr, subst, cases_lt}
 use Rattle.pua_steps.proofs.Common.{length_push, AllByRecursion, list_of, IsListAt, IsLonger, IsEntry, Entry, Steps, Span}
 use Rattle.std.proofs.Math.Seq.{get_or-append_seam}
-use Rattle.pua_steps.proofs.Listing.{no_span, longer_on, longer_at, list_stays, list_last, list_known}
+use Rattle.pua_steps.proofs.WalkLists.{no_span, longer_on, longer_at, list_stays, list_last, list_known}
 use Rattle.pua_steps.proofs.lists.Lists.add_lists.Goals as goal
 use Rattle.pua_steps.proofs.Base.{all_joined}
 

@@ -4,7 +4,7 @@ use Rattle.pua_steps.proofs.Common.{rest_of, live_of, calls_of, ahead, pending, 
 use Rattle.pua_steps.proofs.Entering.{entered_ready}
 use Rattle.pua_steps.specs.declared.live.Live as table
 use Rattle.pua_steps.proofs.Seeks.{counted_none, counted_more, looks_zero, looks-looks}
-use Rattle.pua_steps.proofs.Listing.{longer_none}
+use Rattle.pua_steps.proofs.WalkLists.{longer_none}
 use Rattle.pua_steps.proofs.Front.{longer_popped, front_by, front_gone}
 use Rattle.pua_steps.proofs.Turning.{front_taken, last_set, last_split, taken_by, left_by, none_left, all_over}
 use Rattle.pua_steps.proofs.Moved.{moved_table, moved_sized, moved_listed, moved_open}

@@ -1,6 +1,6 @@
 use Rattle.pua_audit.proofs.Common.{◌≤◌, length, get_or, rules, sym, ap, subst, ◌∙◌, DirectoriesState}
 use Rattle.std.proofs.lemmas.Option.{get_or_from_slice_get}
-use Rattle.pua_audit.proofs.Places.{few_numbers}
+use Rattle.pua_audit.proofs.DirectoryPlaces.{few_numbers}
 use Rattle.pua_audit.proofs.table.directories.Directories.at.Goals as goal
 
 pub returns-in_err-number-clause-few : goal.returns-in_err-number-clause-few

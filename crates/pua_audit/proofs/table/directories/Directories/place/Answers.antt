@@ -1,6 +1,6 @@
 use Rattle.pua_audit.proofs.Common.{◌≡◌, ◌<◌, ◌≤◌, ◌∙◌, ℕ, List, nat_eq, length, arith, sym, ap, subst, AllByRecursion, IsDistinct}
 use Rattle.pua_audit.proofs.Common.{insert_key, DirectoriesState, AreNumbers}
-use Rattle.pua_audit.proofs.Places.{few_numbers, all_inserted, placed}
+use Rattle.pua_audit.proofs.DirectoryPlaces.{few_numbers, all_inserted, placed}
 use Rattle.pua_audit.proofs.table.directories.Directories.place.Goals as goal
 
 numbers_inserted : (old new : List ℕ) (n : ℕ) → AreNumbers old → IsDistinct nat_eq new → new ≡ insert_key nat_eq old n

@@ -1,5 +1,0 @@
-use Rattle.pua_calls.proofs.Common.{rules}
-use Rattle.pua_calls.proofs.table.CallTable.execpromises.Goals as goal
-
-pub returns : goal.returns
-returns c = search rules

@@ -1,0 +1,12 @@
+-- what each closure gives is what the definition does
+use Rattle.pua_ever.proofs.Common.{rules, tests, items_from_collect, YieldsList-from_slice, YieldsList-from_filter_map, held_dir}
+use Rattle.pua_ever.proofs.Picked.{picked_now}
+use Rattle.pua_ever.proofs.destinations.held_dirs.Goals as goal
+
+pub returns : goal.returns
+returns g c =
+    let t = g.T.FileTree.content c.args.tree.now in
+    let h = c.args.process.now in
+    picked_now (held_dir t h) c.args.places.now c.collect.result (λ found. found.items)
+    (items_from_collect _ c.collect.ensures.ran (YieldsList-from_filter_map _ (λ place. held_dir t h place.now)
+    (YieldsList-from_slice c.args.places.now cc) c.filter_map.ensures.closure (λ x r q k. search (rules, tests))))

@@ -1,0 +1,11 @@
+use Rattle.pua_ever.proofs.Common.{◌∙◌, ap, empty_tree, is_made_by, refl, sym}
+use Rattle.pua_policy.specs.Verdict.{IsMissing}
+use Rattle.pua_ever.specs.EverLines.{new_of}
+use Rattle.pua_ever.specs.JointCovers.{does}
+use Rattle.pua_ever.proofs.doing.Doing.is_done.Goals as goal
+
+pub returns-in-Making : goal.returns-in-Making
+returns-in-Making c =
+    c.is_made_by.ensures
+    ∙ (λ z. is_made_by (λ call. c.allowed.ensures empty_tree IsMissing refl call z) (new_of c.in-Making.made))
+    ∙ ap (λ doing. does c.args.table.now c.args.process.now doing c.args.cover) (sym c.in-Making.is)
