@@ -1,11 +1,10 @@
-use Rattle.pua_why.proofs.Common.{rules, ◌∙◌, ap, option_map}
+use Rattle.pua_script.proofs.Common.{rules, ◌∙◌, ap, option_map}
 use Rattle.std.proofs.Common.{tests}
 use Rattle.std.proofs.lemmas.Iterator.{YieldsList-from_slice}
 use Rattle.std.proofs.lemmas.Iterator.Search.{find_from_yields_List}
-use Rattle.pua_why.specs.Openings.{is_opening}
-use Rattle.pua_why.specs.Seen.{opening_seen}
-use Rattle.pua_why.proofs.Openers.{find_seen, seen_twice}
-use Rattle.pua_why.proofs.kernel.opening_of.Goals as goal
+use Rattle.pua_script.specs.Openings.{is_opening, opening_seen}
+use Rattle.pua_script.proofs.Openers.{find_seen, seen_twice}
+use Rattle.pua_script.proofs.opening.opening_in.Goals as goal
 
 pub returns : goal.returns
 returns c =
