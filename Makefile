@@ -13,7 +13,7 @@ PROGRAM = crates/pua/out/pua
 
 # Each tool is installed as pua-NAME, for tools/NAME.pl, and has a page man/pua-NAME.1.
 TOOLS = list trace page glance keep conform
-MODULES = Calls Help Kdump Kernel Lists Perform Process Regions Reports Trials
+MODULES = Calls Help Kdump Kernel Lists Perform Process Regions Reports Together Trials
 
 all:
 	cd crates/pua && rt run -- --version

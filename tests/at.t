@@ -6,6 +6,8 @@
 # - With `--at N` each command tells what it tells without it of the script's first N lines, whatever stands behind
 #   them; of all lines, what it tells of the script.
 # - A line that the script does not have is refused by name, before all else, and nothing is written.
+# - By OpenBSD's rules scripts have comments and blank lines, of which a run tells nothing; it tells of the requests
+#   what it tells of them alone, under the numbers of their lines.
 use strict;
 use warnings;
 use FindBin qw($Bin);
@@ -73,6 +75,27 @@ sub is_lacking {
     return 0;
 }
 
+# Lines with comments and blank lines between them, and the numbers of those that were there.
+sub commented {
+    my (@made, @numbers);
+    for my $line (@_) {
+        push @made, $worlds->pick("# x\n", "\n", "  \n", "   #1 exit\n") while !$worlds->number(3);
+        push @made, $line =~ s/(?=\n)/$worlds->pick('', '', ' # x', '   #')/er;
+        push @numbers, scalar @made;
+    }
+    return (\@numbers, @made);
+}
+
+# Whether a run of these lines tells what it tells of those without comments, whose numbers are given.
+sub is_alike {
+    my ($files, $made, $plain, $numbers, @options) = @_;
+    my ($told, $alone) = map { ended($files, join('', @$_), 'run', @options) } $made, $plain;
+    $alone =~ s/^(\d+)(?= \S+$)/$numbers->[$1 - 1]/gem;
+    return 1 if $told eq $alone;
+    diag("comments:\n$told\nand not\n$alone\n", worlds_told({ %$files, script => join '', @$made }, 'run', @options));
+    return 0;
+}
+
 for my $number (1 .. $WORLDS) {
     my $rules = $number % 3 ? 'profile' : 'openbsd';
     $worlds->by($rules);
@@ -80,6 +103,11 @@ for my $number (1 .. $WORLDS) {
     $files->{table} = $worlds->table if $number % 4 == 0;
     my @options = ('--rules', $rules, $files->{table} ? ('--table', 'table') : ());
     my @script  = split /^/, $worlds->script({ veils => 2, locks => $number % 2 });
+    if ($rules eq 'openbsd') {
+        my ($numbers, @made) = commented(@script);
+        ok(is_alike($files, \@made, \@script, $numbers, @options), "world $number: of comments nothing is told");
+        @script = @made;
+    }
     my @at      = (0, scalar @script, map { 1 + $worlds->number(@script - 1) } 1 .. $LINES);
     my ($wrong, $wrongly_told) = (0, 0);
     for my $asked (@ASKED, @ASKED_OF) {

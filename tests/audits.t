@@ -263,8 +263,8 @@ sub test_examples {
     return;
 }
 
-# The worlds of the rows that have an audit or a list and no fault: tree, script and the rules of the command. Tables
-# are those that have one call, one array and one text a line.
+# The worlds of the rows that have an audit or a list and no fault: tree, script, of which a command with --at reads its
+# first lines alone, and the rules of the command. Tables are those that have one call, one array and one text a line.
 sub test_rows {
     my $table = table_in("$Bin/data/rows.toml");
     my %seen;
@@ -274,8 +274,10 @@ sub test_rows {
         my @rules = $command =~ /(--rules) (\w+)/;
         push @rules, '--table', 'table' if $command =~ /--table/;
         next if "@rules" =~ /table/ && !is_plain_table($row->{table});
-        next if $seen{"$row->{tree} @rules $row->{script}"}++;
         my %files = (listing => $tree->{listing}, map { exists $row->{$_} ? ($_ => $row->{$_}) : () } qw(script table));
+        my ($first) = $command =~ /--at ([0-9]+)/;
+        $files{script} = join '', grep { defined } (split /^/, $files{script})[0 .. $first - 1] if defined $first;
+        next if $seen{"$row->{tree} @rules $files{script}"}++;
         test_given(world("the row '$row->{name}'", \%files, @rules));
     }
     return;

@@ -136,7 +136,8 @@ my $cases = Cases->new($SEED);
 try_case("case $_", $cases->next_case($Cases::KINDS[ $_ % @Cases::KINDS ])) for 0 .. $CASES - 1;
 for my $folder (glob "$Bin/../examples/*") {
     my @files = grep { -f "$folder/$_" } qw(listing script) or next;
-    my $script = join '', grep { !/\A[0-9]+ (?:pledge|unveil|uses) / } split /^/m, content("$folder/script");
+    my @lines = map { s/(?:\A| +)#.*//r } split /^/m, content("$folder/script");
+    my $script = join '', grep { !/\A(?:[0-9]+ (?:pledge|unveil|uses) |$)/ } @lines;
     try_case($folder =~ s{.*/}{}r, content("$folder/listing"), $script);
 }
 is(join('', splice @wrong, 0, 5), '', "$count{cases} cases with $count{calls} calls: the kernel's answers");

@@ -13,7 +13,7 @@
 # - The code in docs/CALLING.md is that of the proved callers, function by function.
 # - Each path on a page is there, each link, and each heading of another page that it cites; each
 #   file in docs/ARCHITECTURE.md, and each name there and on the other pages about the code. README
-#   has at most 180 lines, ARCHITECTURE at most 6,000 words.
+#   has at most 180 lines, ARCHITECTURE at most 6,000 words, and README with docs/ at most 38,000.
 # - docs/PROVED.md has at most 2,800 words and names each law; tools/reference.pl prints each public
 #   function that tests/data/refused names.
 # - The table of calls without a path in man/pua.1 is that of tools/trace.pl, and the table of openings
@@ -85,6 +85,7 @@ SKIP: {
     test_proved();
 }
 test_asked();
+test_pathless();
 test_openings();
 test_options();
 test_tools();
@@ -250,6 +251,18 @@ sub test_asked {
     return;
 }
 
+# Tests that the program has the same calls, by each promise that one of them asks for.
+sub test_pathless {
+    my %shown = content('crates/pua_tool/src/pathless.rt') =~ /keyword == "(\w+)" \{\s+"([^"]+)"/g;
+    my %calls;
+    for my $call (sort keys %Pua::Calls::ASKS) {
+        push @{ $calls{$_} }, $call for split /\|/, $Pua::Calls::ASKS{$call};
+    }
+    my %told = map { $_ => join ',', @{ $calls{$_} } } keys %calls;
+    is_deeply(\%shown, \%told, 'so has the program, by promises');
+    return;
+}
+
 # Tests that docs/DEFINITIONS.md has the openings of each promise, in their order, as the tools and the
 # models of the tests go by them.
 sub test_openings {
@@ -411,6 +424,8 @@ sub test_links {
     is("@missing", '', "links lead somewhere, and headings that are cited are there: $cited");
     my $lines = () = content('README.md') =~ /\n/g;
     cmp_ok($lines, '<=', 180, "README is one page: $lines lines");
+    my $words = () = join("\n", map { content($_) } 'README.md', glob 'docs/*.md') =~ /\S+/g;
+    cmp_ok($words, '<=', 38_000, "README and docs are short: $words words");
     return;
 }
 

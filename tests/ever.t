@@ -17,7 +17,9 @@ use Foreseen;
 use Futures;
 use Listed qw(lists_of state_of);
 use Model;
+use Openings qw(has_opening);
 use Things;
+use Tree qw(unspelled);
 use Worlds qw(answer_of program_in worlds_told);
 
 my $WORLDS = 40;
@@ -42,7 +44,13 @@ my @PLEDGES = (
     ('1 pledge stdio,rpath,proc,exec stdio,rpath,wpath,cpath') x 3, '1 pledge rpath,proc,exec wpath,cpath,exec,proc',
     '1 pledge rpath,wpath,cpath,exec,proc rpath,exec', '1 pledge exec,proc rpath,wpath,cpath,fattr',
     '1 pledge rpath,cpath,exec wpath,cpath', '1 pledge rpath,exec,proc rpath,cpath,unveil',
-    '1 pledge rpath,exec,tmppath,proc -', '1 pledge rpath,exec,tmppath rpath', '1 pledge rpath,fattr,exec,proc rpath',
+    '1 pledge rpath,fattr,exec,proc rpath',
+);
+
+# What it pledges where promises open what changes the tree, so that it can make something by tmppath or what it starts can.
+my @TEMPORARY = (
+    '1 pledge rpath,tmppath,proc -', '1 pledge rpath,wpath,tmppath,error -', '1 pledge rpath,exec,tmppath,proc -',
+    '1 pledge rpath,exec,tmppath rpath', '1 pledge rpath,exec,proc rpath,tmppath', '1 pledge rpath,cpath,tmppath,proc -',
 );
 
 # What its veils give.
@@ -54,8 +62,8 @@ my @RULES = qw(profile profile openbsd table);
 # The calls that have to need c, in the order in which the program says that one doesn't.
 my @NEED_C = qw(rmdir unlink create mkdir symlink bind mknod create-rw);
 
-my $worlds = Worlds->new($SEED);
-my %counts = map { $_ => 0 } qw(lists answers calls met execs bounded started tries plays);
+my $worlds = Worlds->new($SEED, { openings => 1 });
+my %counts = map { $_ => 0 } qw(lists answers opened by_tmppath calls met execs bounded started tries plays);
 
 for my $number (1 .. $WORLDS) {
     my $world = world($number);
@@ -75,7 +83,8 @@ for my $number (1 .. $PAIRS) {
     ok(!is_told($world, beyond_ever($world)), "pair $number: it has what they can touch in $PLAYS futures");
     ok(!$world->{stray}, "pair $number: no exec succeeds where it has none");
 }
-note("$counts{lists} lists and $counts{answers} answers in $counts{plays} futures within lists for ever, of which ",
+note("$counts{lists} lists and $counts{answers} answers, of which $counts{opened} are by an opening alone, and ",
+    "$counts{by_tmppath} by tmppath with a line, in $counts{plays} futures within lists for ever, of which ",
     "$counts{met} calls of $counts{calls} were met; $counts{execs} futures ended by an exec, $counts{started} went on ",
     "through $counts{bounded} that were bounded, and $counts{tries} failed where the list has none");
 refusals();
@@ -100,7 +109,7 @@ sub pair {
     my ($number) = @_;
     while (1) {
         my $world  = drawn($RULES[ $number % @RULES ]);
-        my $pledge = $worlds->pick(@PLEDGES) =~ s/\A1 /$CHILD /r . "\n";
+        my $pledge = $worlds->pick(@PLEDGES, $worlds->opens ? @TEMPORARY : ()) =~ s/\A1 /$CHILD /r . "\n";
         my $model  = $world->{model};
         $world->{files}{script} .= $pledge;
         $model->run($pledge);
@@ -166,6 +175,11 @@ sub first_script {
     unshift @veils, nested_veils(@rows) if $worlds->number(3) == 0;
     my @locks = ('1 unveil - -', '1 unveil - -', '1 pledge stdio,rpath,wpath,cpath,fattr,exec,proc -');
     my @last  = $worlds->number(3) ? last_pledge() : ();
+    if ($worlds->opens && grep({ "$_->{kind} $_->{path}" eq 'dir /tmp' } @rows) && $worlds->number(2)) {
+        push @veils, '1 unveil /tmp ' . $worlds->pick(@PERMISSIONS);
+        @locks = '1 unveil - -';
+        @last  = $worlds->pick(@TEMPORARY);
+    }
     return join '', "1 fork $WITNESS\n", @edits, map { "$_\n" } @veils, $worlds->pick(@locks), "1 fork $CHILD", @last;
 }
 
@@ -271,15 +285,14 @@ sub whose {
     return @members == 1 ? ($model, @members) : (EverModel::joined($model, @members), 0);
 }
 
-# What the list for ever says of execs, and what the model does: nothing where no line has one, unless what tmppath makes
-# may be started.
+# What the list for ever says of execs, and what the model does: nothing where no line has one.
 sub exec_word { return state_of($_[0]{ever})->{exec} }
 
 sub exec_wanted {
     my ($world) = @_;
     my @whose = whose($world);
-    return EverModel::starts_made(@whose) ? 'open' : undef if !grep { EverModel::has_exec($_) } EverModel::lines(@whose);
-    return EverModel::bound(@whose) ? 'bounded' : 'open';
+    my $has_exec = grep { EverModel::has_exec($_) } EverModel::lines(@whose);
+    return !$has_exec ? undef : EverModel::bound(@whose) ? 'bounded' : 'open';
 }
 
 # Whether a list for ever says this word of execs.
@@ -334,6 +347,7 @@ sub beyond_ever {
     my %holds = map { $_ => scalar holders($world, $_) } qw(proc exec);
     $holds{bounded} = is_bounded($world);
     $holds{several} = @{ $world->{members} } > 1;
+    $holds{opener}  = grep { Listed::holds($_, 'tmppath') } @{ $world->{nows} };
     for (1 .. $PLAYS) {
         $world->{files}{script} = $first;
         my $futures = Futures->new($worlds, $world->{foreseen}->every, \%holds, 10);
@@ -403,11 +417,12 @@ sub beyond_answer {
     my $fault = $answer eq 'ok' ? beyond_okay($world, $play, $asker, $call, @words) : undef;
     $counts{tries}++ if $call eq 'exec' && !$world->{foreseen}->every->{exec};
     return $fault if defined $fault || $play->{has_exec};
-    my $wanted = $play->{model}->answer($asker, $call, @words);
+    my ($wanted, undef, $opener) = split / /, $play->{model}->told($asker, $call, @words);
+    $counts{by_tmppath}++ if defined $opener && $opener eq 'tmppath';
     return $answer eq $wanted ? undef : "$line: $answer, and $wanted by the model";
 }
 
-# The fault of a request that was answered ok.
+# The fault of a request that was answered ok: the list has no line of it, nor of an opening.
 sub beyond_okay {
     my ($world, $play, $asker, $call, @words) = @_;
     return "$asker put a veil" if $call eq 'unveil' && $words[0] ne '-';
@@ -417,7 +432,10 @@ sub beyond_okay {
     $counts{answers}++;
     note_exec($world, $play) if $call eq 'exec';
     my $foreseen = $world->{foreseen};
-    return $foreseen->meet($foreseen->about($play->{model}, $kind, $path), $call);
+    my $fault = $foreseen->meet($foreseen->about($play->{model}, $kind, $path), $call);
+    return $fault if !defined $fault || !has_opening($call, unspelled($words[-1]), @{ $world->{ever}{state} });
+    $counts{opened}++;
+    return;
 }
 
 sub note_exec {

@@ -43,8 +43,8 @@ my @CLAIMS = (
 
 my %EDITS = map { $_ => 1 } qw(create mkdir rmdir unlink symlink bind mknod create-rw rename link);
 
-my $worlds = Worlds->new($SEED);
-my %counts = map { $_ => 0 } qw(edits lists alike audits children names);
+my $worlds = Worlds->new($SEED, { openings => 1 });
+my %counts = map { $_ => 0 } qw(edits opened lists alike audits children names);
 
 for my $number (1 .. $WORLDS) {
     my $world = world($number % 3 ? {} : { rules => 'openbsd' });
@@ -55,7 +55,8 @@ for my $number (1 .. $WORLDS) {
         ok(!defined $faulty, "world $number: $what");
     }
 }
-note("$counts{edits} edits; $counts{lists} lists within those of before, of which $counts{alike} are the same after ",
+note("$counts{edits} edits; $counts{opened} answers by a promise; $counts{lists} lists within those of before, ",
+    "of which $counts{alike} are the same after ",
     "requests of others; $counts{audits} audits; $counts{children} lists of children; ",
     "$counts{names} names without c");
 done_testing();
@@ -97,6 +98,7 @@ sub begun {
     my $world  = { how => $how, listing => $worlds->listing };
     my $script = $worlds->script({ veils => 3, locks => 1, lines => 0, ends => 0 });
     my @veils  = grep { $_ ne '1 fork 2' } split /\n/, $script;
+    unshift @veils, $worlds->opening_pledge(1) if $worlds->opens && $worlds->number(3);
     $world->{lines} = [ "1 fork $WITNESS", '1 fork 2', @veils, '1 fork 3' ];
     my $model = Model->new($world->{listing}, $how);
     answers_of($model, @{ $world->{lines} });
@@ -209,8 +211,10 @@ sub text_of {
 sub asked {
     my ($cut, @lines) = @_;
     my $files = files_of($cut, @lines);
-    my $told  = lists_of(text_of($cut, $files, 'objects', '--process', 'all', rules_of($cut), 'listing', 'script'));
-    return { %{ $told->{lists} }, lines => \@lines, answers => $told->{answers} };
+    my $text  = text_of($cut, $files, 'objects', '--process', 'all', rules_of($cut), 'listing', 'script');
+    my $told  = lists_of($text);
+    my @told  = map { s/\A[0-9]+ //r } (split /\n/, $text)[ 0 .. $#lines ];
+    return { %{ $told->{lists} }, lines => \@lines, answers => $told->{answers}, told => \@told };
 }
 
 # Whether there is a fault, which is told with what was asked.
@@ -229,8 +233,9 @@ sub is_told {
 sub answer_fault {
     my ($cut) = @_;
     my $model  = Model->new($cut->{listing}, $cut->{how});
-    my @wanted = answers_of($model, @{ $cut->{then}{lines} });
-    return 'other answers than by the model' if "@wanted" ne "@{ $cut->{then}{answers} }";
+    my @wanted = map { $model->told(split / /) } @{ $cut->{then}{lines} };
+    return 'other answers than by the model' if "@wanted" ne "@{ $cut->{then}{told} }";
+    $counts{opened} += grep { / by / } @wanted;
     for my $process ($cut->{model}->processes) {
         next if $process == $WITNESS;
         return "a twin that is not as process $process"

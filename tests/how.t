@@ -302,8 +302,7 @@ sub others {
 sub fault_of_never {
     my ($world, $question) = @_;
     my @lines  = EverModel::lasting($world->{model}, 1);
-    my $is_open = grep({ EverModel::has_exec($_) } @lines) ? !EverModel::bound($world->{model}, 1)
-        : EverModel::starts_made($world->{model}, 1);
+    my $is_open = grep({ EverModel::has_exec($_) } @lines) && !EverModel::bound($world->{model}, 1);
     my $wanted = $is_open ? 'never before an exec' : 'never';
     if ($question->{kind} eq 'link' && Model::follows($question->{call})) {
         $wanted = "status 1: pua: how: a link, which $question->{call} follows: ask about what it leads to\n";

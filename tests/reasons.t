@@ -112,7 +112,7 @@ sub line_fault {
     my ($case) = @_;
     my ($line, $answer) = @$case{qw(line answer)};
     return "it is answered $answer" if $case->{told}{answer} ne $answer;
-    return $line eq 'ok' ? '' : 'a reason of what is ok' if $answer eq 'ok';
+    return $line =~ /\Aok(?: by [a-z]+)?\z/ ? '' : 'a reason of what is ok' if $answer eq 'ok';
     return defined $case->{told}{kind} ? '' : 'no reason of the list';
 }
 
@@ -152,7 +152,8 @@ sub add_counts {
     return;
 }
 
-# Worlds by hand: of each kind of reason, full of veils and of processes, and of calls without a path by OpenBSD's rules.
+# Worlds by hand: of each kind of reason, full of veils and of processes, and by OpenBSD's rules of calls without a path and
+# of what promises open.
 my ($listing, $each) = each_kind();
 my $empty   = "tree 1\n0 dir\n";
 my @veils   = (map({ "1 unveil /n$_ r" } 1 .. 128), '1 stat /n1', '1 unveil /n rw', '1 unveil /n128 =');
@@ -161,11 +162,27 @@ my @uses    = (
     '1 fork 2', '1 uses inet|id', '1 pledge stdio,unix,error rpath', '1 uses unix|inet', '1 uses inet|id', '1 uses proc',
     '2 unveil - -', '2 pledge stdio,rpath -', '2 uses id|stdio', '2 uses proc|id', '2 uses stdio',
 );
+my $opened  = join "\n", 'tree 1', '0 dir', '1 dir 0 dev', '2 file 1 null', '3 file 1 tty', '4 dir 0 etc', '5 file 4 hosts',
+    '6 link 0 l /www/deep', '7 dir 0 www', '8 dir 7 deep', '9 dir 7 etc', '10 file 9 hosts', '11 link 4 localtime /www',
+    '12 dir 0 tmp', '13 link 12 l /www', '14 link 12 x /www/deep/new', '';
+my @opened  = (
+    '1 fork 2', '1 fork 3', '2 unveil /www r', '3 unveil /tmp rwc', '3 unveil /www/deep wc', '3 unveil /etc c',
+    '1 pledge error,stdio,dns -', '1 open-r /etc/hosts', '1 stat /etc/hosts', '1 open-r /etc//services',
+    '1 open-w /dev/null', '1 open-w /dev/null/', '1 open-r /l/../etc/hosts', '1 stat /etc/localtime',
+    '1 open-r etc/hosts', '2 open-r /etc/hosts', '2 pledge error,rpath,wpath,dns,tty -', '2 open-r /etc/../etc/hosts',
+    '2 open-rw /dev/tty', '2 open-r /www/etc/hosts', '2 pledge error,dns -', '2 open-r /etc/hosts',
+    '2 pledge error -', '2 open-r /etc/hosts', '3 create /tmp/a', '3 pledge error,rpath,tmppath -', '3 create /tmp/a',
+    '3 create-rw /tmp//b', '3 stat /tmp/b', '3 unlink /tmp/a', '3 unlink /tmp/a', '3 create /tmp/l/a',
+    '3 unlink /tmp/l', '3 create /tmp/x', '3 create-rw /tmp/x', '3 unlink /tmp/x/', '3 create /tmp/no/a',
+    '3 create /tmp/.', '3 open-w /tmp/b', '3 mkdir /tmp/d', '3 create /etc/a', '3 create /etc/../tmp/c',
+    '3 create /tmp/../etc/a', '3 create tmp/e', '3 unlink /tmp/c', '3 pledge error,rpath -', '3 unlink /tmp/b',
+);
 my @by_hand = (
     [ 'each kind', $listing, $each ],
     [ 'many veils', $empty, [ '1 fork ' . OBSERVER, @veils ] ],
     [ 'many processes', $empty, [ '1 fork ' . OBSERVER, @forks ] ],
     [ 'calls without a path', $empty, [ '1 fork ' . OBSERVER, @uses ], 'openbsd' ],
+    [ 'what promises open', $opened, [ '1 fork ' . OBSERVER, @opened ], 'openbsd' ],
 );
 for (@by_hand) {
     my ($name, $tree, $script, $rules) = @$_;
@@ -176,7 +193,7 @@ for (@by_hand) {
 }
 
 # Random worlds.
-my $worlds = Worlds->new($SEED);
+my $worlds = Worlds->new($SEED, { openings => 1 });
 for my $number (1 .. $WORLDS) {
     my ($how, $needs) = @{ $RULES[ $number % @RULES ] };
     $worlds->by($how->{rules} || 'profile');

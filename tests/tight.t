@@ -14,9 +14,11 @@ use warnings;
 use FindBin qw($Bin);
 use lib "$Bin/lib";
 use Listed qw(lists_of state_of);
+use Openings qw(opening_for);
 use Tables qw(content);
 use Test::More;
 use Tight;
+use Tree qw(unspelled);
 use Worlds qw(program_in rules_of);
 
 my $PROGRAM = program_in(@ARGV);
@@ -29,7 +31,7 @@ $SEED   = $ARGV[2] if @ARGV > 2;
 # Of so few words all that can be left out is tried.
 my $FEW = 6;
 
-my $worlds = Worlds->new($SEED);
+my $worlds = Worlds->new($SEED, { openings => 1 });
 my %count = map { $_ => 0 } qw(words left least lines fewer ever bounded runs);
 
 # What is wrong with what the program prints of some lines, in words; the empty text where nothing is.
@@ -187,8 +189,14 @@ sub with_uses {
     return join '', @lines;
 }
 
-# Whether each request of a script rests on one set of promises, without a table.
-sub has_one_set { return $_[0] !~ /^\S+\s+f?chown\s|^\S+ uses \S*\|/m }
+# Whether each request of a script rests on one set of promises, without a table: none that may be left out opens a path.
+sub has_one_set {
+    my ($text) = @_;
+    return 0 if $text =~ /^\S+\s+f?chown\s|^\S+ uses \S*\|/m;
+    my @used = $text =~ /^[0-9]+ uses (\S+)/mg;
+    my @lines = map { s/(?:\A| +)#.*//sr } split /\n/, $text;
+    return !grep { / (\S+) (\S+)\r?\z/ && opening_for($1, unspelled($2), @used) } @lines;
+}
 
 for my $example (sort grep { -d } glob "$Bin/../examples/*") {
     my $text = content("$example/script");

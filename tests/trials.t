@@ -35,6 +35,7 @@ for my $trial (@trials) {
     my $wanted = join '', map { ++$at . " $_->{pua}\n" } @lines;
     my ($status, $out, $err) = answer_of($PROGRAM, { TREE => listing_of($trial), SCRIPT => script_of($trial) },
         'run', '--rules', 'openbsd', 'TREE', 'SCRIPT');
+    $out =~ s/^([0-9]+ ok) by [a-z]+$/$1/mg;
     is("$status $err$out", "0 $wanted", "$name: what pua answers");
     $lines += @lines;
     $differ += grep { $_->{expected} ne $_->{pua} } @lines;

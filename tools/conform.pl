@@ -2,7 +2,7 @@
 # Performs a script of pua(1) on the kernel of this machine, and prints what it answers, as
 # `pua run` does, so that this compares the model with this system:
 #
-#     pua run --rules openbsd TREE SCRIPT > model
+#     pua run --rules openbsd TREE SCRIPT | sed 's/ by .*//' > model
 #     conform.pl [options] TREE SCRIPT | diff model -
 #
 # and performs trials, and says where answers are others than expected, or than pua's:
@@ -85,8 +85,8 @@ sub answers_over {
     my ($tree, $script, $how) = @_;
     my $text = content($script);
     my ($answers, $left) = perform(content($tree), $text, $how);
-    my $number = 0;
-    print map { ++$number . " $_\n" } @$answers;
+    my @told = grep { defined $answers->[ $_ - 1 ] } 1 .. @$answers;
+    print map { "$_ $answers->[$_ - 1]\n" } @told;
     print $left if $how->{left};
     my @lacks = grep { $text =~ /^[0-9]+ $_ /m } left_out($how);
     print STDERR "$NAME: lines with $_ are left out: there is no $NEEDS{$_} here\n" for @lacks;

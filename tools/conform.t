@@ -108,6 +108,7 @@ answered('calls', $LISTING, <<'END_SCRIPT', join ' ', ('ok') x 13, 'ENOTEMPTY', 
 1 bind /s
 1 open-w /s
 END_SCRIPT
+answered('comments', $LISTING, "# x\n\n1 fork 2  # y\n  \n2 exit #\n1 stat /none\n", 'ok ok ENOENT');
 my ($short, $long) = map { 'x' x $_ } 102, 103;
 answered('a path for a socket', $LISTING, "1 bind /$long\n1 bind /$short\n1 connect =\n", 'too-long ok ENOENT');
 answered('processes', $LISTING, <<'END_SCRIPT', 'ok ok ok ENOENT ok ok ok gone ok ok EAGAIN gone ok ok ok ok');

@@ -5,7 +5,8 @@
 #     glance.pl [-d] [-m MANIFEST] [-o HELD] [LIST]...
 #
 # LIST is the output of `pua objects`, of now or with `--ever`; standard input if it is left out.
-# What is kept of several, or of all processes by `--process all`, comes one after the other.
+# What is kept of several, or of all processes by `--process all`, comes one after the other, and so
+# may several outputs.
 #
 # The line of a process has its veils and its lock, and how many lines of objects have something
 # that can be read, written, executed, made and removed; more than one of them may be about one
@@ -15,6 +16,10 @@
 # for the network; what its promises open past the veils, beside what stdio opens for every
 # process: /dev/null, /etc/localtime and /usr/share/zoneinfo; and which veils it can move below
 # another one, where a kernel may go on by what covered them before.
+#
+# Of several processes' lists for ever each thing is named that one executes or reads, and another
+# writes, makes or takes away: `file /tmp/a: 2 open-r, 1 open-w,unlink`. A file with two names is two
+# things there, and what is new is none.
 #
 #     -d           says of each list which regions it has, below the lines of its process. A region
 #                  is a directory with all below it that the same veil covers and whose directories
@@ -26,7 +31,8 @@
 #     -o HELD      what trace.pl -o wrote: says of each process what it holds open.
 #     --help       prints this text.
 #
-# A list is read a line at a time, and takes no more memory where it is longer, but for its regions.
+# A list is read a line at a time, and takes no more memory where it is longer, but for its regions,
+# and where it is for ever.
 #
 # Status 0: it was printed. Status 1: a file can't be read, or is no list of objects; then nothing
 # was printed. Status 2: the words do not fit.
@@ -42,6 +48,7 @@ use Pua::Calls qw(%OPENINGS is_veiled opened_by);
 use Pua::Help qw(help_of);
 use Pua::Lists qw(@COLUMNS columns has_promise held_of holds manifest_of read_lists state_of);
 use Pua::Regions;
+use Pua::Together qw(flows_between);
 
 my ($NAME) = $0 =~ m{([^/]*)\z};
 my $MOST_NAMED = 5;    # paths that a line names
@@ -79,6 +86,10 @@ sub take {
     }
     $list->{is_name}{$path} = 1
         if exists $list->{place}{$path} && $kind =~ /\A(?:file|prog|link|missing)\z/;
+    if ($list->{ever}) {
+        push @{ $list->{things} }, "$kind $path";
+        $list->{calls}{"$kind $path"} = $calls;
+    }
     return if !$by_regions;
     $list->{regions} ||= Pua::Regions->new($list->{place});
     $list->{regions}->take($kind, $path, $calls);
@@ -167,7 +178,8 @@ sub about_moves {
 sub lines_about {
     my ($list, $held) = @_;
     my ($state, $counts) = (state_of($list), $list->{counts});
-    my $name = "process $list->{process}" . ($list->{ever} ? ' ever' : '');
+    my $name = "process $list->{process}" . ($list->{ever} ? ' ever' : '')
+        . (defined $list->{before} ? " before $list->{before}" : '');
     return "$name: ended" if $state->{ended};
     my $veils = @{ $state->{veils} };
     my @says;
@@ -191,22 +203,26 @@ sub lines_about {
 # The lines of a file.
 sub lines_in {
     my ($file, $held) = @_;
-    my (%answers, @lists);
+    my (%answer, @lists);
     read_lists($file, {
-        answer => sub { $answers{ (split / /, $_[0])[1] }++ },
+        texts => 1,
+        answer => sub { my ($line, $answer) = split / /, $_[0]; $answer{$line} = $answer },
         list => sub {
-            my ($process, $ever) = @_;
+            my ($process, $ever, $before) = @_;
             delete @{ $lists[-1] }{qw(known place)} if @lists;
             push @lists, {
-                process => $process, ever => $ever, state => [], with => {}, is_name => {},
-                counts => { map { $_ => 0 } @COLUMNS },
+                process => $process, ever => $ever, before => $before, state => [], with => {},
+                is_name => {}, counts => { map { $_ => 0 } @COLUMNS }, things => [], calls => {},
             };
         },
         state  => sub { push @{ $lists[-1]{state} }, @_ },
         object => sub { take($lists[-1], @_) },
     });
+    my %answers;
+    $answers{$_}++ for values %answer;
+    my @evers = grep { $_->{ever} } @lists;
     return ('answers: ' . (join(', ', map { "$_ $answers{$_}" } sort keys %answers) || 'none'),
-        map { lines_about($_, $held) } @lists);
+        (map { lines_about($_, $held) } @lists), flows_between(\&some, @evers));
 }
 
 sub fail { print STDERR "$NAME: @_\n"; exit 1 }

@@ -31,7 +31,7 @@ helps($GLANCE, 'Prints at a glance');
 tells('a site', <<'END', 'answers: ENOENT 1, ok 2', 'process 1: veils 1, locked; read 3, written 2, executed 0, made 2, removed 1');
 1 ok
 2 ENOENT no veil on /x or above since line 1
-3 ok
+3 ok by dns
 objects 1
 process alive
 promises cpath,rpath,stdio,wpath
@@ -132,7 +132,7 @@ opening /etc/resolv.conf stat,open-r
 opening /etc/hosts open-r
 opening /dev/null open-r,open-w,open-rw
 opening /usr/share/zoneinfo/ open-r
-opening /tmp/ create,unlink veils
+opening /tmp/ create,unlink,create-rw veils
 veil /run wc
 file /run/d.sock connect
 other /run bind
@@ -270,6 +270,66 @@ process 2 ever: veils 1, locked; read 0, written 0, executed 1, made 0, removed 
 process 3 ever: veils 1, locked; read 1, written 0, executed 0, made 0, removed 0
 process 4 ever: veils 1, locked; read 0, written 0, executed 1, made 0, removed 0
     programs that it starts have no sandbox: 1 can be executed
+OUT
+
+# What goes from one process to another.
+my $STATE = "process alive\nrules openbsd\npromises rpath,stdio\nexecpromises -\nunveil given-up\n";
+my $MAIN  = 'stat,lstat,open-r,open-w,open-rw,create,unlink,create-rw';
+tells('what goes from one to another', <<"END", split /\n/, <<'OUT');
+1 ok
+2 ok by dns
+3 killed
+ever 1
+${STATE}veil /cache rwc
+dir /cache stat,open-r,rmdir
+other /cache create
+file /cache/x $MAIN
+file /cache/y $MAIN
+prog /cache/p unlink
+link /cache/l lstat,readlink,unlink
+file new $MAIN
+ever 2
+${STATE}veil /cache r
+dir /cache stat,lstat,open-r,chdir
+file /cache/x stat,lstat,open-r
+link /cache/l lstat,readlink
+ever 3
+${STATE}exec open
+veil /cache x
+file /cache/y stat,open-r
+prog /cache/p exec
+file /cache/x open-r
+END
+answers: killed 1, ok 2
+process 1 ever: veils 1, given-up; read 5, written 3, executed 0, made 1, removed 6
+process 2 ever: veils 1, given-up; read 3, written 0, executed 0, made 0, removed 0
+process 3 ever: veils 1, given-up; read 2, written 0, executed 1, made 0, removed 0
+    the list holds until a program is started
+prog /cache/p: 3 exec, 1 unlink
+dir /cache: 2 open-r, 1 rmdir
+file /cache/x: 2 open-r, 3 open-r, 1 open-w,open-rw,create,unlink,create-rw
+file /cache/y: 3 open-r, 1 open-w,open-rw,create,unlink,create-rw
+link /cache/l: 2 readlink, 1 unlink
+OUT
+
+# A process as it was before an exec, and as it is.
+tells('images', <<"END", split /\n/, <<'OUT');
+1 ok
+2 ok
+objects 1 before 2
+process alive
+promises exec,stdio
+execpromises -
+unveil locked
+veil /a rx
+prog /a stat,exec
+objects 1
+process ended
+END
+answers: ok 2
+process 1 before 2: veils 1, locked; read 1, written 0, executed 1, made 0, removed 0
+    programs that it starts have no sandbox: 1 can be executed
+process 1: ended
 OUT
 
 # Many paths, several files, what the listing lacks, and what is held open.

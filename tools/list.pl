@@ -397,7 +397,16 @@ sub unspelled {
     return $bytes !~ /\0/ && spelled($bytes) eq $field ? $bytes : undef;
 }
 
-# The lines of a script, each with its number, its process, its call and the call's arguments.
+# A line of a script before its comment. That comes after the arguments: by the profile a path may
+# begin with `#`.
+sub uncommented {
+    my ($line) = @_;
+    my (undef, $call) = split / /, $line;
+    my $fields = 1 + @{ $arguments{ $call // '' } || [] };
+    return $line =~ s/\A(\S+(?: \S+){$fields}) +#.*/$1/sr;
+}
+
+# The requests of a script, each with its line's number, its process, its call and the arguments.
 sub requests {
     my ($script) = @_;
     my ($number, @requests) = (0);
@@ -405,6 +414,8 @@ sub requests {
     while (defined(my $line = <$in>)) {
         $number++;
         $line =~ s/\r?\n\z//;
+        next if $line =~ /\A *(?:#|\z)/;
+        $line = uncommented($line);
         my $where = spelled($script) . ": line $number";
         my ($process, $call, @words) = split / /, $line, -1;
         fail("$where: bad line")

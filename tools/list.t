@@ -414,6 +414,7 @@ sub refuses {
     my @site = ('1 dir 0 www', '2 dir 1 site', '3 dir 2 deep', '4 file 3 page', '5 file 2 index');
     $try->('a veil', "1 unveil /www/site r\n1 unveil - -\n1 pledge stdio,rpath -\n1 stat /www\n", \@site);
     $try->('DOS ends, and none', "1 unveil /www/site r\r\n1 stat /www", \@site);
+    $try->('comments and blank lines', "# x\n\n  \n1 unveil /www/site r # y\n1 stat /www   #z\n", \@site);
     $try->('it opens a directory', "1 open-r /www/site\n", \@site, $sees->(1, 15));
     $try->('it names a directory', "1 unveil /www/site/index r\n1 stat /www/other\n",
         ['1 dir 0 www', '2 dir 1 other', '3 dir 1 site', '4 file 3 index']);
@@ -447,7 +448,7 @@ sub refuses {
     $try->('no line', '', [], $sees->(1, 20));
     my ($status, $out) = list('-r', $root, '-s', $script, '/old');
     is($out, lines('1 dir 0 old', '2 file 1 f'), 'a script and an operand');
-    for my $bad (["1 stat  /x\n", 'bad line'], ["1 stat /\t\n", 'bad line'], ["# x\n", 'bad line'], ["\n", 'bad line'],
+    for my $bad (["1 stat  /x\n", 'bad line'], ["1 stat /\t\n", 'bad line'], ["1 stat / \n", 'bad line'], ["1 stat # /\n", 'bad call'],
         ["0 exit\n", 'bad line'], ["1\n", 'bad call'], ["1 open /x\n", 'bad call'], ["1 stat\n", 'bad call'],
         ["1 stat /\\141\n", 'bad path'], ["1 stat /\\000\n", 'bad path'], ["1 stat /\\08\n", 'bad path']) {
         open my $to, '>', $script or die;

@@ -265,8 +265,9 @@ sub add_state {
 sub add_list {
     my ($page, $tree, $list, $now) = @_;
     my %was = map { join(' ', @$_[0, 1]) => $_->[2] } $now ? @{ $now->{objects} } : ();
-    push @$page, "<h2>What process $list->{process} can " . ($list->{ever} ? 'ever ' : '')
-        . "touch</h2>\n";
+    push @$page, "<h2>What process $list->{process} "
+        . (defined $list->{before} ? "could touch before line $list->{before}"
+            : $list->{ever} ? 'can ever touch' : 'can touch') . "</h2>\n";
     push @$page, "<p>What the list of now does not have is <b class=\"more\">marked</b>.</p>\n"
         if $now || $list->{steps};
     add_state($page, $tree, $list);
@@ -301,12 +302,13 @@ sub page_of {
     my ($answers, @lists) = lists_of($objects, lines_of($objects));
     my (undef, @later) = defined $ever ? lists_of($ever, lines_of($ever)) : ();
     my $missing = defined $manifest ? manifest_of($manifest) : {};
-    my @unlike = map { ', <code>' . text($_) . '</code>' } grep { !/\A[0-9]+ ok\z/ } @$answers;
+    my @unlike = map { ', <code>' . text($_) . '</code>' } grep { !/\A[0-9]+ ok(?: by \S+)?\z/ } @$answers;
     my @page = ($HEAD, "<style>\n$STYLE</style></head><body>\n",
         '<p>Answers to the script: ', @$answers - @unlike, ' ok', @unlike, ".</p>\n");
     my %listed = map { $_->{process} => 1 } @lists;
     for my $list (@lists, grep { !$listed{ $_->{process} } } @later) {
-        for my $told ($list, grep { $_ != $list && $_->{process} == $list->{process} } @later) {
+        my @evers = defined $list->{before} ? () : grep { $_->{process} == $list->{process} } @later;
+        for my $told ($list, grep { $_ != $list } @evers) {
             my $root = tree($tree, @listing);
             for my $path (sort keys %$missing) {
                 my ($node, $why) = (node($root, $path), $missing->{$path});

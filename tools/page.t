@@ -48,7 +48,7 @@ my @site = ('1 dir 0 www', '2 dir 1 site', '3 file 2 index', '4 file 1 key', '5 
 
 # A list as it was before it had lines on the state.
 {
-    my $page = page_of('a site', \@site, ['1 ok', '2 ok', '3 ENOENT', 'objects 1',
+    my $page = page_of('a site', \@site, ['1 ok', '2 ok by dns', '3 ENOENT', 'objects 1',
         'dir /www stat,lstat,open-r,chdir', 'other /www create,mkdir,symlink',
         'file /www/key open-w,open-rw,create,unlink,chmod', 'prog /www/made exec', 'missing /www/not create']);
     is_deeply([rows($page)], [
@@ -96,6 +96,14 @@ my @site = ('1 dir 0 www', '2 dir 1 site', '3 file 2 index', '4 file 1 key', '5 
     is((grep { /www/ } @rows)[-1], '1 | www/ veil r veil rw names in it, none to be touched: 3',
         'a name and the directory that took it may both have one');
     is(scalar(grep { $_ eq '0 | / names in it, none to be touched: 6' } @rows), 2, 'each list has a tree of its own');
+}
+
+# A process as it was before an exec, and as it is.
+{
+    my $page = page_of('images', \@site, ['1 ok', '2 ok', 'objects 1 before 2', 'process alive', 'file /www/key open-r',
+        'objects 1', 'process ended']);
+    is_deeply([$page =~ m{<h2>(.*)</h2>}g], ['What process 1 could touch before line 2', 'What process 1 can touch'],
+        'the heading of an image says before which line');
 }
 
 # What later outputs have: reasons, lists for ever, words that are not known here.

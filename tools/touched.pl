@@ -89,8 +89,11 @@
 #   any order, and fast by this one.
 # - A line of a state stands in States, ObjectLines, EverLines, TogetherLines and WhyLines of
 #   pua_texts/specs, in state.rt, member_states.rt and process_head.rt. That of what promises open
-#   is in Openings; their table is in Openings and kernel.rt of pua_why, and in
-#   tests/lib/Openings.pm and tools/trace.pl: nothing is judged by it.
+#   is in Openings, and that of an answer in Openings of pua_why/specs; their table, by which
+#   requests are answered, is in Openings and opening.rt of pua_script, tools/lib/Pua/Calls.pm,
+#   bench/plain/pua.rs and docs/DEFINITIONS.md. No list is judged by it, but lists for ever go by
+#   TmpTable of pua_calls/specs, since tmppath opens what changes names. A further promise that
+#   opens such calls has to stand there too (the proof is Widened of pua_script).
 # - How ways are looked for (pua_how/src/plan) is in no contract: tests/how.t counts what is lost.
 # - A bound on work. Bounds of pua_path and of pua_audit, the clauses `cost` of pua_path, pua_policy
 #   and pua_audit; which entries a walk reads, Lists and Live of pua_steps.

@@ -17,6 +17,8 @@
 #                    the root.
 #     -e FILE        writes into FILE what the kernel answered to the lines of the script, as `pua
 #                    run` does: so `pua run TREE SCRIPT | diff FILE -` shows where the two differ.
+#                    By its rules of OpenBSD pua says by which promise a path was opened, and FILE
+#                    doesn't: take it out by `sed 's/ by .*//'`.
 #     -k             writes connect, bind, mknod (mkfifo too), chown, create-rw (an open with
 #                    O_RDWR and O_CREAT), and fchmod and fchown by a descriptor that was opened for
 #                    reading, as lines of their own, which `pua` knows as calls by `--rules openbsd`
@@ -41,8 +43,8 @@
 # After chroot(2) paths are written with the new root before them, without -c.
 #
 # Two kinds of calls are left out since pua would end the process for them, and answer all its later
-# lines `gone`: what a promise opens by itself, such as /etc/resolv.conf for dns; and a call about a
-# descriptor, where the process doesn't hold the promises that the call needs by a path.
+# lines `gone`: without -k, what a promise opens by itself, such as /etc/resolv.conf for dns; and a
+# call about a descriptor, where the process doesn't hold the promises that the call needs by a path.
 #
 # open is open-r, open-w, open-rw, create or, with -k, create-rw by its flags; access, statfs,
 # pathconf and realpath are stat; truncate is open-w; utimes and chflags are chmod: with -k those of
@@ -124,15 +126,15 @@ sub leave_out {
     return;
 }
 
-# A path as a script has it, in which neither `-` nor `=` stands for itself; of what begins where
-# the first process began, from there.
+# A path as a script has it, in which neither `-` nor `=` stands for itself, and a `#` at the front begins
+# a comment; of what begins where the first process began, from there.
 sub path {
     my ($bytes) = @_;
     if ($bytes =~ s/\A$START//) {
         my $begin = defined $started && $started ne '/' ? $started : '';
         $bytes = $begin . $bytes eq '' ? '/' : $begin . $bytes;
     }
-    return $bytes eq '' ? '=' : spelled($bytes =~ /\A[=-]\z/ ? "./$bytes" : $bytes);
+    return $bytes eq '' ? '=' : spelled($bytes =~ /\A(?:[=-]\z|#)/ ? "./$bytes" : $bytes);
 }
 
 # That pledge refused a call, so that its texts decide nothing.
@@ -346,8 +348,8 @@ sub path_fields {
     return ($as, @paths);
 }
 
-# The promise by which a kernel looks up a file by itself, past the veils, where pua answers
-# otherwise.
+# The promise by which a kernel looks up a file by itself, where pua answers otherwise. By its rules of
+# OpenBSD, for which -k is, it answers alike.
 sub opening {
     my ($call, $as) = @_;
     my ($has, $needs) = ($call->{process}{has}, $NEEDS{$as});
@@ -355,7 +357,9 @@ sub opening {
     my $is_hidden = $call->{answer} =~ /\A(?:ENOENT|EACCES)\z/;
     return if $has->holds(@$needs) && (!$has->{veiled} || $is_hidden);
     my ($path) = @{ $call->{paths} };
-    return (grep { $has->{promises}{$_} && opens($_, $path) } sort keys %OPENINGS)[0];
+    my ($promise) = grep { $has->{promises}{$_} && opens($_, $path) } sort keys %OPENINGS;
+    return if !defined $promise || $further && opens($promise, $path, $as);
+    return $promise;
 }
 
 # Whether it is ld.so that opens, for a program that was started.

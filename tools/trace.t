@@ -478,6 +478,8 @@ gives('paths of any bytes', <<'END');
 7 stat(0x1c60,0x1d60) = 0 "/\240\s\E"
 7 stat(0x1c60,0x1d60) = 0 "="
 7 stat(0x1c60,0x1d60) = 0 "-"
+7 stat(0x1c60,0x1d60) = 0 "#x"
+7 stat(0x1c60,0x1d60) = 0 "a#x"
 7 stat(0x1c60,0x1d60) = 0 ""
 7 stat(0x1c60,0x1d60) = 0 "/a//./b/.."
 7 stat(0x1c60,0x1d60) = 0 "."
@@ -493,6 +495,8 @@ gives('paths of any bytes', <<'END');
 1 stat /\240\040\033 : ok
 1 stat ./= : ok
 1 stat ./- : ok
+1 stat ./#x : ok
+1 stat a#x : ok
 1 stat = : ok
 1 stat /a//./b/.. : ok
 1 stat . : ok
@@ -1017,6 +1021,50 @@ END
     is($status, 0, 'what is asked for: the status');
     is(system("$PUA run --rules openbsd tree out | diff answers - > ran"), 0, 'what is asked for: pua answers so')
         if defined $PUA;
+}
+
+# What tmppath makes and takes away below /tmp is answered so by OpenBSD's rules, and has a line then.
+my $TEMPORARY = <<'END';
+7 CALL  pledge(0x4f2a1c80,0)
+7 STRU  promise="stdio rpath tmppath"
+7 RET   pledge 0
+7 open(0x1c60,0x202<O_RDWR|O_CREAT>,0600<S_IRUSR|S_IWUSR>) = 3 "/tmp/sort.a1"
+7 open(0x1c60,0x201<O_WRONLY|O_CREAT>,0600<S_IRUSR|S_IWUSR>) = 4 "/tmp//sort.b2"
+7 unlink(0x1c60) = 0 "/tmp/sort.a1"
+7 unlink(0x1c60) = -1 errno 2 No such file or directory "/tmp/sort.a1"
+7 stat(0x1c60,0x1d60) = 0 "/tmp/sort.b2"
+7 CALL  open(0x1c60,0x1<O_WRONLY>)
+7 PLDG  open, "wpath", errno 1 Operation not permitted
+7 PSIG  SIGABRT SIG_DFL
+END
+gives('what tmppath makes, without -k', "$TEMPORARY--\n" . <<'END');
+1 pledge stdio,rpath,tmppath - : ok
+1 stat /tmp/sort.b2 : ok
+1 open-w = : killed
+--
+line 4: left out: open by the promise tmppath itself: /tmp/sort.a1, /tmp//sort.b2 (2 in all)
+line 10: left out: unlink by the promise tmppath itself: /tmp/sort.a1 (2 in all)
+line 4: open with O_CREAT and O_RDWR is written create, which asks for neither rpath nor r (1 in all)
+line 19: open was answered killed before its path was recorded: it is written = (1 in all)
+END
+{
+    put('trace', kdump($TEMPORARY));
+    file('temporary', 'tree 1', '0 dir', '1 dir 0 tmp');
+    unlink 'answers';
+    my ($status, $out, $err) = trace('-kvx', '-e', 'answers');
+    is($out, <<'END', 'what tmppath makes: the script');
+1 pledge stdio,rpath,tmppath -
+1 create-rw /tmp/sort.a1
+1 create /tmp//sort.b2
+1 unlink /tmp/sort.a1
+1 unlink /tmp/sort.a1
+1 stat /tmp/sort.b2
+1 open-w =
+END
+    is(content('answers'), "1 ok\n2 ok\n3 ok\n4 ok\n5 ENOENT\n6 ok\n7 killed\n", 'what tmppath makes: the answers');
+    is($status, 0, 'what tmppath makes: the status');
+    is(system("$PUA run --rules openbsd temporary out | sed 's/ by .*//' | diff answers - > ran"), 0,
+        'what tmppath makes: pua answers so') if defined $PUA;
 }
 
 # Traces of whole daemons. Each file NAME-RUN.expected has the words of a run over NAME.kdump, and, apart from

@@ -504,7 +504,7 @@ const CALLS: [(Call, &str, u64, u8, bool); 21] = [
 
 /// What calls need: sets of promises, of which one has to be held, and letters, and without a set a word is no call; what
 /// rename and link need of their old names, whose new ones need `cpath` and `c`; whether these are OpenBSD's rules, by
-/// which execpromises stay after an exec, and lists say what promises open by themselves.
+/// which execpromises stay after an exec, and promises open some paths by themselves.
 struct Rules {
     calls: [(Vec<u64>, u8); 21],
     rename: OldName,
@@ -614,6 +614,23 @@ struct Process {
 
 /// What is left of an object: nothing, or these letters.
 type Cover = Option<u8>;
+
+/// The text of an absolute path without empty components and `.`, and without each `..` and the component before it.
+fn canonical(path: &[u8]) -> Option<Vec<u8>> {
+    let components = path.strip_prefix(b"/")?.split(|byte| *byte == b'/');
+    let mut text = Vec::new();
+    for component in components {
+        match component {
+            b"" | b"." => {}
+            b".." => text.truncate(text.iter().rposition(|byte| *byte == b'/').unwrap_or(0)),
+            name => {
+                text.push(b'/');
+                text.extend_from_slice(name);
+            }
+        }
+    }
+    Some(text)
+}
 
 fn cover_fault(cover: Cover, perms: u8) -> Option<Errno> {
     match cover {
@@ -738,12 +755,53 @@ impl Process {
 
     /// What a call's path names, if the call is allowed on it.
     fn judged<'a>(&self, tree: &'a Tree, call: Call, path: &'a [u8]) -> Result<Found<'a>, Errno> {
+        self.may_by(&rules().calls[call as usize].0)?;
+        self.covered(tree, call, path, true)
+    }
+
+    /// The same, where promises are not asked, and veils perhaps not.
+    fn covered<'a>(&self, tree: &'a Tree, call: Call, path: &'a [u8], asks_veils: bool) -> Result<Found<'a>, Errno> {
         let follow = CALLS[call as usize].4;
-        let (promises, perms) = &rules().calls[call as usize];
-        self.may_by(promises)?;
         let found = tree.named(self.dir, path, matches!(call, Call::Mkdir | Call::Rmdir), follow)?;
-        let fault = cover_fault(self.cover(tree, found), *perms).or_else(|| object_fault(call, object(tree, found)));
-        fault.map_or(Ok(found), Err)
+        let perms = rules().calls[call as usize].1;
+        let fault = if asks_veils { cover_fault(self.cover(tree, found), perms) } else { None };
+        fault.or_else(|| object_fault(call, object(tree, found))).map_or(Ok(found), Err)
+    }
+
+    /// What a call's path names, if the call is allowed on it, or a promise that was pledged opens it; and that promise,
+    /// where the call is refused without.
+    fn opened<'a>(
+        &self,
+        tree: &'a Tree,
+        call: Call,
+        path: &'a [u8],
+    ) -> Result<(Found<'a>, Option<&'static str>), Errno> {
+        let plain = self.judged(tree, call, path);
+        match self.opening(call, path) {
+            None => Ok((plain?, None)),
+            Some((promise, asks_veils)) => {
+                let found = self.covered(tree, call, path, asks_veils)?;
+                Ok((found, plain.is_err().then_some(promise)))
+            }
+        }
+    }
+
+    /// The promise that opens a path for a call, and whether the veils are asked all the same.
+    fn opening(&self, call: Call, path: &[u8]) -> Option<(&'static str, bool)> {
+        let pledged = self.promises.filter(|_| rules().is_openbsd)?;
+        let text = canonical(path)?;
+        let has_call = |calls: &str| calls.split(',').any(|name| name == CALLS[call as usize].1);
+        OPENINGS.iter().find_map(|(promise, opening)| {
+            let (opened, calls) = opening.split_once(' ')?;
+            let bare = calls.strip_suffix(" veils");
+            let is_named = if opened.ends_with('/') {
+                text.len() > opened.len() && text.starts_with(opened.as_bytes())
+            } else {
+                text == opened.as_bytes()
+            };
+            let is_held = KEYWORDS.iter().position(|keyword| keyword == promise).is_some_and(|bit| pledged & 1 << bit != 0);
+            (is_named && is_held && has_call(bare.unwrap_or(calls))).then_some((*promise, bare.is_some()))
+        })
     }
 
     /// What two paths name, if each is covered with the letters that it needs.
@@ -876,15 +934,33 @@ fn read_action<'a>(fields: &[&'a [u8]]) -> Result<Action<'a>, &'static str> {
     Ok(action)
 }
 
-fn read_script(text: &[u8]) -> Result<Vec<(u32, Action<'_>)>, String> {
+/// What a line says: by OpenBSD's rules what stands before its comment, and before the blanks there.
+fn said(line: &[u8]) -> &[u8] {
+    let begins = |at: &usize| line[*at] == b'#' && (*at == 0 || line[at - 1] == b' ');
+    match (0..line.len()).find(begins) {
+        Some(at) if rules().is_openbsd => {
+            let end = line[..at].iter().rposition(|byte| *byte != b' ').map_or(0, |last| last + 1);
+            &line[..end]
+        }
+        _ => line,
+    }
+}
+
+/// The requests of a script's lines; none on a line that says nothing, by OpenBSD's rules.
+fn read_script(text: &[u8]) -> Result<Vec<Option<(u32, Action<'_>)>>, String> {
     let (mut requests, mut fields) = (Vec::new(), Vec::new());
     for (at, line) in lines(text).enumerate() {
         if at == 60_000 {
             return Err("pua: script: too many lines".into());
         }
+        let line = said(line);
+        if rules().is_openbsd && line.iter().all(|byte| *byte == b' ') {
+            requests.push(None);
+            continue;
+        }
         let process = split(line, &mut fields).then(|| number(fields[0])).flatten().filter(|process| *process > 0);
         let read = process.ok_or("bad line").and_then(|process| Ok((process, read_action(&fields[1..])?)));
-        requests.push(read.map_err(|fault| format!("pua: script: line {}: {fault}", at + 1))?);
+        requests.push(Some(read.map_err(|fault| format!("pua: script: line {}: {fault}", at + 1))?));
     }
     Ok(requests)
 }
@@ -897,35 +973,46 @@ struct World {
 }
 
 impl World {
-    fn serve(&mut self, number: u32, action: &Action) -> &'static str {
+    /// The answer, and the promise that opened what is refused without.
+    fn serve(&mut self, number: u32, action: &Action) -> (&'static str, Option<&'static str>) {
         let made = &self.processes;
         let is_refused = matches!(action, Action::Fork(new) if made.contains_key(new) || made.len() == 256);
         let Some(process) = self.processes.get_mut(&number).filter(|process| !process.has_ended) else {
-            return "gone";
+            return ("gone", None);
         };
         let done = match action {
             Action::Fork(_) if is_refused => process.may(PROC).and(Err("EAGAIN")),
             Action::Fork(new) if process.may(PROC).is_ok() => {
                 let copy = process.clone();
                 self.processes.insert(*new, copy);
-                return "ok";
+                return ("ok", None);
             }
-            Action::Fork(_) => process.may(PROC),
-            action => act(&mut self.tree, process, action),
+            Action::Fork(_) => process.may(PROC).map(|()| None),
+            Action::OnPath(call, path) => on_path(&mut self.tree, process, *call, path),
+            action => act(&mut self.tree, process, action).map(|()| None),
         };
         if done == Err("killed") {
             process.has_ended = true;
         }
-        done.err().unwrap_or("ok")
+        done.map_or_else(|errno| (errno, None), |opener| ("ok", opener))
     }
+}
+
+/// Makes a call on a path: the promise that opened it, where it is refused without.
+fn on_path(
+    tree: &mut Tree,
+    process: &mut Process,
+    call: Call,
+    path: &[u8],
+) -> Result<Option<&'static str>, Errno> {
+    let (found, opener) = process.opened(tree, call, path)?;
+    let (node, spot) = (found.node(), found.spot().map(owned));
+    change(tree, process, call, node, spot)?;
+    Ok(opener)
 }
 
 fn act(tree: &mut Tree, process: &mut Process, action: &Action) -> Result<(), Errno> {
     match action {
-        Action::OnPath(call, path) => {
-            let found = process.judged(tree, *call, path)?;
-            change(tree, process, *call, found.node(), found.spot().map(owned))
-        }
         Action::Symlink(target, path) => {
             process.may_by(&rules().calls[Call::Symlink as usize].0)?;
             path_fault(target)?;
@@ -975,7 +1062,7 @@ fn act(tree: &mut Tree, process: &mut Process, action: &Action) -> Result<(), Er
             Ok(())
         }
         Action::Uses(sets) => process.may_by(sets),
-        Action::Fork(_) => unreachable!(),
+        Action::OnPath(..) | Action::Fork(_) => unreachable!(),
     }
 }
 
@@ -1496,7 +1583,7 @@ const OPENINGS: [(&str, &str); 14] = [
     ("stdio", "/dev/null open-r,open-w,open-rw"),
     ("stdio", "/etc/localtime stat,open-r"),
     ("stdio", "/usr/share/zoneinfo/ open-r"),
-    ("tmppath", "/tmp/ create,unlink veils"),
+    ("tmppath", "/tmp/ create,unlink,create-rw veils"),
     ("tty", "/dev/tty open-r,open-w,open-rw veils"),
 ];
 
@@ -1966,11 +2053,17 @@ fn perform(command: Command, words: &Words) -> Result<(), (u8, String)> {
     let script = read_script(text).map_err(|fault| (1, fault))?;
     let mut world = World { tree, processes: Map::from_iter([(1, Process::default())]) };
     let (mut out, mut count) = (Vec::new(), Count::default());
-    for (process, action) in &script {
-        let answer = world.serve(*process, action);
-        out.extend_from_slice(count.next());
+    for request in &script {
+        let number = count.next();
+        let Some((process, action)) = request else { continue };
+        let (answer, opener) = world.serve(*process, action);
+        out.extend_from_slice(number);
         out.push(b' ');
         out.extend_from_slice(answer.as_bytes());
+        if let Some(promise) = opener {
+            out.extend_from_slice(b" by ");
+            out.extend_from_slice(promise.as_bytes());
+        }
         out.push(b'\n');
     }
     match command {
@@ -1985,7 +2078,7 @@ fn perform(command: Command, words: &Words) -> Result<(), (u8, String)> {
 /// rules of one process, which say nothing of execs.
 const USAGE: &str = "pua: usage: pua run [--table FILE] TREE SCRIPT; \
                      pua audit --limit N [--process P] [--base root|cwd] [--after CALL:PATH] [--table FILE] TREE SCRIPT [NAME...]";
-const OBJECTS_USAGE: &str = "pua: usage: pua objects [--ever] [--how|--why] [--process P,...|all] [--at N] [--rules profile|openbsd] [--table FILE] TREE SCRIPT";
+const OBJECTS_USAGE: &str = "pua: usage: pua objects [--ever] [--how|--why] [--images] [--process P,...|all] [--at N] [--rules profile|openbsd] [--table FILE] TREE SCRIPT";
 
 fn main() -> ExitCode {
     let words: Vec<String> = std::env::args().skip(1).collect();

@@ -17,6 +17,11 @@ my %SUITS = (
 
 my @EDITS = qw(create mkdir rmdir unlink symlink bind mknod create-rw);
 
+# By OpenBSD's rules tmppath opens these calls by itself. For which paths no table of calls says, so in that of a list for
+# ever the promise is one more set of these, whatever the path.
+my @OPENED = qw(create unlink create-rw);
+my $OPENER = 'tmppath';
+
 # What can be made, by its kind: the calls that make it, and what it is.
 my @NEW = (
     { kind => 'dir', calls => ['mkdir'], is => 'gone' },
@@ -29,6 +34,7 @@ my @NEW = (
 # its thing can come, in the order of the veils that leave them, as letters and the number of the veil.
 sub lines {
     my ($model, $number, $with_reasons) = @_;
+    $model = widened($model);
     my $process = $model->{processes}{$number};
     return if $process->{ended};
     $process = _numbered($process) if $with_reasons;
@@ -40,6 +46,21 @@ sub lines {
     $ever->_find_covers;
     return ($ever->_lines_in(0), map { $ever->_new_line($_) } @NEW);
 }
+
+# A model by whose table whoever holds tmppath may make the calls that it opens; none of these has the set twice, nor beside
+# one that asks for no more.
+sub widened {
+    my ($model) = @_;
+    return $model if !$model->{openbsd};
+    my %needs = %{ $model->{needs} };
+    for my $call (@OPENED) {
+        my ($sets, $letters) = @{ $needs{$call} };
+        $needs{$call} = [ [ @$sets, $OPENER ], $letters ] if !grep { _asks_no_more($_) } @$sets;
+    }
+    return bless { %$model, needs => \%needs }, ref $model;
+}
+
+sub _asks_no_more { return !grep { $_ ne $OPENER } split /,/, $_[0] }
 
 # A process whose veils' letters are followed by their numbers in the order of the veils.
 sub _numbered {
@@ -77,19 +98,10 @@ sub bound {
 
 sub has_exec { return $_[0] =~ /[ ,]exec\b/ }
 
-# Whether a process may start what tmppath makes, of which no line tells: by OpenBSD's rules, where exec is let through and
-# some veil has the letters that it needs, or there is none.
-sub starts_made {
-    my ($model, $number) = @_;
-    my $process = $model->{processes}{$number};
-    return 0 if !$model->{openbsd} || !Model::_holds($process, 'tmppath') || !lets($model, $process, 'exec');
-    return 1 if !@{ $process->{veils} };
-    return scalar grep { !Model::_lacking($model->{needs}{exec}[1], $_) } values %{ $process->{letters} };
-}
-
 # The lines of a process that holds both sets, with the calls that one of the two lets through.
 sub _through {
     my ($model, $number, $given, $with_reasons) = @_;
+    $model = widened($model);
     my $process = $model->{processes}{$number};
     my $held = $process->{promises};
     my $both = $held && { map { $_ => 1 } grep { $held->{$_} || $given->{$_} } keys %$held, keys %$given };
@@ -114,6 +126,7 @@ sub _let_through {
 # veils that let one of them through.
 sub reasons {
     my ($model, $number, $line) = @_;
+    $model = widened($model);
     my (undef, undef, $calls, @covers) = split / /, $line;
     my @holders = ($model->{processes}{$number}, map { $_ ? { promises => $_ } : () } given($model, $number));
     my (%promises, @veils);

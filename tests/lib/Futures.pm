@@ -15,8 +15,9 @@ my @LOOKS = qw(stat lstat readlink open-r open-w open-rw chmod chdir chdir chdir
 
 # Draws from a generator of worlds. %$calls has each call that can ever be allowed on something: others are drawn
 # seldom, since a process mostly ends by them. %$holds says whether the processes hold proc and exec, whether what is
-# started is bounded, and whether they are several from the beginning; whoever can't execute anything, or goes on then,
-# tries it more often. The first child that is forked has the number $child.
+# started is bounded, whether they are several from the beginning, and whether one holds a promise that opens an edit
+# by itself; whoever can't execute anything, or goes on then, tries it more often. The first child that is forked has
+# the number $child.
 sub new {
     my ($class, $worlds, $calls, $holds, $child) = @_;
     my %may = map { $_ => 1 } keys %$calls;
@@ -45,8 +46,10 @@ sub lines {
 sub _line {
     my ($futures, $asker) = @_;
     my ($worlds, $holds) = @$futures{qw(worlds holds)};
+    return "$asker " . $futures->_temporary . "\n" if $futures->_opens_edits($asker) && $worlds->number(3) == 0;
     my $way = $worlds->number(24);
     return $worlds->requests(1, $asker) if $way == 0;
+    return "$asker " . $worlds->opened_call . "\n" if $way > 20 && $worlds->opens;
     return "$asker fork " . $futures->{child}++ . "\n" if $way == 1 && $holds->{proc};
     return "$asker exec " . $futures->_program . "\n"
         if $way == 2 && $holds->{exec} && $worlds->number($futures->{exec_in}) == 0;
@@ -57,12 +60,28 @@ sub _line {
     return "$asker " . $futures->_request(@calls ? $worlds->pick(@calls) : 'stat') . "\n";
 }
 
+# Whether who asks was given a promise that opens edits below /tmp by itself; and such an edit, or one beside it.
+sub _opens_edits {
+    my ($futures, $asker) = @_;
+    my ($model, $process) = ($futures->{model}, $futures->{model}{processes}{$asker});
+    return $model->{openbsd} && ($process->{promises} || {})->{tmppath};
+}
+
+sub _temporary {
+    my ($futures) = @_;
+    my $worlds = $futures->{worlds};
+    my @rows = grep { $_->{path} =~ m{\A/tmp/} } $futures->_rows;
+    my $path = @rows && $worlds->number(3) ? $worlds->pick(@rows)->{path} : '/tmp/' . $worlds->pick($worlds->names, 'n');
+    $path .= '/' . $worlds->pick($worlds->names, 'n') if $worlds->number(5) == 0;
+    return $worlds->pick(qw(create create create-rw unlink unlink)) . " $path";
+}
+
 # Whether who asks is let through by its promises. Of several, and where what is started is bounded, one holds what
-# another lacks, and ends by a call that only the other may do; else all of a family hold the same, as long as none gives
-# up more.
+# another lacks, and ends by a call that only the other may do; and what a promise opens by itself ends a process
+# elsewhere. Else all of a family hold the same, as long as none gives up more.
 sub _may {
     my ($futures, $asker, $call) = @_;
-    return 1 if !$futures->{holds}{bounded} && !$futures->{holds}{several};
+    return 1 if !grep { $futures->{holds}{$_} } qw(bounded several opener);
     my $model = $futures->{model};
     my @parts = $call =~ /\A(?:rename|link)\z/ ? ("old name of $call", "new name of $call") : $call;
     return !grep { !EverModel::lets($model, $model->{processes}{$asker}, $_) } @parts;

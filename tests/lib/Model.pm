@@ -9,7 +9,7 @@ package Model;
 use strict;
 use warnings;
 use parent qw(Tree);
-use Openings qw(openings_of);
+use Openings qw(opening_for openings_of);
 use Tree qw(spelled text_fault unspelled);
 
 my $MOST_VEILS     = 128;
@@ -69,6 +69,11 @@ my %OPENBSD = (
     fchown               => [['rpath,chown', 'rpath,fattr'], 'r'],
     'old name of rename' => [['rpath,cpath'], 'rc'],
     'old name of link'   => [['rpath'], 'r'],
+);
+
+# By OpenBSD's rules, the calls as which a script has others.
+my %NEIGHBOURS = (
+    access => 'stat', statfs => 'stat', truncate => 'open-w', chflags => 'chmod', utimes => 'chmod', mkfifo => 'mknod',
 );
 
 # The calls that follow a link at their path's end, and those that drop a slash there.
@@ -246,10 +251,38 @@ sub verdict {
     return ($errno || $model->_judged($process, $call, $found), $found);
 }
 
+# By which promise that a pledge gave a process a call on a path is opened, and whether the veils are asked all the
+# same; undef where it isn't.
+sub _opening {
+    my ($model, $process, $call, $path) = @_;
+    return if !$model->{openbsd} || !$process->{promises};
+    return opening_for($call, $path, grep { $process->{promises}{$_} } @KEYWORDS);
+}
+
+# What becomes of a call that is opened so: the same as verdict has, without asking promises, nor perhaps veils.
+sub _opened {
+    my ($model, $process, $call, $path, $opening) = @_;
+    my ($errno, $found) = $model->_named($process, $call, $path);
+    return $errno if $errno;
+    my $answer = $opening->{veils} ? $model->_judged($process, $call, $found) : $model->_misfit($call, $found);
+    return ($answer, $found);
+}
+
+# What becomes of a call by an opening, if there is one, and else without; and notes the promise without which it would
+# be refused.
+sub _decided {
+    my ($model, $process, $call, $path) = @_;
+    my @plain = $model->verdict($process, $call, $path);
+    my $opening = $model->_opening($process, $call, $path);
+    return @plain if !$opening;
+    $model->{opener} = $opening->{promise} if $plain[0];
+    return $model->_opened($process, $call, $path, $opening);
+}
+
 # Makes a call on a path.
 sub _call {
     my ($model, $process, $call, $path) = @_;
-    my ($answer, $found) = $model->verdict($process, $call, unspelled($path));
+    my ($answer, $found) = $model->_decided($process, $call, unspelled($path));
     return $answer if $answer;
     $model->_make($call eq 'mkdir' ? 'dir' : 'file', $found)
         if $call =~ /\A(?:create|create-rw|mkdir|bind|mknod)\z/ && $model->_kind($found) eq 'missing';
@@ -431,10 +464,12 @@ sub _uses {
 
 # --- The texts ---
 
-# The answer to one request of a process, by its number.
+# The answer to one request of a process, by its number: one word.
 sub answer {
     my ($model, $number, $call, @words) = @_;
     my $process = $model->{processes}{$number};
+    $model->{opener} = undef;
+    $call = $NEIGHBOURS{$call} if $model->{openbsd} && $NEIGHBOURS{$call};
     return 'gone' if !$process || $process->{ended};
     my $answer
         = $REQUESTS{$call} ? $REQUESTS{$call}->($model, $process, @words) : $model->_call($process, $call, @words);
@@ -442,12 +477,22 @@ sub answer {
     return $answer;
 }
 
+# The same as a run tells it: `ok by` the promise that opened it, where it is refused without.
+sub told {
+    my ($model, @words) = @_;
+    my $answer = $model->answer(@words);
+    return $answer eq 'ok' && defined $model->{opener} ? "ok by $model->{opener}" : $answer;
+}
+
 # The text of a run.
 sub run {
     my ($model, $script) = @_;
     my ($number, $text) = (0, '');
     for my $line (split /\r?\n/, $script) {
-        $text .= ++$number . ' ' . $model->answer(split / /, $line) . "\n";
+        $number++;
+        next if $model->{openbsd} && $line =~ /\A *(?:#|\z)/;
+        $line =~ s/ +#.*//s if $model->{openbsd};
+        $text .= "$number " . $model->told(split / /, $line) . "\n";
     }
     return $text;
 }

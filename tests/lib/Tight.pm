@@ -4,6 +4,9 @@
 package Tight;
 use strict;
 use warnings;
+use FindBin qw($Bin);
+use lib "$Bin/../tools/lib";
+use Pua::Calls qw(%ASKS);
 use Worlds qw(answer_of);
 
 # The keywords that calls need by the rules of the profile; those on one path are the ones for which a table can have a row.
@@ -23,11 +26,18 @@ my %OPENBSD = (
 
 my @LETTERS = qw(r w x c);
 
+# The calls without a path that ask for a promise, in alphabetical order.
+my %PATHLESS;
+for my $call (sort keys %ASKS) {
+    push @{ $PATHLESS{$_} }, $call for split /\|/, $ASKS{$call};
+}
+
 # The scripts over a listing, by some rules or by a table, as they are answered by a program.
 sub new {
     my ($class, $program, $listing, %how) = @_;
     my $self = bless { program => $program, files => { TREE => $listing }, words => [], known => {}, runs => 0 }, $class;
-    my %needs = (%NEEDS, ($how{rules} || '') eq 'openbsd' ? %OPENBSD : ());
+    $self->{openbsd} = ($how{rules} || '') eq 'openbsd';
+    my %needs = (%NEEDS, $self->{openbsd} ? %OPENBSD : ());
     push @{ $self->{words} }, '--rules', $how{rules} if defined $how{rules};
     if (defined $how{table}) {
         $self->{files}{TABLE} = $how{table};
@@ -53,14 +63,14 @@ sub written {
     return ($status, $out, $err);
 }
 
-# What lines are answered, in one text.
+# What lines are answered, in one text; whether a promise opened what is ok isn't asked.
 sub answers {
     my ($self, @lines) = @_;
     my $text = join "\n", @lines;
     if (!defined $self->{known}{$text}) {
         my ($status, $out, $err) = $self->written(\@lines, 'run');
         $status == 0 or die "$err$text\n";
-        $self->{known}{$text} = $out;
+        $self->{known}{$text} = $out =~ s/^([0-9]+ ok) by [a-z]+$/$1/mgr;
         $self->{runs}++;
     }
     return $self->{known}{$text};
@@ -69,11 +79,11 @@ sub answers {
 # What may be left out of lines, in their order: a line's index, the argument that has it, and the word.
 sub pieces {
     my ($self, @lines) = @_;
-    my @answers = map { (split)[1] } split /\n/, $self->answers(@lines);
-    my @used = map { split /\|/ } map { / uses (\S+)/ ? $1 : () } @lines;
+    my %answers = map { (split)[0, 1] } split /\n/, $self->answers(@lines);
+    my @used = map { split /\|/ } map { /\A[0-9]+ uses (\S+)/ ? $1 : () } @lines;
     local $self->{asked} = { %{ $self->{asked} }, map { $_ => 1 } @used };
     my @pieces;
-    for my $index (grep { $answers[$_] eq 'ok' } 0 .. $#answers) {
+    for my $index (grep { ($answers{ $_ + 1 } // '') eq 'ok' } 0 .. $#lines) {
         push @pieces, map { [$index, @$_] } $self->_pieces_of($lines[$index]);
     }
     return @pieces;
@@ -131,7 +141,9 @@ sub reasons {
     for my $piece ($self->pieces(@$given)) {
         my @answers = split /\n/, $self->answers(without($piece, @$left));
         my ($first) = grep { $answers[$_] ne $wanted[$_] } 0 .. $#wanted;
-        my $reason = defined $first ? 'needed by ' . ($first + 1) : 'spare';
+        my $reason = defined $first ? 'needed by ' . (split / /, $wanted[$first])[0] : 'spare';
+        my $calls = $self->{openbsd} && !defined $first && $PATHLESS{ $piece->[2] };
+        $reason .= ' ' . join ',', @$calls if $calls;
         push @reasons, join(' ', $piece->[0] + 1, @$piece[1, 2], $reason) . "\n";
     }
     return join '', @reasons;

@@ -5,11 +5,17 @@
 package Worlds;
 use strict;
 use warnings;
+
+BEGIN {
+    my ($here) = __FILE__ =~ m{\A(.*/)}s;
+    unshift @INC, ($here || './') . '../../tools/lib';
+}
 use Exporter qw(import);
 use File::Basename ();
 use File::Spec;
 use File::Temp qw(tempdir);
 use POSIX ();
+use Pua::Calls qw(%OPENINGS);
 use Tables qw(content);
 
 our @EXPORT_OK = qw(answer_in answer_of program_in rules_of worlds_told);
@@ -66,6 +72,19 @@ my @MORE = (('connect FILE', 'bind NEW') x 2, 'connect PATH', 'bind PATH', ('mkn
 my @WITHOUT_PATH = ('uses USED') x 5;
 my @USED = qw(inet id unix stdio proc rpath inet|unix id|settime|rpath proc|wpath);
 
+# What it asks for where promises open paths; and lists of promises that open some, by which a process lives on.
+my @OPENING_REQUESTS = (('OPENING') x 12, 'rename FILE OPENED', 'symlink TARGET OPENED', 'unveil OPENED PERMISSIONS', 'pledge OPENERS EXECPROMISES');
+my @OPENERS = (
+    'stdio,dns,unveil,proc,error', 'tmppath,rpath,unveil,proc,error', 'getpw,tty,wpath,proc,unveil,error',
+    'stdio,rpath,wpath,cpath,fattr,exec,proc,unveil,tmppath,dns', 'dns,getpw,stdio,tmppath,tty,cpath,proc,unveil,error',
+);
+
+# Promises of such lists, beside others.
+my @BESIDE = ('stdio', 'dns', 'getpw', 'tty', 'tmppath', 'tmppath', 'stdio,tmppath', 'dns,getpw', 'tmppath,tty,error');
+
+# What stands at a path that a promise opens.
+my @OPENED_KINDS = qw(file file file file file prog link dir);
+
 # What is drawn seldom: what is refused for its text, an end, a lock in the midst.
 my @SELDOM = (
     'exit', 'unveil - -', 'unveil PATH rq', 'unveil = r', 'stat =', 'pledge rpath,nothing -', 'pledge - MILD',
@@ -89,11 +108,12 @@ my @STRETCHES = (
 );
 
 # Makes a generator of worlds. Those of one seed are always the same. In %$how, optional: paths_alone, where scripts
-# have no call without a path.
+# have no call without a path; openings, where by OpenBSD's rules trees have paths that promises open, and scripts ask
+# for these.
 sub new {
     my ($class, $seed, $how) = @_;
     my $worlds = bless { state => 1 + $seed % 2147483646, names => [@NAMES] }, $class;
-    $worlds->{paths_alone} = $how->{paths_alone};
+    @$worlds{qw(paths_alone openings)} = @$how{qw(paths_alone openings)};
     @$worlds{qw(paths of)} = (['/'], { dir => [''] });
     $worlds->number(2) for 1 .. 5;
     return $worlds;
@@ -136,6 +156,7 @@ sub listing {
         $number += 1 + ($worlds->number(6) == 0);
         $worlds->_add_line($tree, $number);
     }
+    $worlds->_add_all_opened($tree, \$number) if $worlds->opens;
     my %over = map { m{(.*)/} ? ($1 => 1) : () } @{ $worlds->{paths} };
     $worlds->{of}{leaf} = [ grep { !$over{$_} } @{ $worlds->{of}{dir} } ];
     return join "\n", $tree->{header}, '0 dir', @{ $tree->{lines} }, '';
@@ -157,6 +178,106 @@ sub _add_line {
     push @{ $worlds->{paths} }, $path;
     push @{ $worlds->{of}{$kind} }, $path;
     return;
+}
+
+# Adds to a listing some paths that promises open.
+sub _add_all_opened {
+    my ($worlds, $tree, $number) = @_;
+    $worlds->{opened} = [];
+    for (0 .. 4 + $worlds->number(4)) {
+        my $opening = $worlds->_opening;
+        my $path = $worlds->_opened_at($opening);
+        $worlds->_add_opened($tree, $number, $path);
+        push @{ $worlds->{opened} }, [$opening, $path];
+    }
+    return;
+}
+
+# Adds to a listing the lines of a path, as far as they lack and something on the way is no link or file.
+sub _add_opened {
+    my ($worlds, $tree, $number, $path) = @_;
+    my %dirs = reverse %{ $tree->{dirs} };
+    my ($parent, $at, @names) = (0, '', grep { $_ ne '' } split m{/}, $path);
+    while (defined(my $name = shift @names)) {
+        $at .= "/$name";
+        if ($tree->{taken}{$at}) {
+            return if !exists $dirs{$at};
+            $parent = $dirs{$at};
+            next;
+        }
+        my $kind = !@names ? $worlds->pick(@OPENED_KINDS) : $worlds->number(12) ? 'dir' : 'link';
+        $tree->{taken}{$at} = 1;
+        $$number++;
+        push @{ $tree->{lines} }, join ' ', $$number, $kind, $parent, $name, $kind eq 'link' ? $worlds->_target : ();
+        push @{ $worlds->{paths} }, $at;
+        push @{ $worlds->{of}{$kind} }, $at;
+        return if $kind ne 'dir';
+        ($tree->{dirs}{$$number}, $parent) = ($at, $$number);
+    }
+    return;
+}
+
+# One of the paths that a promise opens, or one below it.
+sub _opened_path { return $_[0]->_opened_at($_[0]->_opening) }
+
+sub _opened_at {
+    my ($worlds, $opening) = @_;
+    my ($path) = split / /, $opening;
+    return $path =~ m{/\z} ? $path . $worlds->name : $path;
+}
+
+# A line on what a promise opens, as lists have it: mostly one about /tmp, or of stdio or dns.
+sub _opening {
+    my ($worlds) = @_;
+    my $promise = $worlds->pick(qw(dns dns getpw stdio stdio tmppath tmppath tmppath tty));
+    return $worlds->pick(@{ $OPENINGS{$promise} });
+}
+
+# A call that a promise opens on its path, which is spelled in several ways; seldom another call.
+sub opened_call {
+    my ($worlds) = @_;
+    my $opening = $worlds->_opening;
+    my $path = $worlds->_opened_at($opening);
+    ($opening, $path) = @{ $worlds->pick(@{ $worlds->{opened} }) } if $worlds->number(4);
+    my (undef, $calls) = split / /, $opening;
+    my $call = $worlds->number(8) ? $worlds->pick(split /,/, $calls) : $worlds->pick($worlds->calls);
+    return "$call " . $worlds->_spelled_somehow($path);
+}
+
+# A pledge of few promises, of which some open paths.
+sub opening_pledge {
+    my ($worlds, $asker) = @_;
+    return join ' ', $asker, 'pledge', $worlds->pick(@OPENERS), $worlds->promises(@EXECPROMISES);
+}
+
+# Lines of one process that pledges so, and asks for these paths.
+sub _opening_stretch {
+    my ($worlds, $asker) = @_;
+    my @calls = map { "$asker " . $worlds->opened_call } 0 .. 2 + $worlds->number(4);
+    return map { "$_\n" } $worlds->opening_pledge($asker), @calls;
+}
+
+# A path from the root, with dots, or slashes, that mostly lead to the same.
+sub _spelled_somehow {
+    my ($worlds, $path) = @_;
+    my $way = $worlds->number(24);
+    my ($above, $last) = $path =~ m{\A(.*)/(.*)\z};
+    return
+          $way == 0  ? "/$path"
+        : $way == 1  ? "$above//$last"
+        : $way == 2  ? "/.$path"
+        : $way == 3  ? "/..$path"
+        : $way == 4  ? '/' . $worlds->name . "/..$path"
+        : $way == 5  ? "$above/../" . $above =~ s{.*/}{}r . "/$last"
+        : $way == 6  ? "$path/"
+        : $way == 7  ? "$path/."
+        : $way == 8  ? "$path/../$last"
+        : $way == 9  ? "$above/" . $worlds->name . "/./..//$last"
+        : $way == 10 ? "$path/.."
+        : $way == 11 ? "$above/"
+        : $way == 12 ? $path =~ s{\A/}{}r
+        : $way == 13 ? "$path/" . $worlds->name
+        :              $path;
 }
 
 # A target of a link: a path that was listed already, or any one; so some dangle, and some lead in a circle.
@@ -214,6 +335,7 @@ sub requests {
 sub _request {
     my ($worlds) = @_;
     my @requests = (@REQUESTS, $worlds->{further} ? @MORE : (), $worlds->uses ? @WITHOUT_PATH : ());
+    push @requests, @OPENING_REQUESTS if $worlds->opens;
     my $request = $worlds->pick($worlds->number($SELDOM_IN) ? @requests : @SELDOM);
     return join ' ', map { $worlds->_drawn($_) } split / /, $request;
 }
@@ -235,9 +357,14 @@ sub calls { return (@CALLS, $_[0]{further} ? @FURTHER : ()) }
 sub promises {
     my ($worlds, @lists) = @_;
     my $list = $worlds->pick(@lists);
-    return $list if !$worlds->{further} || $list =~ /\A[-=]\z/ || $worlds->number(3) == 0;
-    return "$list," . $worlds->pick('unix', 'dpath', 'unix,dpath,chown');
+    return $list if !$worlds->{further} || $list =~ /\A[-=]\z/;
+    my @more = $worlds->number(3) ? $worlds->pick('unix', 'dpath', 'unix,dpath,chown') : ();
+    push @more, $worlds->pick(@BESIDE) if $worlds->opens && $worlds->number(3);
+    return join ',', $list, @more;
 }
+
+# Whether by the rules of the worlds promises open paths, and scripts ask for these.
+sub opens { return $_[0]{further} && $_[0]{openings} }
 
 # Whether scripts have calls without a path, and what one asks for.
 sub uses { return $_[0]{further} && !$_[0]{paths_alone} }
@@ -263,6 +390,9 @@ sub _drawn {
         : $word eq 'SET'          ? $worlds->promises(grep { $_ ne '-' } @EXECPROMISES)
         : $word eq 'NAME'         ? $worlds->name
         : $word eq 'USED'         ? $worlds->used
+        : $word eq 'OPENING'      ? $worlds->opened_call
+        : $word eq 'OPENED'       ? $worlds->_opened_path
+        : $word eq 'OPENERS'      ? $worlds->pick(@OPENERS)
         : $word eq 'CHILD'        ? $worlds->pick(3, 4)
         :                           $word;
 }
@@ -286,6 +416,7 @@ sub script {
     $is_early ? unshift @script, "1 fork 2\n" : push @script, "1 fork 2\n";
     for (defined $how->{lines} ? () : (1, 2)) {
         push @script, $worlds->requests(2 + $worlds->number(3), @askers), $worlds->_stretch($worlds->pick(1, 2));
+        push @script, $worlds->_opening_stretch($worlds->pick(1, 2)) if $worlds->opens && $worlds->number(2);
     }
     push @script, $worlds->requests($lines, @askers);
     push @script, map { $worlds->_end($_) } 1, 2 if !defined $how->{ends} || $how->{ends};

@@ -18,7 +18,8 @@ use Rattle.pua_script.specs.Requests.{Asked, is_symlink}
 use Rattle.pua_script.specs.FaultTexts.{script_told}
 use Rattle.pua_script.specs.Scripts.{PathForm, PledgeForm, ForkForm, UsesForm, asks_promises, form_of, further_set, sets_in, sets_of}
 use Rattle.pua_script.specs.Scripts.{action_of, action_in, request_of_fields, request_by, path_in, given_in, is_dash, perms_in}
-use Rattle.pua_script.specs.Scripts.{unveil_of, with_paths}
+use Rattle.pua_script.specs.Scripts.{is_blank, request_of_text, text_in, unveil_of, with_paths}
+use Rattle.pua_script.specs.Requests.{comment}
 use Rattle.pua_script.specs.declared.request.Given.{Given}
 use Rattle.pua_script.specs.declared.request.Action.{Action}
 use Rattle.pua_script.specs.declared.request.Action.TheVariants.{OnPath, Symlink, Rename, Link, Pledge, Unveil, Lock, Uses}
@@ -31,7 +32,7 @@ use Rattle.pua_advice.specs.Advice.{UnknownPromise, UnneededPromise, RepeatedPro
 use Rattle.pua_advice.specs.Advice.{uses_advice}
 use Rattle.pua_advice.specs.Advice.{EmptyPromise, is_visible, field_advice, form_advice, call_takes, arguments_of, misuse, number_advice}
 use Rattle.pua_advice.specs.Advice.{unspelled_advice, path_advice, list_advice, unveil_advice, alone_advice, one_advice, two_advice}
-use Rattle.pua_advice.specs.Advice.{action_advice, fields_advice, advice_of}
+use Rattle.pua_advice.specs.Advice.{action_advice, fields_advice, text_advice, advice_of}
 use Rattle.pua_advice.proofs.Words.{by_word, asked_symlink, symlink_taken, symlink_formless, exit_formless, rename_formless, link_formless}
 use Rattle.pua_advice.proofs.Words.{pledge_formless, unveil_formless}
 
@@ -391,17 +392,26 @@ module _ (rules : Rules) (n : ℕ) where
       (λ number. agree_made (action_advice rules more) (action_in rules n more) (λ action. record { process = number; action = action })
       (action_agrees more))
 
-  -- of a line
-  pub lines_agree : (line : List ℕ) → Agrees (advice_of rules line) (request_by rules n line)
-  lines_agree line = by (list_all is_field (fields line)) refl
+  -- of a text
+  texts_agree : (line : List ℕ) → Agrees (text_advice rules line) (request_of_text rules n line)
+  texts_agree line = by (list_all is_field (fields line)) refl
     where
       by : (b : Bool) → list_all is_field (fields line) ≡ b
-          → Agrees (advice_of rules line) (cond b (request_of_fields rules n (fields line)) (Err (BadLine n)))
+          → Agrees (text_advice rules line) (cond b (request_of_fields rules n (fields line)) (Err (BadLine n)))
       by true all = subst (λ o. Agrees (cond (is_some o) o (fields_advice rules (fields line))) (request_of_fields rules n (fields line)))
           (sym (well_formed line all)) (fields_agree (fields line))
       by false some =
           let wrong = ill_formed line some in
           subst (λ o. Agrees {A = Asked} (cond (is_some o) o (fields_advice rules (fields line))) (Err (BadLine n))) (sym wrong.2) (refl, form_fits wrong.0 wrong.1)
+
+  -- of a line
+  pub lines_agree : (line : List ℕ) → Agrees (advice_of rules line) (request_by rules n line)
+  lines_agree line = by (is_blank rules (text_in rules line))
+    where
+      by : (b : Bool) → Agrees (cond b None (text_advice rules (text_in rules line)))
+          (cond b (Ok comment) (request_of_text rules n (text_in rules line)))
+      by true = tt
+      by false = texts_agree (text_in rules line)
 
   pub unknown_fits : (line word : List ℕ) → advice_of rules line ≡ Some (UnknownCall word) → arguments_of rules word ≡ None
   unknown_fits line word e = by (request_by rules n line) (subst (λ o. Agrees o (request_by rules n line)) e (lines_agree line))

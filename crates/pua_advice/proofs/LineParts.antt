@@ -10,7 +10,7 @@ use Rattle.pua_tree.specs.Spelling.{fields, is_field}
 use Rattle.pua_tree.proofs.ForCallers.{guarded, None≢Some}
 use Rattle.pua_calls.specs.declared.rules.Rules.{Rules}
 use Rattle.pua_advice.specs.declared.arguments.Arguments.{Arguments}
-use Rattle.pua_advice.specs.Advice.{HiddenByte, is_visible, field_advice, form_advice, misuse, arguments_advice, fields_advice, advice_of}
+use Rattle.pua_advice.specs.Advice.{HiddenByte, is_visible, field_advice, form_advice, misuse, arguments_advice, fields_advice, text_advice}
 use Rattle.pua_advice.proofs.Agreeing.{well_formed, ill_formed}
 
 -- bytes that are some
@@ -45,16 +45,16 @@ six_decide rules (p ∷ w ∷ a ∷ []) = refl
 six_decide rules (p ∷ w ∷ a ∷ b ∷ []) = refl
 six_decide rules (p ∷ w ∷ a ∷ b ∷ c ∷ more) = refl
 
-pub by_form : (rules : Rules) (line : List ℕ) → None ≡ first_fields line → advice_of rules line ≡ form_advice line
+pub by_form : (rules : Rules) (line : List ℕ) → None ≡ first_fields line → text_advice rules line ≡ form_advice line
 by_form rules line e = by (list_all is_field (fields line)) refl e
   where
-    by : (b : Bool) → list_all is_field (fields line) ≡ b → None ≡ cond b (Some (take 6 (fields line))) None → advice_of rules line ≡ form_advice line
+    by : (b : Bool) → list_all is_field (fields line) ≡ b → None ≡ cond b (Some (take 6 (fields line))) None → text_advice rules line ≡ form_advice line
     by true all is = absurd (None≢Some (take 6 (fields line)) is)
     by false some is =
         let wrong = ill_formed line some in
         ap (λ o. cond (is_some o) o (fields_advice rules (fields line))) wrong.2 ∙ sym wrong.2
 
-pub by_fields : (rules : Rules) (line : List ℕ) (fs : List (List ℕ)) → Some fs ≡ first_fields line → advice_of rules line ≡ fields_advice rules fs
+pub by_fields : (rules : Rules) (line : List ℕ) (fs : List (List ℕ)) → Some fs ≡ first_fields line → text_advice rules line ≡ fields_advice rules fs
 by_fields rules line fs e =
     let read = guarded (list_all is_field (fields line)) (take 6 (fields line)) fs (sym e) in
     ap (λ o. cond (is_some o) o (fields_advice rules (fields line))) (well_formed line read.0)

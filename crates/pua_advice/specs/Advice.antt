@@ -13,7 +13,7 @@ use Rattle.pua_calls.specs.declared.rules.Rules.{Rules}
 use Rattle.pua_calls.specs.declared.call.Call.{Call}
 use Rattle.pua_script.specs.Limits.{most_number}
 use Rattle.pua_script.specs.Requests.{is_symlink}
-use Rattle.pua_script.specs.Scripts.{asks_promises, further_set, given_in, is_dash, path_in}
+use Rattle.pua_script.specs.Scripts.{asks_promises, further_set, given_in, is_blank, is_dash, path_in, text_in}
 use Rattle.pua_script.specs.FaultTexts.{script_told}
 use Rattle.pua_script.specs.declared.fault.ScriptFault.{ScriptFault}
 use Rattle.pua_advice.specs.declared.arguments.Arguments.{Arguments}
@@ -168,8 +168,12 @@ fields_advice rules [] = Some EmptyLine
 fields_advice rules (process ∷ more) = option_or (number_advice process) (action_advice rules more)
 
 -- what is said of a line by rules: of the first thing in it that is wrong, and None where nothing is
+abbrev pub text_advice : Rules → List ℕ → Option Advised
+text_advice rules text = if is_some (form_advice text) then form_advice text else fields_advice rules (fields text)
+
+-- a comment is no part of the text, and a line that has no text may stand there by OpenBSD's rules
 abbrev pub advice_of : Rules → List ℕ → Option Advised
-advice_of rules line = if is_some (form_advice line) then form_advice line else fields_advice rules (fields line)
+advice_of rules line = if is_blank rules (text_in rules line) then None else text_advice rules (text_in rules line)
 
 -- the line of a script with a number, which counts from 1
 abbrev pub line_at : List ℕ → ℕ → Option (List ℕ)

@@ -11,10 +11,15 @@ use Rattle.pua_advice.specs.Texts.{advice_text}
 
 -- lines whose words are not parted as they have to be, or have no number or call
 pub record FormRows : Type 0 where
-  pub empty_line : advice_of Openbsd [] ≡ Some EmptyLine
+  pub empty_line : advice_of Standard [] ≡ Some EmptyLine
+  pub empty_line_by_openbsd : advice_of Openbsd [] ≡ None
+  pub comment : advice_of Openbsd (codes "# x") ≡ None
+  pub standard_comment : advice_of Standard (codes "# x") ≡ Some (NoNumber (codes "#"))
+  pub before_comment : advice_of Openbsd (codes "1 stat # /") ≡ Some (Takes (codes "stat") Path)
   pub two_blanks : advice_of Openbsd (codes "1 stat  /") ≡ Some ExtraBlank
   pub blank_first : advice_of Openbsd (codes " 1 stat /") ≡ Some ExtraBlank
   pub blank_last : advice_of Openbsd (codes "1 stat / ") ≡ Some ExtraBlank
+  pub blanks_alone : advice_of Openbsd (codes "  ") ≡ None
   pub tab : advice_of Openbsd (codes "1" ++ 9 ∷ codes "stat /") ≡ Some (HiddenByte 9)
   pub letter_beyond_ascii : advice_of Openbsd (codes "1 stat /" ++ 195 ∷ 169 ∷ []) ≡ Some (HiddenByte 195)
   -- the first thing from the left, whatever stands before it
@@ -28,9 +33,14 @@ pub record FormRows : Type 0 where
 pub form_rows : FormRows
 form_rows = record {
   empty_line = refl;
+  empty_line_by_openbsd = refl;
+  comment = refl;
+  standard_comment = refl;
+  before_comment = refl;
   two_blanks = refl;
   blank_first = refl;
   blank_last = refl;
+  blanks_alone = refl;
   tab = refl;
   letter_beyond_ascii = refl;
   blank_before_byte = refl;
@@ -163,7 +173,7 @@ pub record BlameRows : Type 0 where
       ≡ Some (UnknownCall (codes "chroot"))
   pub carriage_return : script_advice Openbsd (codes "1 open" ++ 13 ∷ 10 ∷ []) (BadCall 1) ≡ Some (UnknownCall (codes "open"))
   pub last_without_end : script_advice Openbsd (codes "stat /") (BadLine 1) ≡ Some (NoNumber (codes "stat"))
-  pub empty_line : script_advice Openbsd (10 ∷ codes "1 stat /") (BadLine 1) ≡ Some EmptyLine
+  pub empty_line : script_advice Standard (10 ∷ codes "1 stat /") (BadLine 1) ≡ Some EmptyLine
   pub no_line : script_advice Openbsd (codes "1 open") TooMany ≡ None
 
 pub blame_rows : BlameRows

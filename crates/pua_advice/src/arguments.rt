@@ -3,9 +3,9 @@
 ghost use Rattle.std.specs.Prelude.{◌≡◌, option_map};
 ghost use Rattle.pua_advice.specs.Advice.{arguments_of, call_takes};
 ghost use Rattle.pua_advice.specs.Texts.{taken_text};
-ghost use Rattle.pua_script.specs.Scripts.{asks_promises};
 
 use pua_calls::{Call, Rules};
+use pua_script::asks_promises;
 
 /// What stands after the word of a call in a line of a script.
 #[derive(Clone, Copy, Debug, PartialEq, Eq)]
@@ -64,16 +64,6 @@ impl Arguments {
             Arguments::PathAndLetters => " takes a path and letters, or two -",
             Arguments::AnyPromises => " takes promises with | between them",
         }
-    }
-}
-
-/// Whether a line asks for promises by this word: by OpenBSD's rules alone.
-fn asks_promises(rules: Rules, word: &[u8]) -> bool
-    ensures { result ≡ asks_promises rules word.now }
-{
-    match rules {
-        Rules::Standard => false,
-        Rules::Openbsd => matches!(word, b"uses"),
     }
 }
 

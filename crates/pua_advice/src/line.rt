@@ -3,19 +3,19 @@
 ghost use Rattle.std.specs.Prelude.{◌≡◌, ◌∷◌, [], ◌-◌, IfOk, Some, map, option_map, slice_get};
 ghost use Rattle.std.specs.Option.{option_or};
 ghost use Rattle.pua_tree.specs.Spelling.{is_field};
-ghost use Rattle.pua_script.specs.Scripts.{has_empty_word, is_dash, is_equals};
 ghost use Rattle.pua_advice.specs.Advice.{action_advice, advice_of, advice_seen, alone_advice};
 ghost use Rattle.pua_advice.specs.Advice.{arguments_advice};
 ghost use Rattle.pua_advice.specs.Advice.{field_advice, fields_advice, form_advice, is_visible};
 ghost use Rattle.pua_advice.specs.Advice.{line_at, list_advice, misuse, number_advice, one_advice};
-ghost use Rattle.pua_advice.specs.Advice.{path_advice, script_advice, two_advice, unveil_advice};
+ghost use Rattle.pua_advice.specs.Advice.{path_advice, script_advice, text_advice, two_advice};
+ghost use Rattle.pua_advice.specs.Advice.{unveil_advice};
 
 use crate::advice::Advice;
 use crate::arguments::Arguments;
 use crate::promises::of_promises;
 use bstr::ByteSlice;
 use pua_calls::Rules;
-use pua_script::{MOST_NUMBER, ScriptFault};
+use pua_script::{MOST_NUMBER, ScriptFault, has_empty_word, is_blank, is_dash, is_equals, text_in};
 use pua_tree::{Fields, OutOfMemory, number_within, unspelled};
 use std::alloc::Global;
 
@@ -63,8 +63,23 @@ pub fn advise<'a>(
 ) -> Result<Option<Advice<'a>>, OutOfMemory>
     ensures { IfOk result (λ advice. option_map advice_seen advice ≡ advice_of rules line.now) }
 {
-    match Fields::read(line) {
-        None => Ok(of_form(line)),
+    let text = text_in(rules, line);
+    if is_blank(rules, text) {
+        return Ok(None);
+    }
+    of_text(alloc, rules, text)
+}
+
+/// What to say of what a line says before its comment.
+fn of_text<'a>(
+    alloc: Global,
+    rules: Rules,
+    text: &'a [u8],
+) -> Result<Option<Advice<'a>>, OutOfMemory>
+    ensures { IfOk result (λ advice. option_map advice_seen advice ≡ text_advice rules text.now) }
+{
+    match Fields::read(text) {
+        None => Ok(of_form(text)),
         Some(fields) => of_fields(alloc, rules, fields.as_slice()),
     }
 }
@@ -287,25 +302,4 @@ fn of_unveil<'a>(
         Some(advice) => Ok(Some(advice)),
         None => Ok(if is_dash(letters) { Some(other) } else { None }),
     }
-}
-
-/// Whether a list of keywords has an empty word: a comma stands first, last, or after another.
-fn has_empty_word(field: &[u8]) -> bool
-    ensures { result ≡ has_empty_word field.now }
-{
-    field
-        .split(|byte| *byte == b',')
-        .any(|word| word.is_empty())
-}
-
-fn is_dash(field: &[u8]) -> bool
-    ensures { result ≡ is_dash field.now }
-{
-    matches!(field, [b'-'])
-}
-
-fn is_equals(field: &[u8]) -> bool
-    ensures { result ≡ is_equals field.now }
-{
-    matches!(field, [b'='])
 }

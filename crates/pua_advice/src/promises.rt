@@ -1,14 +1,12 @@
 //! What is wrong with promises of which a call needs one.
 
 ghost use Rattle.std.specs.Prelude.{◌≡◌, IfOk, option_map};
-ghost use Rattle.std.specs.List.{list_any};
-ghost use Rattle.pua_calls.specs.Promises.{holds};
-ghost use Rattle.pua_script.specs.Scripts.{further_set, set_of_keyword};
 ghost use Rattle.pua_advice.specs.Advice.{advice_seen, keyword_advice, uses_advice};
 
 use crate::advice::Advice;
 use crate::arguments::Arguments;
 use pua_calls::Promises;
+use pua_script::further_set;
 use pua_tree::OutOfMemory;
 use std::alloc::Global;
 
@@ -45,39 +43,5 @@ fn of_keyword<'a>(call: &'a [u8], word: &'a [u8]) -> Advice<'a>
         Err(_unknown) => Advice::UnknownPromise(word),
         Ok(set) if set.contains(Promises::ERROR) => Advice::UnneededPromise(word),
         Ok(_) => Advice::RepeatedPromise(word),
-    }
-}
-
-/// The set of a keyword that is none of those before it.
-fn further_set(before: &[Promises], word: &[u8]) -> Option<Promises>
-    ensures { result ≡ further_set before.now word.now }
-{
-    let set = set_of_keyword(word)?;
-    if has_set(before, set) {
-        None
-    } else {
-        Some(set)
-    }
-}
-
-/// Whether one of these sets has all of another one.
-fn has_set(sets: &[Promises], set: Promises) -> bool
-    ensures { result ≡ list_any (λ other. holds other set) sets.now }
-{
-    sets.iter().any(|other| other.contains(set))
-}
-
-/// The set of one keyword that is not `error`.
-fn set_of_keyword(word: &[u8]) -> Option<Promises>
-    ensures { result ≡ set_of_keyword word.now }
-{
-    if word.is_empty() || word.contains(&b',') {
-        return None;
-    }
-    let set = Promises::read(word).ok()?;
-    if set.contains(Promises::ERROR) {
-        None
-    } else {
-        Some(set)
     }
 }

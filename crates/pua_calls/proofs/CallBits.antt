@@ -4,7 +4,7 @@ use Rattle.pua_calls.proofs.Common.{bit_or, bit_at, or_lt, calls, Call, Stat}
 use Rattle.std.proofs.Common.{◌+◌, max, min, nat_lt}
 use Rattle.std.proofs.Common.{◌%◌, inl, inr}
 use Rattle.std.proofs.lemmas.Bool.{cases_eq, cases_lt, lt-ltb, le-ltb}
-use Rattle.std.specs.Prelude.{◌≢◌, ◌&&◌, ◌||◌, not, bit_and}
+use Rattle.std.specs.Prelude.{◌≢◌, ◌&&◌, ◌||◌, bit_and}
 use Rattle.std.proofs.lemmas.List.{get_or-map}
 use Rattle.std.proofs.lemmas.List.FromFn.{get_or-range_with_len}
 use Rattle.std.proofs.lemmas.Nat.{and_le_l}

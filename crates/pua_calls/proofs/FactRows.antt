@@ -5,7 +5,7 @@ use Rattle.std.proofs.lemmas.List.{get_or-map, length-map}
 use Rattle.pua_calls.specs.declared.call.Facts.{Facts}
 use Rattle.pua_calls.specs.Facts.{seen_facts}
 use Rattle.pua_calls.specs.declared.promises.Keywords.{Keywords}
-use Rattle.pua_calls.specs.Calls.{About, about, listed, call_count, call_name, call_number}
+use Rattle.pua_calls.specs.Calls.{about, listed, call_count, call_name, call_number}
 
 -- each call has its place
 below : (call : Call) → call_number call - 1 < call_count

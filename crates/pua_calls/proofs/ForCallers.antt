@@ -9,5 +9,7 @@ pub use Rattle.pua_calls.proofs.NoError.{standard_needs_no_error, openbsd_needs_
 -- no table of calls that a text gives needs `error`, if the one doesn't over which it is read, and rename and link need
 -- what they need by that one
 pub use Rattle.pua_calls.proofs.SoundTexts.{texts_need_no_error, texts_keep_pairs}
+-- the table by which lists for ever go has these rules, and doesn't need `error` if the one doesn't of which it is
+pub use Rattle.pua_calls.proofs.TmpTable.{tmp_rule_is, tmp_table_needs_no_error}
 -- three sets of bits may be joined in either order
 pub use Rattle.pua_calls.proofs.Sets.{or_assoc}

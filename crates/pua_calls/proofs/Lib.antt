@@ -3,6 +3,7 @@ pub mod Sets
 pub mod CallBits
 pub mod NoError
 pub mod Rows
+pub mod TmpTable
 mod FactRows
 pub mod TableTexts
 pub mod TableExamples

@@ -60,4 +60,10 @@ openbsd_rows = record {
   further = refl;
   further_row = refl;
   no_further_row = refl;
+  one_more = refl;
+  more_of_makers = refl;
+  none_of_others = refl;
+  one_suffices = refl;
+  twice = refl;
+  none_by_standard = refl;
 }

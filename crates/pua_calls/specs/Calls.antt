@@ -3,7 +3,7 @@ use Rattle.std.specs.Prelude.{ℕ, ◌+◌, ◌-◌, ◌==◌, Bool, true, false
 use Rattle.std.specs.Prelude.{slice_index_or, unwrap_or}
 use Rattle.pua_tree.specs.Names.{same_bytes}
 use Rattle.pua_tree.specs.Listing.{only_if}
-use Rattle.pua_calls.specs.Promises.{rpath, wpath, cpath, dpath, fattr, chown, exec, unix, reading, writing, executing, creating}
+use Rattle.pua_calls.specs.Promises.{rpath, wpath, cpath, dpath, fattr, chown, exec, tmppath, unix, reading, writing, executing, creating}
 use Rattle.pua_path.specs.declared.text.Ending.{Ending}
 use Rattle.pua_path.specs.declared.text.Ending.TheVariants.{Dot, Dropped}
 use Rattle.pua_path.specs.declared.found.Last.{Last}
@@ -395,8 +395,8 @@ abbrev pub openbsd_table : CallTable
 openbsd_table = record { rules = map openbsd_rule calls; rename = openbsd_rename; link = openbsd_link; whose = Openbsd }
 
 -- what is said of a set of rules, in one place: the word that names it in commands; what calls need; what an exec leaves of
--- execpromises; the promises of which a call needs one where it changes the tree; whether lists say whose rules they are; and whether promises open
--- paths by themselves
+-- execpromises; the promises of which a call needs one where it changes the tree, or of which one opens it; whether lists say whose rules
+-- they are; and whether promises open paths by themselves
 pub record AboutRules : Type 0 where
   pub word : List ℕ
   pub table : CallTable
@@ -418,7 +418,7 @@ about_rules Openbsd = record {
   word = codes "openbsd";
   table = openbsd_table;
   execpromises = Stay;
-  changing = cpath ∷ unix ∷ dpath ∷ [];
+  changing = cpath ∷ unix ∷ dpath ∷ tmppath ∷ [];
   is_told = true;
   has_openings = true;
 }

@@ -2,7 +2,6 @@
 use Rattle.std.specs.Prelude.{◌∷◌, option_map}
 use Rattle.pua_calls.specs.Calls.{About, listed}
 use Rattle.pua_calls.specs.declared.call.Facts.{Facts}
-use Rattle.pua_calls.specs.declared.promises.Keywords.{Keywords}
 
 abbrev pub seen_facts : Facts → About
 seen_facts row = record {

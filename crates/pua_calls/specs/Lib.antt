@@ -6,6 +6,7 @@ pub mod Facts
 pub mod Calls
 pub mod Neighbours
 pub mod CallSets
+pub mod TmpTable
 pub mod Tables
 pub mod TableTexts
 pub mod FaultTexts

@@ -1,12 +1,13 @@
 -- Worked examples of texts and of the tables that they give.
-use Rattle.std.specs.Prelude.{◌≡◌, ℕ, true, not, List, [], ◌∷◌, ◌++◌, filter, Some, None, Ok, Err, codes}
+use Rattle.std.specs.Prelude.{◌≡◌, ◌+◌, ℕ, true, not, List, [], ◌∷◌, ◌++◌, filter, Some, None, Ok, Err, codes}
 use Rattle.std.specs.List.{list_all}
 use Rattle.pua_tree.specs.Examples.{text_of_lines}
-use Rattle.pua_calls.specs.Promises.{cpath}
+use Rattle.pua_calls.specs.Promises.{cpath, tmppath, wpath}
 use Rattle.pua_calls.specs.Calls.{calls, is_known, call_in, call_named, call_named_by, standard_table, openbsd_table, rule_of}
 use Rattle.pua_calls.specs.Tables.{IsCallTable}
+use Rattle.pua_calls.specs.TmpTable.{tmp_table}
 use Rattle.pua_calls.specs.TableTexts.{table_of, table_over, with_rule}
-use Rattle.pua_calls.specs.declared.call.Call.TheVariants.{Stat, OpenWrite, Mkdir, Unlink, Connect, Bind, Mknod, Chown, CreateBoth, Fchmod, Fchown}
+use Rattle.pua_calls.specs.declared.call.Call.TheVariants.{Stat, OpenWrite, Create, Mkdir, Unlink, Connect, Bind, Mknod, Chown, CreateBoth, Fchmod, Fchown}
 use Rattle.pua_calls.specs.Neighbours.{call_asked_by}
 use Rattle.pua_calls.specs.declared.rules.Rules.TheVariants.{Standard, Openbsd}
 use Rattle.pua_calls.specs.declared.table.read.TableFault.TheVariants.{BadToml, BadKey, BadRow, BadPromises, BadVeil}
@@ -75,3 +76,10 @@ pub record OpenbsdRows : Type 0 where
   pub further_row : table_over openbsd_table (text_of_lines (codes "[connect]" ∷ codes "promises = ['']" ∷ codes "veil = ''" ∷ []))
       ≡ Ok (with_rule openbsd_table Connect (record { alternatives = 0 ∷ []; perms = 0 }))
   pub no_further_row : table_of (text_of_lines (codes "[connect]" ∷ codes "promises = ['']" ∷ codes "veil = ''" ∷ [])) ≡ Err BadKey
+  -- in the table of lists for ever three calls have one more set, if theirs doesn't suffice already, and the others none
+  pub one_more : rule_of (tmp_table openbsd_table) Unlink ≡ record { alternatives = cpath ∷ tmppath ∷ []; perms = 8 }
+  pub more_of_makers : (rule_of (tmp_table openbsd_table) Create).alternatives ≡ (wpath + cpath) ∷ tmppath ∷ []
+  pub none_of_others : rule_of (tmp_table openbsd_table) Mkdir ≡ rule_of openbsd_table Mkdir
+  pub one_suffices : (rule_of (tmp_table (with_rule openbsd_table Unlink (record { alternatives = cpath ∷ 0 ∷ []; perms = 8 }))) Unlink).alternatives ≡ cpath ∷ 0 ∷ []
+  pub twice : tmp_table (tmp_table openbsd_table) ≡ tmp_table openbsd_table
+  pub none_by_standard : tmp_table standard_table ≡ standard_table

@@ -1,17 +1,26 @@
 -- What is true of each table of calls that is kept.
-use Rattle.std.specs.Prelude.{◌≡◌, ℕ, ◌-◌, ◌<◌, ◌^◌, List, ◌++◌, length, replicate, bit_and}
+use Rattle.std.specs.Prelude.{◌≡◌, ℕ, ◌-◌, ◌<◌, ◌^◌, ◌||◌, List, ◌++◌, length, nat_le, replicate, bit_and, IsTrue}
 use Rattle.std.specs.List.{AllByRecursion}
 use Rattle.pua_calls.specs.Promises.{error}
 use Rattle.pua_calls.specs.Calls.{Rule, PairRule, CallTable, call_count, rule_of}
+use Rattle.pua_calls.specs.TmpTable.{tmppath_suffices}
 use Rattle.pua_calls.specs.declared.call.Call.{Call}
 
--- at most so many alternatives have a call
+-- at most so many alternatives may a text name for a call
 abbrev pub most_alternatives : ℕ
 most_alternatives = 8
 
+-- and a row keeps at most so many, the last of them for `tmppath`
+abbrev pub most_kept : ℕ
+most_kept = 9
+
 -- alternatives as they are kept, with empty sets after them
 abbrev pub padded_sets : List ℕ → List ℕ
-padded_sets sets = sets ++ replicate (most_alternatives - length sets) 0
+padded_sets sets = sets ++ replicate (most_kept - length sets) 0
+
+-- there is room for one more where that is to come
+abbrev pub HasRoom : List ℕ → Type 0
+HasRoom sets = IsTrue (nat_le (length sets) most_alternatives || tmppath_suffices sets)
 
 -- a set of keywords without `error`, which a process can gain
 abbrev pub NamesNoError : ℕ → Type 0

@@ -11,14 +11,17 @@ pub use pair::{NameNeed, PairNeed};
 pub use read::TableFault;
 use std::marker::Model;
 
-/// A call has at most so many sets of promises of which it needs one (this profile).
+/// A text names at most so many sets of promises of which a call needs one (this profile).
 pub const MOST_ALTERNATIVES: usize = 8;
+
+/// A row has room for one more, which `with_tmppath` adds.
+const MOST_KEPT: usize = 9;
 
 /// What one call needs: one of these sets of promises, and each of these permissions. After the
 /// sets stand empty ones. Contracts see the sets as a list.
 #[derive(Clone, Copy)]
 struct RuleRow {
-    sets: [Promises; MOST_ALTERNATIVES],
+    sets: [Promises; MOST_KEPT],
     count: u8,
     perms: Perms,
 }
@@ -26,14 +29,15 @@ struct RuleRow {
 impl Model for RuleRow {
     ghost use Rattle.std.specs.Prelude.{◌≡◌, ◌≤◌, length, take};
     ghost use Rattle.pua_calls.specs.Calls.{Rule};
-    ghost use Rattle.pua_calls.specs.Tables.{most_alternatives, padded_sets};
+    ghost use Rattle.pua_calls.specs.Tables.{HasRoom, most_kept, padded_sets};
 
     ghost Value = { Rule };
 
     ghost view = { λ a. record { alternatives = take a.count a.sets; perms = a.perms } };
 
     ghost invariant = { λ a. (padded_sets (take a.count a.sets) ≡ a.sets)
-        × (length (take a.count a.sets) ≡ a.count) × (a.count ≤ most_alternatives) };
+        × (length (take a.count a.sets) ≡ a.count) × (a.count ≤ most_kept)
+        × HasRoom (take a.count a.sets) };
 
     ghost inverse = { λ r. record {
       sets = padded_sets r.alternatives;
@@ -86,12 +90,15 @@ ghost use Rattle.pua_calls.specs.Calls.{standard_rule, standard_table, openbsd_r
 ghost use Rattle.pua_calls.specs.Calls.{call_count, call_in, execpromises_by, table_by_rules};
 ghost use Rattle.pua_calls.specs.Calls.{rule_of};
 ghost use Rattle.pua_calls.specs.Tables.{NeedsNoError, NoCallNeedsError, most_alternatives};
+ghost use Rattle.pua_calls.specs.Tables.{most_kept};
 ghost use Rattle.pua_calls.specs.TableTexts.{with_rule};
+ghost use Rattle.pua_calls.specs.TmpTable.{rule_with_tmppath, tmp_table, tmppath_suffices};
+ghost use Rattle.pua_calls.specs.Promises.{tmppath};
 
 impl RuleRow {
     /// A row without alternatives, and without permissions.
     const NONE: RuleRow = RuleRow {
-        sets: [Promises::NONE; MOST_ALTERNATIVES],
+        sets: [Promises::NONE; MOST_KEPT],
         count: 0,
         perms: Perms::NONE,
     };
@@ -109,7 +116,7 @@ impl RuleRow {
     fn one(promises: Promises, perms: Perms) -> RuleRow
         ensures { result ≡ record { alternatives = promises ∷ []; perms = perms } }
     {
-        let mut sets = [Promises::NONE; MOST_ALTERNATIVES];
+        let mut sets = [Promises::NONE; MOST_KEPT];
         sets[0] = promises;
         RuleRow {
             sets,
@@ -123,6 +130,36 @@ impl RuleRow {
         ensures { result.now ≡ self.now.alternatives }
     {
         &self.sets[..self.count as usize]
+    }
+
+    /// Whether who holds tmppath alone holds one of the sets.
+    fn tmppath_suffices(&self) -> bool
+        ensures { result ≡ tmppath_suffices self.now.alternatives }
+    {
+        self.alternatives()
+            .iter()
+            .any(|set| Promises::TMPPATH.contains(*set))
+    }
+
+    /// Adds tmppath to the alternatives, after the others.
+    fn add_tmppath(&mut self)
+        requires { length self.old.alternatives < most_kept }
+        ensures { self.new
+            ≡ record self.old { alternatives = self.old.alternatives ++ tmppath ∷ [] } }
+    {
+        self.sets[self.count as usize] = Promises::TMPPATH;
+        self.count += 1;
+    }
+
+    /// The same row for who holds tmppath too.
+    fn with_tmppath(self) -> RuleRow
+        ensures { result ≡ rule_with_tmppath self }
+    {
+        let mut row = self;
+        if !row.tmppath_suffices() {
+            row.add_tmppath();
+        }
+        row
     }
 
     /// What a call needs by this project's own table.
@@ -192,6 +229,28 @@ impl CallTable {
         }
     }
 
+    /// The table by which lists for ever go: the same, but that where promises open paths by
+    /// themselves, who holds tmppath may make the calls that it opens, whatever their path.
+    pub fn with_tmppath(&self) -> CallTable
+        ensures { result ≡ tmp_table self.now }
+    {
+        let mut table = *self;
+        if self.whose.has_openings() {
+            table.add_tmppath(Call::Create);
+            table.add_tmppath(Call::Unlink);
+            table.add_tmppath(Call::CreateBoth);
+        }
+        table
+    }
+
+    /// Adds tmppath to the sets of a call.
+    fn add_tmppath(&mut self, call: Call)
+        ensures { self.new ≡ with_rule self.old call (rule_with_tmppath (rule_of self.old call)) }
+    {
+        let row = self.rows[call.number() as usize - 1];
+        self.set(call, row.with_tmppath());
+    }
+
     /// Puts a row in the place of a call's.
     fn set(&mut self, call: Call, row: RuleRow)
         requires { NeedsNoError row }
@@ -208,7 +267,7 @@ impl CallTable {
         (!self.alternatives(call).is_empty()).then_some(call)
     }
 
-    /// The sets of promises of which a call needs one, each promise in it. At most 8.
+    /// The sets of promises of which a call needs one, each promise in it. At most 9.
     pub fn alternatives(&self, call: Call) -> &[Promises]
         ensures { result.now ≡ (rule_of self.now call).alternatives }
     {

@@ -8,6 +8,8 @@ use Rattle.pua_ever.proofs.Common.{Members, first_tree, cover_in, covers_descend
 use Rattle.pua_ever.proofs.Common.{Call, EditsNeedC, VeilsStand, Cover, can_move, may_rename, Bool, Option, rule_of, allowed_unless}
 use Rattle.pua_ever.proofs.Common.{if_promised, or_fault}
 use Rattle.pua_path.specs.declared.errno.Errno.{Errno}
+use Rattle.pua_calls.specs.TmpTable.{tmp_table}
+use Rattle.pua_calls.proofs.ForCallers.{tmp_table_needs_no_error}
 use Rattle.pua_script.specs.Confinement.{object_in}
 use Rattle.pua_script.proofs.ForCallers.{same_cover}
 use Rattle.pua_script.proofs.ForCallers.{each_spares, by_other}
@@ -107,24 +109,27 @@ module _ (table : CallTable) (sound : NoCallNeedsError table) (now a : ProcessSt
 
 module _ (table : CallTable) (sound : NoCallNeedsError table) (needs : EditsNeedC table) (t0 : Tree) (now : ProcessState) (well0 : WellFormed t0)
     (stand : VeilsStand t0 now) where
+  abbrev tmp : CallTable
+  tmp = tmp_table table
+
   pub stays_along : (asks : List Asked) (w : World) (members : List ℕ) → Members w members now false →
       NoExecLoosens table now w asks members
-      → MembersEdit table w asks members → TreesAlong table w asks → Stays table t0 now well0 stand w.tree →
-      Stays table t0 now well0 stand (world_after table w asks).tree
+      → MembersEdit table w asks members → TreesAlong table w asks → Stays tmp t0 now well0 stand w.tree →
+      Stays tmp t0 now well0 stand (world_after table w asks).tree
   stays_along [] w members are none edit trees k = k
   stays_along (ask ∷ asks) w members are none edit trees k =
       stays_along asks (apply table w ask).1 (family_then table w ask members)
       (members_still table now w ask members are none.0) none.1 edit.1 trees.1 (step edit.0)
     where
       step : (is_member members ask.process ≡ true) ⊎ ((apply table w ask).1.tree ≡ w.tree) →
-          Stays table t0 now well0 stand (apply table w ask).1.tree
+          Stays tmp t0 now well0 stand (apply table w ask).1.tree
       step (inl belongs) =
           let asker = are ask.process belongs in
           let after = (apply table w ask).1 in
           let well = first_tree table after asks trees.1 in
           let spared = by_other asker.0 now asker.2.within.tightens.unveils w.tree after.tree
           (each_spares table (takes table needs) w ask asker.0 trees.0 well asker.1) in
-          let grown = grown_within table sound now asker.0 asker.2.within w.tree trees.0 after.tree
+          let grown = grown_within tmp (tmp_table_needs_no_error table sound) now asker.0 asker.2.within w.tree trees.0 after.tree
           (requests_grow table needs w ask asker.0 trees.0 asker.1) in
-          stays_then table t0 now well0 stand w.tree after.tree k well grown spared
-      step (inr same) = subst (Stays table t0 now well0 stand) (sym same) k
+          stays_then tmp t0 now well0 stand w.tree after.tree k well grown spared
+      step (inr same) = subst (Stays tmp t0 now well0 stand) (sym same) k

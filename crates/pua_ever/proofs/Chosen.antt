@@ -1,14 +1,13 @@
 -- Which list it is that holds longest, and what a list of who holds both sets says of it.
 use Rattle.pua_ever.proofs.Common.{◌≡◌, ℕ, Bool, true, false, refl, Option, Some, None, if◌then◌else◌, has, Call, Tree, CallTable, ProcessState}
 use Rattle.pua_ever.proofs.Common.{ever, Some≢None, state_after}
-use Rattle.pua_ever.proofs.Common.{ap, list_any, map, List, [], ◌∷◌, ◌≢◌, ◌||◌}
 use Rattle.std.specs.Prelude.{find}
-use Rattle.pua_policy.specs.States.{Locked, with_both}
+use Rattle.pua_calls.specs.TmpTable.{tmp_table}
+use Rattle.pua_policy.specs.States.{Locked, held_for_exec, with_both}
 use Rattle.pua_ever.specs.Refusals.{refusal, can_unveil, lacks_c, changing_calls, table_refusal}
 use Rattle.pua_ever.specs.declared.refusal.EverRefusal.{EverRefusal}
 use Rattle.pua_ever.specs.declared.refusal.EverRefusal.TheVariants.{CanUnveil}
 use Rattle.pua_ever.specs.Through.{is_promised_by_one, only_through, ever_through, has_exec, bound_of, ever_lasting, execs_of}
-use Rattle.pua_ever.specs.Through.{execs_unlisted, starts_made}
 use Rattle.pua_ever.specs.declared.lasting_list.ExecBound.TheVariants.{Never, Bounded, Open}
 
 -- the lines of who holds both sets, with the calls that one lets through, are the list through execs
@@ -38,16 +37,8 @@ lasting_unstarted t table h none = by (bound_of table h) refl
     by (Some given) is = lasting_alone t table h given is none
 
 -- what the list says of execs
-pub starts_unlisted : (t : Tree) (table : CallTable) (h : ProcessState) → has_exec (ever t table h) ≡ false →
-    execs_of t table h ≡ execs_unlisted table h
-starts_unlisted t table h none = rw none refl
-
-pub unlisted_unbounded : (table : CallTable) (h : ProcessState) → execs_unlisted table h ≢ Bounded
-unlisted_unbounded table h = by (starts_made table h)
-  where
-    by : (b : Bool) → (if b then Open else Never) ≢ Bounded
-    by true e = cc
-    by false e = cc
+pub starts_none : (t : Tree) (table : CallTable) (h : ProcessState) → has_exec (ever t table h) ≡ false → execs_of t table h ≡ Never
+starts_none t table h none = rw none refl
 
 pub starts_open : (t : Tree) (table : CallTable) (h : ProcessState) → has_exec (ever t table h) ≡ true → bound_of table h ≡ None →
     execs_of t table h ≡ Open
@@ -66,8 +57,10 @@ unrefused_both table h given = by (can_unveil h) (table_refusal table (find (lac
     by true o e = absurd (Some≢None CanUnveil e)
     by false o e = e
 
--- some of what is seen passes, where some does by how it is seen
-pub any_seen : {A B : Type 0} (seen : A → B) (test : B → Bool) (xs : List A) →
-    list_any test (map seen xs) ≡ list_any (λ x. test (seen x)) xs
-any_seen seen test [] = refl
-any_seen seen test (x ∷ xs) = ap (◌||◌ (test (seen x))) (any_seen seen test xs)
+-- the table with one more set of some calls bounds the same programs
+pub bound_too : (table : CallTable) (h : ProcessState) → bound_of (tmp_table table) h ≡ bound_of table h
+bound_too table h = by (held_for_exec h) refl
+  where
+    by : (o : Option ℕ) → held_for_exec h ≡ o → bound_of (tmp_table table) h ≡ bound_of table h
+    by None is = rw is refl
+    by (Some given) is = rw is refl

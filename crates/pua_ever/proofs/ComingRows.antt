@@ -1,5 +1,5 @@
 -- Under which veils what a row is about comes, by where it stands.
-use Rattle.pua_ever.proofs.Common.{◌≡◌, ℕ, List, true, false, refl, ap, subst, sym, ◌∙◌, Option, Some, None, option_map, is_some, None≢Some, same_Some}
+use Rattle.pua_ever.proofs.Common.{◌≡◌, ℕ, List, true, refl, ap, subst, sym, ◌∙◌, Option, Some, None, option_map, is_some, None≢Some, same_Some}
 use Rattle.pua_ever.proofs.Common.{false≢true, Tree, WellFormed, is_dir, look, row_says, sound_from, Whole, Slot, Way, Named, CallTable}
 use Rattle.pua_ever.proofs.Common.{ProcessState, Cover, cover, cover_in, covers_descend, Subject, SubjectFits, At, Others, Stands}
 use Rattle.std.specs.Prelude.{IfSome}

@@ -47,12 +47,12 @@ pub use Rattle.pua_script.specs.Decide.{Change, change_by, CopyAs}
 pub use Rattle.pua_script.specs.Family.{family_then, is_done, is_exec, is_member, members_alone, none_done}
 pub use Rattle.pua_script.specs.Guards.{IsDecided}
 pub use Rattle.pua_script.specs.Limits.{most_processes}
-pub use Rattle.pua_script.specs.Replay.{apply, change_effect, Copies, Fails, kept_at, put_at, World, world_after}
+pub use Rattle.pua_script.specs.Replay.{apply, change_effect, Copies, Fails, kept_at, World, world_after}
 pub use Rattle.pua_script.specs.Requests.{Asked}
 pub use Rattle.pua_script.specs.Tightening.{NoCallNeedsError}
 pub use Rattle.pua_script.specs.Worlds.{tree_left}
 pub use Rattle.pua_script.specs.declared.request.Action.{Action}
-pub use Rattle.pua_script.specs.declared.request.Action.TheVariants.{Exit, Fork, Link, Lock, OnPath, Pledge, Rename, Symlink, Unveil, Uses}
+pub use Rattle.pua_script.specs.declared.request.Action.TheVariants.{Exit, Fork, Link, Lock, OnPath, Pledge, Rename, Symlink, Unveil, Uses, Comment}
 pub use Rattle.pua_tree.proofs.ForCallers.{exact_spots, None≢Some, Reaches, row_of, row_says, same_dir, same_Some, Some≢None, sound_from}
 pub use Rattle.pua_tree.proofs.ForCallers.{spots_total}
 pub use Rattle.pua_tree.specs.Tree.{above, climb, empty_tree, has_no_row, is_dir, is_dir_kind, is_empty, is_living, kind_at, look, Node}

@@ -9,7 +9,14 @@ use Rattle.pua_calls.specs.Calls.{ending_of, last_of}
 use Rattle.pua_script.specs.Family.{family, HasKept}
 use Rattle.pua_script.proofs.ForCallers.{begins, at_all}
 use Rattle.pua_ever.specs.Laws.{ActsWithin, EverBeside, EverComplete, EverOfMany, EverWithExecs, Foresees, ForeseesStarts, MembersEdit}
-use Rattle.pua_ever.specs.Laws.{NoExecLoosens, StartsForeseen}
+use Rattle.pua_ever.specs.Laws.{IsAccountedFor, NoExecLoosens, OkaysAreForeseen, StartsForeseen}
+use Rattle.pua_calls.specs.TmpTable.{tmp_table}
+use Rattle.pua_calls.proofs.ForCallers.{tmp_table_needs_no_error}
+use Rattle.pua_policy.specs.Verdict.{object_named, verdict_on}
+use Rattle.pua_script.specs.OpeningLaws.{Accounted, by_verdict, by_opening}
+use Rattle.pua_script.specs.Tightening.{Tightens}
+use Rattle.pua_script.proofs.ForCallers.{okays_are_accounted, openings_are_held, openings_narrow, tmp_table_allows}
+use Rattle.pua_ever.proofs.Common.{Call, same_Some, subst, working_dir}
 use Rattle.pua_ever.proofs.Common.{◌∙◌, sym, cover, cover_fault, Found, is_yes, may_any, May, named_within_text, object_fault, resolutions_fit}
 use Rattle.pua_ever.proofs.Common.{rule_of, Slot}
 use Rattle.pua_calls.specs.declared.call.Call.TheVariants as call
@@ -37,24 +44,26 @@ pub complete_within : (table : CallTable) → NoCallNeedsError table → EditsNe
     Members w members now false → VeilsStand w.tree now → TreesAlong table w asks → NoExecLoosens table now w asks members →
     MembersEdit table w asks members →
     (member : ℕ) → is_member (family table w asks members) member ≡ true →
-    HasKept (world_after table w asks) member (Foresees w.tree table now (world_after table w asks).tree)
+    HasKept (world_after table w asks) member (Foresees w.tree (tmp_table table) now (world_after table w asks).tree)
 complete_within table sound needs w asks members now are stand trees none alone member belongs =
+    let tmp = tmp_table table in
     let well = first_tree table w asks trees in
     let u = (world_after table w asks).tree in
-    let k = stays_along table sound needs w.tree now well stand asks w members are none alone trees (at_first table w.tree now well stand)
+    let k = stays_along table sound needs w.tree now well stand asks w members are none alone trees (at_first (tmp_table table) w.tree now well stand)
     in
     let last = members_along table now asks w members are none member belongs in
-    let edit : (may_edit table now ≡ true) ⊎ (u ≡ w.tree) =
-    by (may_edit table now) refl (λ lacks. unedited_along table sound now lacks asks w members are none alone) in (
+    let edit : (may_edit (tmp_table table) now ≡ true) ⊎ (u ≡ w.tree) =
+    by (may_edit (tmp_table table) now) refl (λ lacks. unedited_along table sound now lacks asks w members are none alone) in (
       last.0,
       last.1,
       λ from call text e.
           let named = resolution_of_text u from (ending_of call) text (last_of call) in
-          let allowed = verdicts_within now last.0 last.2.within table sound u call named (ap is_allowed e) in
-          foreseen table w.tree now well stand u k edit call from text (allowed_is (verdict_of u table now call named) allowed),
+          let allowed = verdicts_within now last.0 last.2.within tmp (tmp_table_needs_no_error table sound) u call named (ap is_allowed e) in
+          foreseen tmp w.tree now well stand u k edit call from text (allowed_is (verdict_of u tmp now call named) allowed),
     )
   where
-    by : {u t : Tree} (b : Bool) → may_edit table now ≡ b → (may_edit table now ≡ false → u ≡ t) → (may_edit table now ≡ true) ⊎ (u ≡ t)
+    by : {u t : Tree} (b : Bool) → may_edit (tmp_table table) now ≡ b → (may_edit (tmp_table table) now ≡ false → u ≡ t) →
+        (may_edit (tmp_table table) now ≡ true) ⊎ (u ≡ t)
     by true is same = inl is
     by false is same = inr (same is)
 
@@ -63,7 +72,7 @@ pub beside_one : (table : CallTable) → NoCallNeedsError table → EditsNeedC t
     kept_at w process ≡ Some now → IsConfined now → VeilsStand w.tree now → TreesAlong table w asks →
     none_done is_exec table w asks (process ∷ []) ≡ true → MembersEdit table w asks (process ∷ []) →
     (member : ℕ) → is_member (family table w asks (process ∷ [])) member ≡ true →
-    HasKept (world_after table w asks) member (Foresees w.tree table now (world_after table w asks).tree)
+    HasKept (world_after table w asks) member (Foresees w.tree (tmp_table table) now (world_after table w asks).tree)
 beside_one table sound needs w asks process now here confined stand trees none edit member belongs =
     complete_within table sound needs w asks (process ∷ []) now (at_all w (process ∷ []) now (begins table now w process here confined))
     stand trees (none_loosens table now asks w (process ∷ []) none) edit member belongs
@@ -81,6 +90,30 @@ all_within w members now acts m belongs =
 pub ever_with_execs : EverWithExecs
 ever_with_execs table sound needs w asks members now acts stand trees none edit member belongs =
     complete_within table sound needs w asks members now (all_within w members now acts) stand trees none edit member belongs
+
+-- what is answered ok is allowed by the verdict, or opened by a promise that is held, which was held before
+accounted_before : (table : CallTable) (w : World) (now : ProcessState) (after : World) (h : ProcessState) →
+    Foresees w.tree (tmp_table table) now after.tree h → Tightens now h → (call : Call) (text : List ℕ) →
+    Accounted table after.tree h call text → IsAccountedFor w.tree table now after.tree h call text
+accounted_before table w now after h seen tight call text (by_verdict allowed) =
+    inl (seen (working_dir h) call text (allowed_is (verdict_on after.tree (tmp_table table) h call text)
+    (tmp_table_allows table after.tree h call (object_named after.tree h call text) allowed)))
+accounted_before table w now after h seen tight call text (by_opening o is) =
+    inr (openings_narrow now h tight call text (openings_are_held table h call text o is))
+
+pub okays_are_foreseen : OkaysAreForeseen
+okays_are_foreseen table sound needs w asks members now acts stand trees none edit member belongs =
+    let are = all_within w members now acts in
+    let after = world_after table w asks in
+    let seen = complete_within table sound needs w asks members now are stand trees none edit member belongs in
+    let last = members_along table now asks w members are none member belongs in
+    let same : seen.0 ≡ last.0 = same_Some seen.0 last.0 (sym seen.1 ∙ last.1) in (
+      seen.0,
+      seen.1,
+      λ call text okay. accounted_before table w now after seen.0 seen.2
+          (subst (λ h. Tightens now h) (sym same) last.2.within.tightens) call text
+          (okays_are_accounted table after member call text seen.0 seen.1 okay),
+    )
 
 pub ever_beside : EverBeside
 ever_beside table sound needs w asks members now acts stand trees none edit member belongs =
@@ -101,15 +134,15 @@ pub starts_within : (table : CallTable) → NoCallNeedsError table → EditsNeed
     Members w members now false → VeilsStand w.tree now → TreesAlong table w asks → NoExecLoosens table now w asks members →
     MembersEdit table w asks members →
     (member : ℕ) → is_member (family table w asks members) member ≡ true →
-    HasKept (world_after table w asks) member (ForeseesStarts w.tree table now (world_after table w asks).tree)
+    HasKept (world_after table w asks) member (ForeseesStarts w.tree (tmp_table table) now (world_after table w asks).tree)
 starts_within table sound needs w asks members now are stand trees loosens edit member belongs =
     let well = first_tree table w asks trees in
     let u = (world_after table w asks).tree in
-    let k = stays_along table sound needs w.tree now well stand asks w members are loosens edit trees (at_first table w.tree now well stand)
+    let k = stays_along table sound needs w.tree now well stand asks w members are loosens edit trees (at_first (tmp_table table) w.tree now well stand)
     in
     let last = members_along table now asks w members are loosens member belongs in
-    let edits : (may_edit table now ≡ true) ⊎ (u ≡ w.tree) =
-    by (may_edit table now) refl (λ lacks. unedited_along table sound now lacks asks w members are loosens edit) in (
+    let edits : (may_edit (tmp_table table) now ≡ true) ⊎ (u ≡ w.tree) =
+    by (may_edit (tmp_table table) now) refl (λ lacks. unedited_along table sound now lacks asks w members are loosens edit) in (
       last.0,
       last.1,
       λ from text dir name x named kinds allowed.
@@ -119,7 +152,7 @@ starts_within table sound needs w asks members now are stand trees loosens edit 
           let needed = rule_of table call.Exec in
           let parts = parts_of (may_any last.0 needed.alternatives) (cover_fault (cover u last.0 object) needed.perms)
           (object_fault table.whose u call.Exec IsProg) allowed in
-          start_foreseen table w.tree now well stand u k edits dir name x found.named.1 kinds (record {
+          start_foreseen (tmp_table table) w.tree now well stand u k edits dir name x found.named.1 kinds (record {
             may = yes_is (may_any now needed.alternatives)
                 (yes_before table sound now last.0 last.2.within needed.alternatives (sound.calls call.Exec) (ap is_yes parts.may));
             covered = ap (λ left. cover_fault left needed.perms) (sym (same_cover last.0 now last.2.within.tightens.unveils u object)) ∙
@@ -128,7 +161,8 @@ starts_within table sound needs w asks members now are stand trees loosens edit 
           }),
     )
   where
-    by : {u t : Tree} (b : Bool) → may_edit table now ≡ b → (may_edit table now ≡ false → u ≡ t) → (may_edit table now ≡ true) ⊎ (u ≡ t)
+    by : {u t : Tree} (b : Bool) → may_edit (tmp_table table) now ≡ b → (may_edit (tmp_table table) now ≡ false → u ≡ t) →
+        (may_edit (tmp_table table) now ≡ true) ⊎ (u ≡ t)
     by true is same = inl is
     by false is same = inr (same is)
 

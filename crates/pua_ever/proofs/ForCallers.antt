@@ -15,8 +15,7 @@ pub use Rattle.pua_ever.proofs.Through.{no_line}
 pub use Rattle.pua_ever.proofs.ComingRows.{by_standing}
 pub use Rattle.pua_ever.proofs.RowsLast.{rows_by_both}
 -- the list that holds longest, by who holds both sets
-pub use Rattle.pua_ever.proofs.Chosen.{lasting_unbounded, lasting_alone, lasting_through, starts_open, starts_unlisted}
-pub use Rattle.pua_ever.proofs.Chosen.{unlisted_unbounded}
+pub use Rattle.pua_ever.proofs.Chosen.{lasting_unbounded, lasting_alone, lasting_through, starts_none, starts_open}
 -- what an item is about stands in its tree, what covers that now is among the covers under which it can come, and which others are
 pub use Rattle.pua_ever.proofs.Now.{StandsNow, items_stand, dir_cover, file_cover}
 pub use Rattle.pua_ever.proofs.Ending.{named_moved, named_linked}
@@ -35,3 +34,25 @@ pub use Rattle.pua_ever.proofs.Covers.{below_next}
 pub use Rattle.pua_ever.proofs.Through.{first_of, second_of}
 -- what is so of a new process is so of each in a new world
 pub use Rattle.pua_ever.proofs.Leaving.{first_so as first_new}
+-- of lists of several processes with other veils: what one request leaves, and what a replay does
+pub use Rattle.pua_ever.proofs.Along.{grown_within}
+pub use Rattle.pua_ever.proofs.Growing.{takes, requests_grow}
+pub use Rattle.pua_ever.proofs.Grown.{Grown, Written, by_name, by_turn, From, is_new, is_moved, is_linked, Born, name_cover, new_kind}
+pub use Rattle.pua_ever.proofs.Execs.{members_still}
+pub use Rattle.pua_ever.proofs.Holding.{lacks_unveil, along_then}
+pub use Rattle.pua_ever.proofs.NoExec.{execs_then}
+pub use Rattle.pua_ever.proofs.Unedited.{yes_before}
+pub use Rattle.pua_ever.proofs.Complete.{all_within}
+pub use Rattle.pua_ever.proofs.VeilPlacesGiven.{new_places, replays_keep_places}
+-- which numbers were given, which rows are new, and what stands above what
+pub use Rattle.pua_ever.proofs.Covers.{given_or_new, dir_row, slot_row, own_dir, under_dir}
+pub use Rattle.pua_ever.proofs.Quiet.{below_self, below_up, above_row, root_below, not_empty, way_up}
+pub use Rattle.pua_ever.proofs.Ending.{named_link, one_new, parts_of, Parts}
+pub use Rattle.pua_ever.proofs.KindFaults.{plain_alike}
+pub use Rattle.pua_ever.proofs.Ways.{all_among}
+pub use Rattle.pua_ever.proofs.ExecCalls.{exec_or_other}
+-- rows of items and of their names, one after another
+pub use Rattle.pua_ever.proofs.Lined.{freed_name}
+pub use Rattle.pua_ever.proofs.Named.{own_name_is}
+pub use Rattle.pua_ever.proofs.RowsTell.{all_more, freed_on, freed_thing, last_row_more, row_word, same_word, told_more, near_at, told_at}
+pub use Rattle.pua_ever.proofs.RowsTell.{own_last, standing_there}

@@ -6,7 +6,7 @@ use Rattle.pua_ever.proofs.Common.{None≢Some, is_link_kind, Followed, resoluti
 use Rattle.pua_ever.proofs.Common.{is_kept, ProcessState, may_any, working_dir, IsMissing, cover, cover_fault, covered_verdict, or_fault}
 use Rattle.pua_ever.proofs.Common.{object_fault, allowed_unless, if_promised, is_allowed, Call, Asked, most_processes, World, Fails, Copies}
 use Rattle.pua_ever.proofs.Common.{change_effect, kept_at, apply, tree_left, Action, OnPath, Symlink, Rename, Link, Pledge, Unveil, Lock}
-use Rattle.pua_ever.proofs.Common.{Fork, Exit, Uses, has_c, Change, CopyAs, change_by, IsDecided, by_going, covers_descend, named_within_text}
+use Rattle.pua_ever.proofs.Common.{Fork, Exit, Uses, Comment, has_c, Change, CopyAs, change_by, by_going, covers_descend, named_within_text}
 use Rattle.pua_ever.proofs.Common.{row_cover, is_yes, can_link, can_move, may_rename, New, NewDir, NewFile, NewLink, EditsNeedC, List, FoundFits}
 use Rattle.std.proofs.Common.{not}
 use Rattle.std.specs.Prelude.{length}
@@ -26,10 +26,11 @@ use Rattle.pua_script.specs.Judged.{NameFits}
 use Rattle.pua_script.specs.Confinement.{TakingNeedsC, changes_names}
 use Rattle.pua_script.specs.Decide.{NoChange, AddNode, CutRow, ShiftRow, TieRow, adding, making, made_by, shifting, fault_if}
 use Rattle.pua_script.specs.Decide.{is_whole, plain_node, link_node, kinds_fault}
-use Rattle.pua_script.specs.Guards.{IsShift}
+use Rattle.pua_script.specs.Guards.{IsGranted, IsShift}
 use Rattle.pua_script.proofs.ForCallers.{name_fits, c_from_cover, covered_by_c, by_tree, by_own_tree, by_cutting}
-use Rattle.pua_script.proofs.ForCallers.{by_tying, first_none, second_none, not_faulty}
+use Rattle.pua_script.proofs.ForCallers.{by_tying, changes_granted, first_none, second_none, not_faulty, tmp_perms}
 use Rattle.pua_calls.specs.Calls.{calls}
+use Rattle.pua_calls.specs.TmpTable.{tmp_table}
 use Rattle.pua_objects.proofs.ForCallers.{one_of_calls}
 use Rattle.pua_ever.specs.Ever.{may_link, is_some_file, file_makers}
 use Rattle.pua_ever.proofs.Common.{among_filter}
@@ -235,8 +236,9 @@ module _ (table : CallTable) (needs : EditsNeedC table) (t : Tree) (h : ProcessS
   came (Slot dir name None) x of held covered is other = absurd (None≢Some x is)
   came (Whole dir w) x of held covered is other = cc
 
-  grows_by : (action : Action) (c : Change) → IsDecided table t h action c → Grows c
-  grows_by (OnPath asked path) c d = subst Grows (sym d.2) (by_call asked d.0 d.1.promised d.1.covered)
+  grows_by : (action : Action) (c : Change) → IsGranted table t h action c → Grows c
+  grows_by (OnPath asked path) c (inl d) = subst Grows (sym d.2) (by_call asked d.0 d.1.promised d.1.covered)
+  grows_by (OnPath asked path) c (inr same) = subst Grows (sym same) tt
   grows_by (Symlink target path) c d =
       subst Grows (sym d.3) (by_added NewLink call.Symlink (λ passes e. e) (link_node target) refl refl (needs.calls call.Symlink refl) d.0 d.1.promised d.1.covered)
   grows_by (Rename old new) c d =
@@ -263,6 +265,7 @@ module _ (table : CallTable) (needs : EditsNeedC table) (t : Tree) (h : ProcessS
   grows_by (Fork new) c d = subst Grows (sym d.1) tt
   grows_by Exit c d = subst Grows (sym d) tt
   grows_by (Uses sets) c d = subst Grows (sym d.1) tt
+  grows_by Comment c d = subst Grows (sym d) tt
 
 grown_made : (table : CallTable) (needs : EditsNeedC table) (w : World) (h : ProcessState) (well : WellFormed w.tree) (c : Change) →
     Grows table needs w.tree h well c → Grown table w.tree h (tree_left w.tree (change_effect w h c))
@@ -279,16 +282,28 @@ grown_made table needs w h well (CopyAs new) grows = by (is_some (kept_at w new)
     by false = grown_all table w.tree h
 grown_made table needs w h well _ grows = grown_all table w.tree h
 
--- each row and each node that a request leaves was there, or came where the one that asks has `c`
+-- the table with one more set of some calls needs the same permissions
+pub edits_too : (table : CallTable) → EditsNeedC table → EditsNeedC (tmp_table table)
+edits_too table needs = record {
+  calls = λ c changes. ap (λ perms. holds perms creating) (tmp_perms table c) ∙ needs.calls c changes;
+  rename_old = needs.rename_old;
+  rename_new = needs.rename_new;
+  link_new = needs.link_new;
+}
+
+-- each row and each node that a request leaves was there, or came where the one that asks has `c`, by that table
 pub requests_grow : (table : CallTable) → EditsNeedC table → (w : World) (ask : Asked) (h : ProcessState) →
-    WellFormed w.tree → kept_at w ask.process ≡ Some h → Grown table w.tree h (apply table w ask).1.tree
+    WellFormed w.tree → kept_at w ask.process ≡ Some h → Grown (tmp_table table) w.tree h (apply table w ask).1.tree
 requests_grow table needs w ask h well here =
-    by_own_tree table w ask h here (Grown table w.tree h) (grown_all table w.tree h)
-    (λ c guards. grown_made table needs w h well c (grows_by table needs w.tree h well ask.action c guards))
+    let tmp = tmp_table table in
+    by_own_tree table w ask h here (Grown tmp w.tree h) (grown_all tmp w.tree h)
+    (λ c guards. grown_made tmp (edits_too table needs) w h well c
+    (grows_by tmp (edits_too table needs) w.tree h well ask.action c (changes_granted table w.tree h ask.action c guards)))
 
 -- and no number is taken back
 pub numbers_grow : (table : CallTable) → EditsNeedC table → (w : World) (ask : Asked) → WellFormed w.tree →
     w.tree.next ≤ (apply table w ask).1.tree.next
 numbers_grow table needs w ask well =
     by_tree table w ask (λ u. w.tree.next ≤ u.next) (omega arith)
-    (λ h here c guards. (grown_made table needs w h well c (grows_by table needs w.tree h well ask.action c guards)).next)
+    (λ h here c guards. (grown_made (tmp_table table) (edits_too table needs) w h well c
+    (grows_by (tmp_table table) (edits_too table needs) w.tree h well ask.action c (changes_granted table w.tree h ask.action c guards))).next)

@@ -8,7 +8,10 @@ use Rattle.pua_ever.proofs.Common.{map_among, among_filter, filter_among, contai
 use Rattle.pua_policy.specs.States.{with_both, held_for_exec}
 use Rattle.pua_policy.specs.declared.answer.May.TheVariants.{Yes, Enosys, Death}
 use Rattle.pua_policy.specs.declared.answer.Verdict.{Verdict}
+use Rattle.std.specs.List.{Contains}
 use Rattle.std.specs.Prelude.{IsTrue}
+use Rattle.pua_calls.specs.TmpTable.{tmp_table}
+use Rattle.pua_calls.proofs.ForCallers.{tmp_table_needs_no_error}
 use Rattle.pua_tree.specs.Listing.{listing}
 use Rattle.pua_calls.specs.declared.rules.Rules.{Rules}
 use Rattle.pua_script.specs.Bytes.{IsByteTree, are_in_bytes}
@@ -25,7 +28,7 @@ use Rattle.pua_ever.proofs.Common.{EverLine}
 use Rattle.pua_ever.specs.Laws.{EditsNeedC, MembersEdit, IsWithinEver, IsWithinLines}
 use Rattle.pua_ever.specs.Through.{is_promised_by, is_promised_by_one, can_come, let_through, ever_through, has_exec, ever_lasting, is_bounded}
 use Rattle.pua_ever.specs.Through.{is_confined_through, EverLastsAfterRead, NowWithinLasting}
-use Rattle.pua_ever.proofs.Now.{now_within_ever}
+use Rattle.pua_ever.proofs.Now.{within_ever, within_too}
 use Rattle.pua_ever.proofs.VeilPlacesGiven.{replays_keep_places, new_places}
 use Rattle.pua_ever.proofs.Holding.{goes, along_now, may_holds}
 use Rattle.pua_ever.proofs.Through.{within_both, ever_lasts, no_line}
@@ -48,7 +51,7 @@ pub none_starts_after_read : (table : CallTable) → NoCallNeedsError table → 
     (rules : Rules) (tree_bytes script_bytes : List ℕ) (t : Tree) (first asks : List Asked) →
     listing tree_bytes ≡ Ok t → script_by rules script_bytes ≡ Ok first → IsTrue (are_in_bytes asks) →
     let w = world_after table (new_world t) first in
-    (process : ℕ) (now : ProcessState) → kept_at w process ≡ Some now → IsConfined now → has_exec (ever w.tree table now) ≡ false →
+    (process : ℕ) (now : ProcessState) → kept_at w process ≡ Some now → IsConfined now → has_exec (ever w.tree (tmp_table table) now) ≡ false →
     MembersEdit table w asks (process ∷ []) → IsTrue (none_done is_exec table w asks (process ∷ []))
 none_starts_after_read table sound needs rules tree_bytes script_bytes t first asks listed scripted bytes process now here confined quiet edits =
     let w = world_after table (new_world t) first in
@@ -58,7 +61,7 @@ none_starts_after_read table sound needs rules tree_bytes script_bytes t first a
     let places = replays_keep_places table needs (new_world t) first (replays_keep_trees table (new_world t) first tree said)
     (new_places t) in
     without_exec_beside table sound needs w asks process now here confined (places process now here)
-    (replays_keep_trees table w asks left bytes) edits (no_line w.tree table now quiet)
+    (replays_keep_trees table w asks left bytes) edits (no_line w.tree (tmp_table table) now quiet)
 
 module _ (t : Tree) (well : WellFormed t) (table : CallTable) (sound : NoCallNeedsError table) (h : ProcessState) (given : ℕ)
     (within : IsWithin (with_both h given) h) where
@@ -110,7 +113,7 @@ module _ (t : Tree) (well : WellFormed t) (table : CallTable) (sound : NoCallNee
       let wide : Line = line_of t table both item in
       let is = among_filter now.has_calls (map (line_of t table both) (items t (veils both))) wide
       (still (calls_on t table h item.subject) some refl) (among_map (line_of t table both) (items t (veils both)) item a) in
-      let later : IsWithinEver t table both wide = now_within_ever t table both well wide
+      let later : IsWithinEver t table both wide = within_ever t table both well wide
       (contained (filter now.has_calls (map (line_of t table both) (items t (veils both)))) wide is) in
       let passes = is_promised_by_one table h given in
       let line = let_through passes later.later in
@@ -153,11 +156,12 @@ abbrev lines_by : Tree → CallTable → ProcessState → Bool → Option ℕ �
 lines_by t table h some None = ever t table h
 lines_by t table h some (Some given) = cond some (ever_through t table h given) (ever t table h)
 
-pub now_within_lasting : NowWithinLasting
-now_within_lasting t table sound h well line there = by (held_for_exec h) refl
+within_lasting : (t : Tree) (table : CallTable) → NoCallNeedsError table → (h : ProcessState) → WellFormed t →
+    (line : Line) → Contains (now.objects t table h) line → IsWithinLines (ever_lasting t table h) line
+within_lasting t table sound h well line there = by (held_for_exec h) refl
   where
     plain : IsWithinLines (ever t table h) line
-    plain = now_within_ever t table h well line there
+    plain = within_ever t table h well line there
 
     chosen : (given : ℕ) → held_for_exec h ≡ Some given → (a b c : Bool) → is_bounded table given ≡ b → is_confined_through h given ≡ c →
         IsWithinLines (lines_by t table h a (cond (b && c) (Some given) None)) line
@@ -172,3 +176,8 @@ now_within_lasting t table sound h well line there = by (held_for_exec h) refl
     by None set = rw set plain
     by (Some given) set =
         rw set (chosen given set (has_exec (ever t table h)) (is_bounded table given) (is_confined_through h given) refl refl)
+
+pub now_within_lasting : NowWithinLasting
+now_within_lasting t table sound h well line there =
+    within_too t table h (ever_lasting t (tmp_table table) h)
+    (λ more here. within_lasting t (tmp_table table) (tmp_table_needs_no_error table sound) h well more here) line there

@@ -1,9 +1,9 @@
 -- What is so of a process is so of what its request leaves, where each event that is granted and each program that is started
 -- keeps it so; and then it is so of each process of the world.
-use Rattle.pua_ever.proofs.Common.{◌≡◌, ℕ, List, Bool, true, false, cond, refl, sym, subst, ◌∙◌}
+use Rattle.pua_ever.proofs.Common.{◌≡◌, ◌⊎◌, inl, inr, ℕ, List, Bool, true, false, cond, refl, sym, subst, ◌∙◌}
 use Rattle.pua_ever.proofs.Common.{Option, Some, None, Result, Ok, Err, ◌||◌, is_some, nat_le, length, same_Some, None≢Some, EAGAIN}
 use Rattle.pua_ever.proofs.Common.{Tree, CallTable, execpromises_by, rule_of, ProcessState, may_any, state_after, World, kept_at, Change, change_effect}
-use Rattle.pua_ever.proofs.Common.{CopyAs, Copies, Fails, IsDecided, Action, OnPath, Symlink, Rename, Link, Pledge, Unveil, Lock, Fork, Exit, Uses}
+use Rattle.pua_ever.proofs.Common.{CopyAs, Copies, Fails, IsDecided, Action, OnPath, Symlink, Rename, Link, Pledge, Unveil, Lock, Fork, Exit, Uses, Comment}
 use Rattle.pua_ever.proofs.Common.{most_processes, found_put}
 use Rattle.std.specs.Prelude.{nat_eq}
 use Rattle.pua_tree.specs.Edits.{add, cut, shift, tie}
@@ -15,11 +15,11 @@ use Rattle.pua_policy.specs.Verdict.{place_of}
 use Rattle.pua_policy.specs.declared.answer.May.TheVariants.{Yes}
 use Rattle.pua_policy.specs.declared.answer.Refusal.{Refusal}
 use Rattle.pua_policy.specs.declared.answer.Refusal.TheVariants.{Failed, Killed}
-use Rattle.pua_script.specs.Decide.{NoChange, AddNode, CutRow, ShiftRow, TieRow, BeginProgram, AddEvent, decide, given_set, link_node}
-use Rattle.pua_script.specs.Guards.{IsVeil}
+use Rattle.pua_script.specs.Decide.{NoChange, AddNode, CutRow, ShiftRow, TieRow, BeginProgram, AddEvent, change_by, decide, given_set, link_node}
+use Rattle.pua_script.specs.Guards.{IsOpened, IsVeil, OnOne}
 use Rattle.pua_script.specs.Replay.{Effect, Kills, Leaves, refusal_effect, come_of, edit_effect, edited_tree, left_by, new_world, with_process}
 use Rattle.pua_script.specs.Worlds.{state_left}
-use Rattle.pua_script.proofs.ForCallers.{by_decision, decisions_are_guarded, by_placing, by_tying, by_moves}
+use Rattle.pua_script.proofs.ForCallers.{by_decision, decisions_are_guarded, by_placing, by_tying, by_moves, opened_no_exec}
 use Rattle.pua_ever.proofs.Calling.{by_calling}
 
 -- it is so now, after an event that leaves the veils, of the program that an exec starts, and after an unveil that is granted
@@ -38,9 +38,13 @@ module _ (table : CallTable) (w : World) (h : ProcessState) (P : ProcessState �
   Left _ = Unit {0}
 
   left_so : (action : Action) → Keeping table w.tree h action P → (c : Change) → IsDecided table w.tree h action c → Left c
-  left_so (OnPath asked path) k c d = subst Left (sym d.2)
-      (by_calling table Left tt asked (λ edits s node. tt) (λ edits s. tt) (λ dir. k.more (Moved dir) refl)
-      (λ is. k.program (subst (λ c. may_any h (rule_of table c).alternatives ≡ Yes) is d.1.promised)) d.0)
+  left_so (OnPath asked path) k c d = subst Left (sym d.2) (by d.1)
+    where
+      by : OnOne table w.tree h asked path d.0 ⊎ IsOpened table w.tree h asked path d.0 → Left (change_by table asked d.0)
+      by (inl on) = by_calling table Left tt asked (λ edits s node. tt) (λ edits s. tt) (λ dir. k.more (Moved dir) refl)
+          (λ is. k.program (subst (λ c. may_any h (rule_of table c).alternatives ≡ Yes) is on.promised)) d.0
+      by (inr on) = by_calling table Left tt asked (λ edits s node. tt) (λ edits s. tt) (λ dir. k.more (Moved dir) refl)
+          (λ is. absurd (opened_no_exec table h asked path on.opening on.opened is)) d.0
   left_so (Symlink target path) k c d =
       subst Left (sym d.3) (by_placing Left tt (link_node target) (spot_named d.0) (node_named d.0) (λ s is. tt))
   left_so (Rename old new) k c d = by_moves Left tt w.tree d.old d.new d.node c d.moves (λ s r is is_new. tt)
@@ -51,6 +55,7 @@ module _ (table : CallTable) (w : World) (h : ProcessState) (P : ProcessState �
   left_so (Fork new) k c d = subst Left (sym d.1) tt
   left_so Exit k c d = subst Left (sym d) (k.more Ended refl)
   left_so (Uses sets) k c d = subst Left (sym d.1) tt
+  left_so Comment k c d = subst Left (sym d) tt
 
   by_edited : P h → (r : Result (ℕ × Tree) TreeFault) → P (state_left h (edit_effect h r))
   by_edited so (Ok result) = so

@@ -8,9 +8,14 @@ use Rattle.pua_ever.proofs.Common.{cover, cover_fault, is_allowed, Call, Cover, 
 use Rattle.pua_ever.proofs.Common.{cover_in, own_or, Among, among_left, among_map, map_among, among_filter, filter_among, contained}
 use Rattle.pua_ever.proofs.Common.{among_contained, covers_descend, allowed_is, is_free, can_empty, dir_covers, file_covers, may_edit, can_move}
 use Rattle.pua_ever.proofs.Common.{is_named_way, is_allowed_under, ever_line, EverLine, subjects_of, all_new, new_line, has_ever_calls}
-use Rattle.pua_ever.proofs.Common.{ever}
+use Rattle.pua_ever.proofs.Common.{ever, filter, May, Ok, allowed_unless, if_promised, or_fault}
+use Rattle.std.specs.List.{Contains}
 use Rattle.std.specs.Prelude.{length}
+use Rattle.pua_calls.specs.TmpTable.{tmp_table}
 use Rattle.pua_policy.specs.Verdict.{rmdir_fault}
+use Rattle.pua_policy.specs.declared.answer.May.TheVariants.{Yes, Enosys, Death}
+use Rattle.pua_policy.specs.declared.answer.Verdict.{Verdict}
+use Rattle.pua_script.proofs.ForCallers.{tmp_may, tmp_perms, tmp_table_allows}
 use Rattle.pua_calls.specs.declared.call.Call.TheVariants as call
 use Rattle.pua_policy.specs.declared.place.Place.TheVariants as place
 use Rattle.pua_objects.specs.Objects.{Line, items_at, items_below, entries, line_of, calls_on}
@@ -20,7 +25,7 @@ use Rattle.pua_objects.proofs.ForCallers.{among_flat, flat_among}
 use Rattle.pua_objects.proofs.ForCallers.{some_of}
 use Rattle.pua_ever.specs.Ever.{covers_of, covers_of_dir, ever_object}
 use Rattle.pua_ever.specs.Ever.{ever_calls}
-use Rattle.pua_ever.specs.Laws.{IsWithinEver, NowWithinEver}
+use Rattle.pua_ever.specs.Laws.{IsWithinEver, IsWithinLines, NowWithinEver}
 use Rattle.pua_ever.proofs.Covers.{slot_row}
 use Rattle.pua_ever.proofs.Ways.{way_by_c, name_by_veil, open_by, file_by_name, file_by_open}
 use Rattle.pua_ever.proofs.Grown.{moved_has_c}
@@ -182,9 +187,72 @@ module _ (t : Tree) (h : ProcessState) where
         still [] some all = cc
         still (c ∷ cs) some all = some_of (ever_calls t table h item.subject) c (all c (inl refl))
 
-pub now_within_ever : NowWithinEver
-now_within_ever t table h well line there =
+-- of the objects by a table, in the list by this very table
+pub within_ever : (t : Tree) (table : CallTable) (h : ProcessState) → WellFormed t → (line : Line) → Contains (now.objects t table h) line →
+    IsWithinEver t table h line
+within_ever t table h well line there =
     let a = filter_among now.has_calls (map (line_of t table h) (items t (veils h))) line (among_contained _ line there) in
     let from = map_among (line_of t table h) (items t (veils h)) line a.0 in
     let P : Line → Type 0 = λ line. now.has_calls line ≡ true → IsWithinEver t table h line in
     subst P from.2 (item_within t h well table from.0 from.1) a.1
+
+allowed_if : (m n : May) (v : Verdict) → (m ≡ Yes → n ≡ Yes) → is_allowed (if_promised m v) ≡ true → is_allowed (if_promised n v) ≡ true
+allowed_if Yes n v more e = ap (λ m. is_allowed (if_promised m v)) (more refl) ∙ e
+allowed_if Enosys n v more e = cc
+allowed_if Death n v more e = cc
+
+-- what is allowed now is allowed by the table with one more set of some calls
+module _ (t : Tree) (table : CallTable) (h : ProcessState) where
+  allowed_too : (c : Call) (subject : Subject) → is_allowed (subject_verdict t table h c subject) ≡ true →
+      is_allowed (subject_verdict t (tmp_table table) h c subject) ≡ true
+  allowed_too c (At object) e = tmp_table_allows table t h c (Ok object) e
+  allowed_too c (Others dir) e =
+      let m = may_any h (rule_of table c).alternatives in
+      allowed_if m (may_any h (rule_of (tmp_table table) c).alternatives)
+      (allowed_unless (or_fault (cover_fault (cover_in t h dir) (rule_of (tmp_table table) c).perms) (object_fault table.whose t c IsMissing)))
+      (tmp_may table h c)
+      (ap (λ perms. is_allowed (if_promised m
+      (allowed_unless (or_fault (cover_fault (cover_in t h dir) perms) (object_fault table.whose t c IsMissing))))) (tmp_perms table c) ∙ e)
+
+  calls_too : (subject : Subject) (c : Call) → Among (calls_on t table h subject) c → Among (calls_on t (tmp_table table) h subject) c
+  calls_too subject c a =
+      let test = filter_among (λ c. is_named_by t c subject && is_allowed (subject_verdict t table h c subject)) calls c a in
+      let parts = and_parts (is_named_by t c subject) (is_allowed (subject_verdict t table h c subject)) test.1 in
+      among_filter (λ c. is_named_by t c subject && is_allowed (subject_verdict t (tmp_table table) h c subject)) calls c
+      (and_from (is_named_by t c subject) _ parts.0 (allowed_too c subject parts.1)) test.0
+
+  module _ (lines : List EverLine) (all : (line : Line) → Contains (now.objects t (tmp_table table) h) line → IsWithinLines lines line) where
+    item_too : (item : Item) → Among (items t (veils h)) item → now.has_calls (line_of t table h item) ≡ true →
+        IsWithinLines lines (line_of t table h item)
+    item_too item a some =
+        let more : Line = line_of t (tmp_table table) h item in
+        let is = among_filter now.has_calls (map (line_of t (tmp_table table) h) (items t (veils h))) more
+        (some_too (calls_on t table h item.subject) some (λ c b. calls_too item.subject c b))
+        (among_map (line_of t (tmp_table table) h) (items t (veils h)) item a) in
+        let within = all more (contained (filter now.has_calls (map (line_of t (tmp_table table) h) (items t (veils h)))) more is) in
+        record {
+          later = within.later;
+          listed = within.listed;
+          word = within.word;
+          about = within.about;
+          allows = λ c b. within.allows c (contained (calls_on t (tmp_table table) h item.subject) c
+              (calls_too item.subject c (among_contained (calls_on t table h item.subject) c b)));
+        }
+      where
+        some_too : (cs : List Call) → nat_lt 0 (length cs) ≡ true →
+            ((c : Call) → Among cs c → Among (calls_on t (tmp_table table) h item.subject) c) →
+            nat_lt 0 (length (calls_on t (tmp_table table) h item.subject)) ≡ true
+        some_too [] some all = cc
+        some_too (c ∷ cs) some all = some_of (calls_on t (tmp_table table) h item.subject) c (all c (inl refl))
+
+    -- so a list in which the objects by that table lie has the objects of now
+    pub within_too : (line : Line) → Contains (now.objects t table h) line → IsWithinLines lines line
+    within_too line there =
+        let a = filter_among now.has_calls (map (line_of t table h) (items t (veils h))) line (among_contained _ line there) in
+        let from = map_among (line_of t table h) (items t (veils h)) line a.0 in
+        let P : Line → Type 0 = λ line. now.has_calls line ≡ true → IsWithinLines lines line in
+        subst P from.2 (item_too from.0 from.1) a.1
+
+pub now_within_ever : NowWithinEver
+now_within_ever t table h well line there =
+    within_too t table h (ever t (tmp_table table) h) (λ more here. within_ever t (tmp_table table) h well more here) line there

@@ -1,5 +1,5 @@
 -- All that a family's members are ever allowed, through execs, has its line at the beginning.
-use Rattle.pua_ever.proofs.Common.{◌≡◌, ◌⊎◌, ℕ, List, [], ◌∷◌, Bool, true, false, cond, refl, sym, ap, subst, ◌∙◌, inl, inr}
+use Rattle.pua_ever.proofs.Common.{◌≡◌, ◌⊎◌, ℕ, List, [], ◌∷◌, Bool, true, false, refl, sym, ap, subst, ◌∙◌, inl, inr}
 use Rattle.pua_ever.proofs.Common.{Some, Ok, Err, Result, ◌&&◌, filter, map, list_any, false≢true, and_parts, and_from}
 use Rattle.pua_ever.proofs.Common.{or_left, or_right, eq-eqb, same_Some, Tree, WellFormed, CallTable, rule_of, Call, ProcessState, may_any}
 use Rattle.pua_ever.proofs.Common.{verdict_of, is_allowed, if_promised, cover, Found}
@@ -19,7 +19,9 @@ use Rattle.pua_path.specs.Resolution.{resolution_of_text}
 use Rattle.pua_path.specs.declared.errno.Errno.{Errno}
 use Rattle.pua_calls.specs.Calls.{ending_of, last_of}
 use Rattle.pua_calls.specs.Promises.{holds}
+use Rattle.pua_calls.specs.TmpTable.{tmp_table}
 use Rattle.pua_calls.specs.declared.call.Call.TheVariants as call
+use Rattle.pua_calls.proofs.ForCallers.{tmp_table_needs_no_error}
 use Rattle.pua_policy.specs.States.{with_both, held_set}
 use Rattle.pua_policy.specs.Verdict.{IsProg, covered_verdict}
 use Rattle.pua_policy.specs.declared.answer.May.TheVariants.{Yes, Enosys, Death}
@@ -32,9 +34,10 @@ use Rattle.pua_ever.specs.Ever.{Thing, is_exec_call}
 use Rattle.pua_ever.specs.Laws.{IsForeseen, IsForeseenIn, IsStartForeseen, IsStartForeseenIn, ForeseesIn, ForeseesStartsIn, IsLineOf, of_dir}
 use Rattle.pua_ever.specs.Laws.{of_row, of_name, of_others, of_new_dir, of_new_file, of_new_link, of_new_others, MembersEdit, NoExecLoosens}
 use Rattle.pua_ever.specs.Laws.{NoLineHasExec}
-use Rattle.pua_ever.specs.Through.{is_promised_by, is_promised_by_one, can_come, let_through, ever_through, has_exec}
+use Rattle.pua_ever.specs.Through.{is_promised_by, is_promised_by_one, can_come, let_through, ever_lasting, ever_through, has_exec}
 use Rattle.pua_ever.specs.Through.{is_bounded, AreWithin, GoesAlong, GoAlong, EverThroughExecs, StartsThroughExecs, EverLasts}
 use Rattle.pua_ever.proofs.Grown.{Grown, new_kind}
+use Rattle.pua_ever.proofs.Chosen.{bound_too, lasting_alone, lasting_through}
 use Rattle.pua_ever.proofs.Covers.{living_dir, below_next}
 use Rattle.pua_ever.proofs.Growing.{requests_grow}
 use Rattle.pua_ever.proofs.Complete.{complete_within, starts_within, beside_one}
@@ -134,8 +137,18 @@ module _ (table : CallTable) (sound : NoCallNeedsError table) (needs : EditsNeed
   abbrev both : ProcessState
   both = with_both now given
 
+  -- the list goes by the table with one more set of some calls
+  abbrev tmp : CallTable
+  tmp = tmp_table table
+
+  sound_too : NoCallNeedsError tmp
+  sound_too = tmp_table_needs_no_error table sound
+
+  along_too : (h : ProcessState) → GoesAlong table now given h → GoesAlong tmp now given h
+  along_too h k = record { unveils = k.unveils; lock = k.lock; ended = k.ended; promises = k.promises }
+
   abbrev passes : Call → Bool
-  passes = is_promised_by_one table now given
+  passes = is_promised_by_one tmp now given
 
   -- the members are within who holds both, and no exec loosens them
   members_within : (w : World) (members : List ℕ) → GoAlong table w now given members → Members w members both false
@@ -158,20 +171,20 @@ module _ (table : CallTable) (sound : NoCallNeedsError table) (needs : EditsNeed
   module _ (t0 : Tree) (well0 : WellFormed t0) where
     abbrev MadeByOne : Tree → Type 0
     MadeByOne u = (x : ℕ) → t0.next ≤ x → is_living u x ≡ true →
-        (made : New) × (kind_at u x ≡ Some (new_kind made)) × (is_made_by (is_promised_by_one table now given) made ≡ true)
+        (made : New) × (kind_at u x ≡ Some (new_kind made)) × (is_made_by (is_promised_by_one tmp now given) made ≡ true)
 
     made_first : MadeByOne t0
     made_first x from lives = let below = below_next t0 now well0 x lives in absurd (omega arith)
 
-    made_then : (t u : Tree) (h : ProcessState) → GoesAlong table now given h → Grown table t h u → MadeByOne t → MadeByOne u
+    made_then : (t u : Tree) (h : ProcessState) → GoesAlong table now given h → Grown tmp t h u → MadeByOne t → MadeByOne u
     made_then t u h k grown made x from lives = elim (grown.nodes x lives) [
       | inl same ↦ (let before = made x from (ap is_some (sym same) ∙ lives) in
           (before.0, ap (option_map (λ n. n.kind)) same ∙ before.1, before.2))
       | inr born ↦ (
         born.made,
         born.kinds,
-        born.makes.makes (is_promised_by_one table now given) (one_of table sound now given h k born.makes.maker
-            (yes table sound now given (may_any h (rule_of table born.makes.maker).alternatives) _ born.makes.allowed)),
+        born.makes.makes (is_promised_by_one tmp now given) (one_of tmp sound_too now given h (along_too h k) born.makes.maker
+            (yes tmp sound_too now given (may_any h (rule_of tmp born.makes.maker).alternatives) _ born.makes.allowed)),
       )
     ]
 
@@ -194,29 +207,29 @@ module _ (table : CallTable) (sound : NoCallNeedsError table) (needs : EditsNeed
       lives_by_kind k None e = cc
       lives_by_kind k (Some n) e = refl
 
-      dir_by_one : (x : ℕ) (m : New) → kind_at u x ≡ Some (new_kind m) → is_made_by (is_promised_by_one table now given) m ≡ true →
-          is_dir u x ≡ true → is_promised_by_one table now given call.Mkdir ≡ true
+      dir_by_one : (x : ℕ) (m : New) → kind_at u x ≡ Some (new_kind m) → is_made_by (is_promised_by_one tmp now given) m ≡ true →
+          is_dir u x ≡ true → is_promised_by_one tmp now given call.Mkdir ≡ true
       dir_by_one x NewDir kinds one is = one
       dir_by_one x NewOthers kinds one is = one
       dir_by_one x NewFile kinds one is = absurd (false≢true (sym (ap is_dir_kind kinds) ∙ is))
       dir_by_one x NewLink kinds one is = absurd (false≢true (sym (ap is_dir_kind kinds) ∙ is))
 
-      file_by_one : (x : ℕ) (m : New) → kind_at u x ≡ Some (new_kind m) → is_made_by (is_promised_by_one table now given) m ≡ true →
-          kind_at u x ≡ Some kind.File → is_made_by (is_promised_by_one table now given) NewFile ≡ true
+      file_by_one : (x : ℕ) (m : New) → kind_at u x ≡ Some (new_kind m) → is_made_by (is_promised_by_one tmp now given) m ≡ true →
+          kind_at u x ≡ Some kind.File → is_made_by (is_promised_by_one tmp now given) NewFile ≡ true
       file_by_one x NewFile kinds one is = one
       file_by_one x NewDir kinds one is = let never : Some kind.Dir ≡ Some kind.File = sym kinds ∙ is in cc
       file_by_one x NewOthers kinds one is = let never : Some kind.Dir ≡ Some kind.File = sym kinds ∙ is in cc
       file_by_one x NewLink kinds one is = let never : Some kind.Link ≡ Some kind.File = sym kinds ∙ is in cc
 
-      link_by_one : (x : ℕ) (m : New) → kind_at u x ≡ Some (new_kind m) → is_made_by (is_promised_by_one table now given) m ≡ true →
-          kind_at u x ≡ Some kind.Link → is_promised_by_one table now given call.Symlink ≡ true
+      link_by_one : (x : ℕ) (m : New) → kind_at u x ≡ Some (new_kind m) → is_made_by (is_promised_by_one tmp now given) m ≡ true →
+          kind_at u x ≡ Some kind.Link → is_promised_by_one tmp now given call.Symlink ≡ true
       link_by_one x NewLink kinds one is = one
       link_by_one x NewDir kinds one is = let never : Some kind.Dir ≡ Some kind.Link = sym kinds ∙ is in cc
       link_by_one x NewOthers kinds one is = let never : Some kind.Dir ≡ Some kind.Link = sym kinds ∙ is in cc
       link_by_one x NewFile kinds one is = let never : Some kind.File ≡ Some kind.Link = sym kinds ∙ is in cc
 
       comes_by_one : (thing : Thing) (object : Found) → found_fits u object ≡ true → IsLineOf t0 u now thing object →
-          can_come (is_promised_by_one table now given) thing ≡ true
+          can_come (is_promised_by_one tmp now given) thing ≡ true
       comes_by_one thing (Whole dir way) fits (of_dir below) = refl
       comes_by_one thing (Whole dir way) fits (of_new_dir from) =
           let one = made dir from (living_dir u now well dir fits) in
@@ -236,21 +249,21 @@ module _ (table : CallTable) (sound : NoCallNeedsError table) (needs : EditsNeed
           dir_by_one dir one.0 one.1 one.2 is
 
   -- a line of the list of both, with the calls that pass, is one of the list through execs, where a call is left
-  listed_through : (t : Tree) (line : EverLine) (c : Call) → Contains (ever t table both) line → Contains line.calls c →
+  listed_through : (t : Tree) (line : EverLine) (c : Call) → Contains (ever t tmp both) line → Contains line.calls c →
       can_come passes line.thing ≡ true → passes c ≡ true →
-      Contains (ever_through t table now given) (let_through passes line) × Contains (let_through passes line).calls c
+      Contains (ever_through t tmp now given) (let_through passes line) × Contains (let_through passes line).calls c
   listed_through t line c listed has comes one =
-      let lines = map (let_through passes) (ever t table both) in
+      let lines = map (let_through passes) (ever t tmp both) in
       let kept = among_filter (λ c. can_come passes line.thing && passes c) line.calls c
       (and_from (can_come passes line.thing) _ comes one) (among_contained line.calls c has) in (
         contained (filter has_ever_calls lines) (let_through passes line) (among_filter has_ever_calls lines (let_through passes line)
             (some_of (let_through passes line).calls c kept)
-            (among_map (let_through passes) (ever t table both) line (among_contained (ever t table both) line listed))),
+            (among_map (let_through passes) (ever t tmp both) line (among_contained (ever t tmp both) line listed))),
         contained (let_through passes line).calls c kept,
       )
 
-  in_list : (t later : Tree) (c : Call) (named : Result Found Errno) → passes c ≡ true → (seen : IsForeseen t table both later c named) →
-      can_come passes seen.line.thing ≡ true → IsForeseenIn (ever_through t table now given) t now later c named
+  in_list : (t later : Tree) (c : Call) (named : Result Found Errno) → passes c ≡ true → (seen : IsForeseen t tmp both later c named) →
+      can_come passes seen.line.thing ≡ true → IsForeseenIn (ever_through t tmp now given) t now later c named
   in_list t later c named one seen comes =
       let there = listed_through t seen.line c seen.listed seen.allows comes one in
       record {
@@ -263,27 +276,27 @@ module _ (table : CallTable) (sound : NoCallNeedsError table) (needs : EditsNeed
       }
 
   -- a line of the list through execs is what is left of one of the list of both
-  from_both : (t : Tree) (line : EverLine) → Contains (ever_through t table now given) line →
-      (wide : EverLine) × Contains (ever t table both) wide × (let_through passes wide ≡ line)
+  from_both : (t : Tree) (line : EverLine) → Contains (ever_through t tmp now given) line →
+      (other : EverLine) × Contains (ever t tmp both) other × (let_through passes other ≡ line)
   from_both t line listed =
-      let lines = map (let_through passes) (ever t table both) in
+      let lines = map (let_through passes) (ever t tmp both) in
       let there = filter_among has_ever_calls lines line (among_contained (filter has_ever_calls lines) line listed) in
-      let one = map_among (let_through passes) (ever t table both) line there.0 in
-      (one.0, contained (ever t table both) one.0 one.1, one.2)
+      let one = map_among (let_through passes) (ever t tmp both) line there.0 in
+      (one.0, contained (ever t tmp both) one.0 one.1, one.2)
 
-  start_in_list : (t later : Tree) (object : Found) → passes call.Exec ≡ true → (seen : IsStartForeseen t table both later object) →
-      can_come passes seen.thing ≡ true → IsStartForeseenIn (ever_through t table now given) t now later object
+  start_in_list : (t later : Tree) (object : Found) → passes call.Exec ≡ true → (seen : IsStartForeseen t tmp both later object) →
+      can_come passes seen.thing ≡ true → IsStartForeseenIn (ever_through t tmp now given) t now later object
   start_in_list t later object one seen comes = record {
     thing = seen.thing;
     about = line_too now given t later seen.thing object seen.about;
     turned = λ line listed about turning among has.
-        let wide = from_both t line listed in
-        let left : Contains (let_through passes wide.0).calls turning = subst (λ l. Contains l.calls turning) (sym wide.2) has in
-        let test = filter_among (λ c. can_come passes wide.0.thing && passes c) wide.0.calls turning
-        (among_contained (let_through passes wide.0).calls turning left) in
-        let runs = seen.turned wide.0 wide.1 (ap (λ l. l.thing) wide.2 ∙ about) turning among (contained wide.0.calls turning test.0) in
-        subst (λ l. Contains l.calls call.Exec) wide.2
-        (listed_through t wide.0 call.Exec wide.1 runs (and_parts (can_come passes wide.0.thing) _ test.1).0 one).1;
+        let other = from_both t line listed in
+        let left : Contains (let_through passes other.0).calls turning = subst (λ l. Contains l.calls turning) (sym other.2) has in
+        let test = filter_among (λ c. can_come passes other.0.thing && passes c) other.0.calls turning
+        (among_contained (let_through passes other.0).calls turning left) in
+        let runs = seen.turned other.0 other.1 (ap (λ l. l.thing) other.2 ∙ about) turning among (contained other.0.calls turning test.0) in
+        subst (λ l. Contains l.calls call.Exec) other.2
+        (listed_through t other.0 call.Exec other.1 runs (and_parts (can_come passes other.0.thing) _ test.1).0 one).1;
     made = λ new.
         let line = seen.made new in
         let there = listed_through t line.0 call.Exec line.1 line.3 (ap (can_come passes) (line.2 ∙ sym new) ∙ comes) one in
@@ -316,36 +329,36 @@ module _ (table : CallTable) (sound : NoCallNeedsError table) (needs : EditsNeed
         ((resolutions_fit after well_after).whole from (ending_of c) text (last_of c) object
         (named_within_text after from (ending_of c) text (last_of c) object names)).fits
 
-    pub through_all : HasKept (world_after table w asks) member (ForeseesIn (ever_through w.tree table now given) w.tree table now after)
+    pub through_all : HasKept (world_after table w asks) member (ForeseesIn (ever_through w.tree tmp now given) w.tree tmp now after)
     through_all =
-        let wide = complete_within table sound needs w asks members both (members_within w members are) stand
+        let both_see = complete_within table sound needs w asks members both (members_within w members are) stand
         trees (none_looser asks w members are) edits member belongs in (
-          wide.0,
-          wide.1,
+          both_see.0,
+          both_see.1,
           λ from c text e.
               let named = resolution_of_text after from (ending_of c) text (last_of c) in
-              let seen = wide.2 from c text e in
-              let same : last.0 ≡ wide.0 = same_Some last.0 wide.0 (sym last.1 ∙ wide.1) in
-              let one = promised_by_one table sound now given last.0 last.2 after c named (ap (λ h. verdict_of after table h c named) same ∙ e) in
+              let seen = both_see.2 from c text e in
+              let same : last.0 ≡ both_see.0 = same_Some last.0 both_see.0 (sym last.1 ∙ both_see.1) in
+              let one = promised_by_one tmp sound_too now given last.0 (along_too last.0 last.2) after c named (ap (λ h. verdict_of after tmp h c named) same ∙ e) in
               in_list w.tree after c named one seen (comes_too seen.line.thing seen.object (fits_named from c text seen.object seen.names)
               seen.about),
         )
 
     pub starts_all : HasKept (world_after table w asks) member
-        (ForeseesStartsIn (ever_through w.tree table now given) w.tree table now after)
+        (ForeseesStartsIn (ever_through w.tree tmp now given) w.tree tmp now after)
     starts_all =
-        let wide = starts_within table sound needs w asks members both (members_within w members are) stand
+        let both_see = starts_within table sound needs w asks members both (members_within w members are) stand
         trees (none_looser asks w members are) edits member belongs in (
-          wide.0,
-          wide.1,
+          both_see.0,
+          both_see.1,
           λ from text dir name x named kinds e.
               let object : Found = Slot dir name (Some x) in
-              let seen = wide.2 from text dir name x named kinds e in
-              let same : last.0 ≡ wide.0 = same_Some last.0 wide.0 (sym last.1 ∙ wide.1) in
+              let seen = both_see.2 from text dir name x named kinds e in
+              let same : last.0 ≡ both_see.0 = same_Some last.0 both_see.0 (sym last.1 ∙ both_see.1) in
               let may : may_any last.0 (rule_of table call.Exec).alternatives ≡ Yes =
-              yes table sound now given (may_any last.0 (rule_of table call.Exec).alternatives) _
-              (ap (λ h. is_allowed (covered_verdict after table h call.Exec (cover after h object) IsProg)) same ∙ ap is_allowed e) in
-              start_in_list w.tree after object (one_of table sound now given last.0 last.2 call.Exec may) seen
+              yes tmp sound_too now given (may_any last.0 (rule_of table call.Exec).alternatives) _
+              (ap (λ h. is_allowed (covered_verdict after tmp h call.Exec (cover after h object) IsProg)) same ∙ ap is_allowed e) in
+              start_in_list w.tree after object (one_of tmp sound_too now given last.0 (along_too last.0 last.2) call.Exec may) seen
               (comes_too seen.thing object (fits_named from call.Exec text object named) seen.about),
         )
 
@@ -366,18 +379,24 @@ no_line t table h none line listed has =
 
 pub ever_lasts : EverLasts
 ever_lasts table sound needs w asks process now given here bound stand trees edits member belongs =
-    rw bound (by (has_exec (ever w.tree table now)) refl)
+    by (has_exec (ever w.tree tmp now)) refl
   where
-    by : (b : Bool) → has_exec (ever w.tree table now) ≡ b →
-        HasKept (world_after table w asks) member (ForeseesIn (cond b (ever_through w.tree table now given)
-        (ever w.tree table now)) w.tree table now (world_after table w asks).tree)
+    tmp : CallTable
+    tmp = tmp_table table
+
+    Seen : List EverLine → Type 0
+    Seen lines = HasKept (world_after table w asks) member (ForeseesIn lines w.tree tmp now (world_after table w asks).tree)
+
+    by : (b : Bool) → has_exec (ever w.tree tmp now) ≡ b → Seen (ever_lasting w.tree tmp now)
     by true is =
         let parts = bound_parts table now given bound in
-        through_all table sound needs now given parts.bounded w asks stand trees (process ∷ [])
-        (along_first table sound now given parts.bounded w process here parts.set parts.confined) edits member belongs
+        subst Seen (sym (lasting_through w.tree tmp now given (bound_too table now ∙ bound) is))
+        (through_all table sound needs now given parts.bounded w asks stand trees (process ∷ [])
+        (along_first table sound now given parts.bounded w process here parts.set parts.confined) edits member belongs)
     by false is =
         let parts = bound_parts table now given bound in
         let was = lacks_unveil table sound now given parts.bounded now (goes table sound now given parts.bounded now
         (along_now table sound now given parts.bounded parts.set parts.confined)) in
-        let none = without_exec_beside table sound needs w asks process now here was stand trees edits (no_line w.tree table now is) in
-        beside_one table sound needs w asks process now here was stand trees none edits member belongs
+        let none = without_exec_beside table sound needs w asks process now here was stand trees edits (no_line w.tree tmp now is) in
+        subst Seen (sym (lasting_alone w.tree tmp now given (bound_too table now ∙ bound) is))
+        (beside_one table sound needs w asks process now here was stand trees none edits member belongs)

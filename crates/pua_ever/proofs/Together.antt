@@ -6,6 +6,7 @@ use Rattle.pua_ever.proofs.Common.{VeilsStand, Among, ever, first_tree, Asked, E
 use Rattle.std.specs.List.{AllByRecursion}
 use Rattle.std.specs.Prelude.{bit_or}
 use Rattle.pua_calls.specs.Promises.{holds, unveil}
+use Rattle.pua_calls.specs.TmpTable.{tmp_table}
 use Rattle.pua_calls.specs.declared.call.Call.TheVariants as call
 use Rattle.pua_policy.specs.States.{held_set, held_for_exec, is_locked}
 use Rattle.pua_policy.proofs.ForCallers.{holds_through}
@@ -16,11 +17,12 @@ use Rattle.pua_script.specs.Family.{HasKept, is_exec, none_done}
 use Rattle.pua_script.proofs.ForCallers.{replays_keep_trees, replays_keep_byte_trees, listings_list_byte_trees, scripts_ask_in_bytes}
 use Rattle.pua_ever.specs.Laws.{ActsWithin, ForeseesIn, MembersEdit, PlacesStand}
 use Rattle.pua_ever.specs.Through.{AreWithin, HandsDown, HoldsOne, GoesAlong, GoAlong, is_promised_by, bound_of, has_exec}
-use Rattle.pua_ever.specs.Through.{ever_lasting, ever_through, execs_of}
+use Rattle.pua_ever.specs.Through.{ever_lasting, execs_of}
 use Rattle.pua_ever.specs.declared.lasting_list.ExecBound.TheVariants.{Open}
 use Rattle.pua_ever.specs.Together.{Joint, handed_down, either_given, joint_of, with_one, joint_after, confined_part, joined, ActTogether, IsOneOf}
 use Rattle.pua_ever.specs.Together.{EverTogether, TogetherLasts, TogetherAfterRead}
-use Rattle.pua_ever.proofs.Chosen.{lasting_unbounded, starts_open}
+use Rattle.pua_ever.proofs.Common.{EverLine}
+use Rattle.pua_ever.proofs.Chosen.{bound_too, lasting_alone, lasting_through, lasting_unbounded, starts_open}
 use Rattle.pua_ever.proofs.Complete.{all_within, ever_beside}
 use Rattle.pua_ever.proofs.NoExec.{none_along}
 use Rattle.pua_ever.proofs.Origins.{at_first}
@@ -223,27 +225,33 @@ ever_together table sound needs w asks members first more acts stand trees none 
 none_together : (table : CallTable) → NoCallNeedsError table → EditsNeedC table →
     (w : World) (asks : List Asked) (members : List ℕ) (first : ProcessState) (more : List ProcessState) → ActTogether w members first more →
     VeilsStand w.tree (joined table first more) → TreesAlong table w asks → MembersEdit table w asks members →
-    has_exec (ever w.tree table (joined table first more)) ≡ false → none_done is_exec table w asks members ≡ true
+    has_exec (ever w.tree (tmp_table table) (joined table first more)) ≡ false → none_done is_exec table w asks members ≡ true
 none_together table sound needs w asks members first more acts stand trees edits quiet =
     let one = joined table first more in
     let within = acts_within table first more acts.alike w members acts.processes in
     let well = first_tree table w asks trees in
-    none_along table sound needs w.tree one well stand (no_line w.tree table one quiet) asks w members
-    (all_within w members one within) edits trees (at_first table w.tree one well stand) (inr refl)
+    none_along table sound needs w.tree one well stand (no_line w.tree (tmp_table table) one quiet) asks w members
+    (all_within w members one within) edits trees (at_first (tmp_table table) w.tree one well stand) (inr refl)
 
 pub together_lasts : TogetherLasts
 together_lasts table sound needs w asks members first more acts given bound stand trees edits member belongs =
-    rw bound (by (has_exec (ever w.tree table (joined table first more))) refl)
+    by (has_exec (ever w.tree (tmp_table table) one)) refl
   where
-    by : (b : Bool) → has_exec (ever w.tree table (joined table first more)) ≡ b →
-        HasKept (world_after table w asks) member (ForeseesIn (cond b (ever_through w.tree table (joined table first more) given)
-        (ever w.tree table (joined table first more))) w.tree table (joined table first more) (world_after table w asks).tree)
+    one : ProcessState
+    one = joined table first more
+
+    Seen : List EverLine → Type 0
+    Seen lines = HasKept (world_after table w asks) member (ForeseesIn lines w.tree (tmp_table table) one (world_after table w asks).tree)
+
+    by : (b : Bool) → has_exec (ever w.tree (tmp_table table) one) ≡ b → Seen (ever_lasting w.tree (tmp_table table) one)
     by true is =
-        ever_through_execs table sound needs w asks members (joined table first more) given (bound_parts table (joined table first more) given bound).bounded
-        (go_along table first more acts.alike given bound w members acts.processes) stand trees edits member belongs
+        subst Seen (sym (lasting_through w.tree (tmp_table table) one given (bound_too table one ∙ bound) is))
+        (ever_through_execs table sound needs w asks members one given (bound_parts table one given bound).bounded
+        (go_along table first more acts.alike given bound w members acts.processes) stand trees edits member belongs)
     by false is =
-        ever_together table sound needs w asks members first more acts stand trees
-        (none_together table sound needs w asks members first more acts stand trees edits is) edits member belongs
+        subst Seen (sym (lasting_alone w.tree (tmp_table table) one given (bound_too table one ∙ bound) is))
+        (ever_together table sound needs w asks members first more acts stand trees
+        (none_together table sound needs w asks members first more acts stand trees edits is) edits member belongs)
 
 -- the veils of each stand
 veils_stand : (w : World) → PlacesStand w → (members : List ℕ) (hs : List ProcessState) → map (kept_at w) members ≡ map Some hs →
@@ -280,17 +288,18 @@ together_after_read table sound needs rules tree_bytes script_bytes t before ask
         (new_places t)) members (first ∷ more) acts.processes).0
 
     -- none of theirs is answered ok, where nothing is bounded
-    quiet : bound_of table one ≡ None → (b : Bool) → has_exec (ever w.tree table one) ≡ b →
-        (execs_of w.tree table one ≢ Open) ⊎ (none_done is_exec table w asks members ≡ true) → none_done is_exec table w asks members ≡ true
+    quiet : bound_of table one ≡ None → (b : Bool) → has_exec (ever w.tree (tmp_table table) one) ≡ b →
+        (execs_of w.tree (tmp_table table) one ≢ Open) ⊎ (none_done is_exec table w asks members ≡ true) → none_done is_exec table w asks members ≡ true
     quiet unbound b is (inr alone) = alone
-    quiet unbound true is (inl shut) = absurd (shut (starts_open w.tree table one is unbound))
+    quiet unbound true is (inl shut) = absurd (shut (starts_open w.tree (tmp_table table) one is (bound_too table one ∙ unbound)))
     quiet unbound false is (inl shut) = none_together table sound needs w asks members first more acts stand trees edits is
 
     by : (o : Option ℕ) → bound_of table one ≡ o →
-        HasKept (world_after table w asks) member (ForeseesIn (ever_lasting w.tree table one) w.tree table one (world_after table w asks).tree)
+        HasKept (world_after table w asks) member
+        (ForeseesIn (ever_lasting w.tree (tmp_table table) one) w.tree (tmp_table table) one (world_after table w asks).tree)
     by (Some given) bound = together_lasts table sound needs w asks members first more acts given bound stand trees edits member belongs
     by None unbound =
-        subst (λ lines. HasKept (world_after table w asks) member (ForeseesIn lines w.tree table one (world_after table w asks).tree))
-        (sym (lasting_unbounded w.tree table one unbound))
+        subst (λ lines. HasKept (world_after table w asks) member (ForeseesIn lines w.tree (tmp_table table) one (world_after table w asks).tree))
+        (sym (lasting_unbounded w.tree (tmp_table table) one (bound_too table one ∙ unbound)))
         (ever_together table sound needs w asks members first more acts stand trees
-        (quiet unbound (has_exec (ever w.tree table one)) refl held) edits member belongs)
+        (quiet unbound (has_exec (ever w.tree (tmp_table table) one)) refl held) edits member belongs)

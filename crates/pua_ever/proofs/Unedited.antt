@@ -3,15 +3,18 @@ use Rattle.pua_ever.proofs.Common.{◌≡◌, ◌⊎◌, ℕ, List, [], ◌∷�
 use Rattle.pua_ever.proofs.Common.{is_some, nat_le, false≢true, or_left, or_right, EAGAIN, Found, ProcessState}
 use Rattle.pua_ever.proofs.Common.{may_any, CallTable, rule_of, Call, May, most_processes, Asked, tree_left, is_member}
 use Rattle.pua_ever.proofs.Common.{family_then, World, Fails, Copies, change_effect, kept_at, apply}
-use Rattle.pua_ever.proofs.Common.{world_after, Change, CopyAs, change_by, IsDecided, Action, OnPath, Symlink, Rename, Link, Pledge, Unveil}
-use Rattle.pua_ever.proofs.Common.{Lock, Fork, Exit, Uses, IsWithin, Members, Among, is_yes, may_edit}
+use Rattle.pua_ever.proofs.Common.{world_after, Change, CopyAs, change_by, Action, OnPath, Symlink, Rename, Link, Pledge, Unveil}
+use Rattle.pua_ever.proofs.Common.{Lock, Fork, Exit, Uses, Comment, IsWithin, Members, Among, is_yes, may_edit}
 use Rattle.std.proofs.Common.{◌||◌}
 use Rattle.std.specs.List.{AllByRecursion}
 use Rattle.std.specs.Prelude.{length}
 use Rattle.pua_calls.specs.Tables.{NamesNoError, NoCallNeedsError}
 use Rattle.pua_calls.specs.declared.call.Call.TheVariants as call
 use Rattle.pua_policy.specs.declared.answer.May.TheVariants.{Yes, Enosys, Death}
-use Rattle.pua_script.proofs.ForCallers.{by_own_tree}
+use Rattle.pua_calls.specs.TmpTable.{tmp_table}
+use Rattle.pua_calls.proofs.ForCallers.{tmp_table_needs_no_error}
+use Rattle.pua_script.proofs.ForCallers.{by_own_tree, changes_granted}
+use Rattle.pua_script.specs.Guards.{IsGranted}
 use Rattle.pua_script.proofs.ForCallers.{may_yes}
 use Rattle.pua_ever.specs.Ever.{edit_calls}
 use Rattle.pua_ever.specs.Laws.{MembersEdit, NoExecLoosens}
@@ -52,8 +55,9 @@ module _ (table : CallTable) (w : World) (h : ProcessState) (lacks : may_edit ta
       by true = refl
       by false = refl
 
-  keeps_by : (action : Action) (c : Change) → IsDecided table w.tree h action c → Keeps c
-  keeps_by (OnPath asked path) c d = subst Keeps (sym d.2) (keeps_call asked d.0 d.1.promised)
+  keeps_by : (action : Action) (c : Change) → IsGranted table w.tree h action c → Keeps c
+  keeps_by (OnPath asked path) c (inl d) = subst Keeps (sym d.2) (keeps_call asked d.0 d.1.promised)
+  keeps_by (OnPath asked path) c (inr same) = subst Keeps (sym same) refl
   keeps_by (Symlink target path) c d = absurd (unpromised call.Symlink (inr (inr (inr (inr (inl refl))))) d.1.promised)
   keeps_by (Rename old new) c d = absurd (no_rename d.two.promised_new)
   keeps_by (Link old new) c d = absurd (no_link d.two.promised_new)
@@ -63,11 +67,13 @@ module _ (table : CallTable) (w : World) (h : ProcessState) (lacks : may_edit ta
   keeps_by (Fork new) c d = subst Keeps (sym d.1) (keeps_copy new)
   keeps_by Exit c d = subst Keeps (sym d) refl
   keeps_by (Uses sets) c d = subst Keeps (sym d.1) refl
+  keeps_by Comment c d = subst Keeps (sym d) refl
 
-pub unedited : (table : CallTable) (w : World) (ask : Asked) (h : ProcessState) → kept_at w ask.process ≡ Some h → may_edit table h ≡ false →
-    (apply table w ask).1.tree ≡ w.tree
+pub unedited : (table : CallTable) (w : World) (ask : Asked) (h : ProcessState) → kept_at w ask.process ≡ Some h →
+    may_edit (tmp_table table) h ≡ false → (apply table w ask).1.tree ≡ w.tree
 unedited table w ask h here lacks =
-    by_own_tree table w ask h here (λ u. u ≡ w.tree) refl (λ c guards. keeps_by table w h lacks ask.action c guards)
+    by_own_tree table w ask h here (λ u. u ≡ w.tree) refl
+    (λ c guards. keeps_by (tmp_table table) w h lacks ask.action c (changes_granted table w.tree h ask.action c guards))
 
 -- who edits nothing by what it holds edits nothing by what is left of it
 module _ (table : CallTable) (sound : NoCallNeedsError table) (now : ProcessState) where
@@ -102,7 +108,8 @@ module _ (table : CallTable) (sound : NoCallNeedsError table) (now : ProcessStat
           (yes_before h within (rule_of table found.0).alternatives (sound.calls found.0) found.2)))))
       by false false false is in_link e = λ i. is i || (in_link i || e i)
 
-  pub unedited_along : may_edit table now ≡ false → (asks : List Asked) (w : World) (members : List ℕ) → Members w members now false
+module _ (table : CallTable) (sound : NoCallNeedsError table) (now : ProcessState) where
+  pub unedited_along : may_edit (tmp_table table) now ≡ false → (asks : List Asked) (w : World) (members : List ℕ) → Members w members now false
       → NoExecLoosens table now w asks members → MembersEdit table w asks members → (world_after table w asks).tree ≡ w.tree
   unedited_along lacks [] w members are none edit = refl
   unedited_along lacks (ask ∷ asks) w members are none edit =
@@ -112,5 +119,7 @@ module _ (table : CallTable) (sound : NoCallNeedsError table) (now : ProcessStat
     where
       step : (is_member members ask.process ≡ true) ⊎ ((apply table w ask).1.tree ≡ w.tree) → (apply table w ask).1.tree ≡ w.tree
       step (inl belongs) =
-          let asker = are ask.process belongs in unedited table w ask asker.0 asker.1 (still_unable asker.0 asker.2.within lacks)
+          let asker = are ask.process belongs in
+          unedited table w ask asker.0 asker.1
+          (still_unable (tmp_table table) (tmp_table_needs_no_error table sound) now asker.0 asker.2.within lacks)
       step (inr same) = same

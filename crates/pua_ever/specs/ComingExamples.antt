@@ -1,5 +1,5 @@
 -- Worked rows on the veils under which things come to stand.
-use Rattle.std.specs.Prelude.{◌≡◌, List, [], ◌∷◌, Some, codes, refl}
+use Rattle.std.specs.Prelude.{◌≡◌, [], ◌∷◌, Some, codes, refl}
 use Rattle.pua_path.specs.declared.found.Found.TheVariants.{Whole, Slot}
 use Rattle.pua_path.specs.declared.found.Way.TheVariants.{Named}
 use Rattle.pua_calls.specs.Calls.{standard_table}

@@ -17,8 +17,8 @@ use Rattle.pua_policy.specs.declared.place.Place.{Place}
 use Rattle.pua_policy.specs.declared.place.Place.TheVariants as place
 use Rattle.pua_policy.specs.declared.reason.Covering.{Covering}
 use Rattle.pua_policy.specs.declared.reason.Covering.TheVariants.{By}
-use Rattle.pua_objects.specs.Objects.{Subject, At, Others, cover_in}
-use Rattle.pua_ever.specs.Ever.{New, NewDir, NewOthers, NewFile, NewLink, Thing, Stands, Comes, can_empty, can_link, can_move, has_c_outside}
+use Rattle.pua_objects.specs.Objects.{At, Others, cover_in}
+use Rattle.pua_ever.specs.Ever.{NewDir, NewOthers, NewFile, NewLink, Thing, Stands, Comes, can_empty, can_link, can_move, has_c_outside}
 use Rattle.pua_ever.specs.Ever.{is_free, some_dir_moves}
 use Rattle.pua_ever.specs.Destinations.{can_give_way, destination}
 use Rattle.pua_ever.specs.declared.comings.Comings.{Comings}

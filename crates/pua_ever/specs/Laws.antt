@@ -10,9 +10,10 @@ use Rattle.pua_path.specs.declared.found.Found.{Found}
 use Rattle.pua_path.specs.declared.found.Found.TheVariants.{Whole, Slot}
 use Rattle.pua_calls.specs.Promises.{holds, creating}
 use Rattle.pua_calls.specs.Calls.{CallTable, table_by_rules, rule_of, ending_of, last_of}
+use Rattle.pua_calls.specs.TmpTable.{tmp_table}
 use Rattle.pua_calls.specs.declared.rules.Rules.{Rules}
 use Rattle.pua_policy.specs.States.{ProcessState, perms_kept, is_ended}
-use Rattle.pua_policy.specs.Verdict.{IsProg, cover, covered_verdict, verdict_of}
+use Rattle.pua_policy.specs.Verdict.{IsProg, cover, covered_verdict, object_named, verdict_of}
 use Rattle.pua_policy.specs.declared.answer.Verdict.TheVariants.{Allowed}
 use Rattle.pua_calls.specs.declared.call.Call.{Call}
 use Rattle.pua_calls.specs.declared.call.Call.TheVariants as call
@@ -27,6 +28,9 @@ use Rattle.pua_script.specs.Family.{family, family_then, is_done, is_member, non
 use Rattle.pua_script.specs.Tightening.{NoCallNeedsError, Tightens}
 use Rattle.pua_script.specs.Confinement.{TreesAlong, changes_names}
 use Rattle.pua_script.specs.Bytes.{are_in_bytes}
+use Rattle.pua_script.specs.OpeningLaws.{may_open}
+use Rattle.pua_script.specs.declared.request.Action.TheVariants.{OnPath}
+use Rattle.pua_script.specs.declared.answer.Answer.TheVariants.{Okay}
 use Rattle.pua_objects.specs.Objects.{At, Others, Line, objects, own_way}
 use Rattle.pua_ever.specs.Ever.{NewDir, NewOthers, NewFile, NewLink, Thing, Stands, Comes, EverLine, turning_calls, ever}
 
@@ -100,7 +104,9 @@ Foresees t table now later last = ForeseesIn (ever t table now) t table now late
 
 -- a process that can put no veil any more, and what it forks from now on: whatever they alone ask for, as
 -- long as no exec of a member is answered ok, each call that is then allowed to a member has its line now.
--- Each list begins with its own shorter ones, so this is of every moment on the way
+-- Each list begins with its own shorter ones, so this is of every moment on the way. The requests go by the table, and
+-- the list by the one that has `tmppath` as one more set of some calls, since a promise can open these: so what is allowed
+-- by that one has its line too
 abbrev pub EverComplete : Type 0
 EverComplete =
     (table : CallTable) → NoCallNeedsError table → EditsNeedC table →
@@ -110,7 +116,7 @@ EverComplete =
     IsTrue (members_alone table w asks (process ∷ [])) →
     (member : ℕ) → IsTrue (is_member (family table w asks (process ∷ [])) member) →
     let after = world_after table w asks in
-    HasKept after member (Foresees w.tree table now after.tree)
+    HasKept after member (Foresees w.tree (tmp_table table) now after.tree)
 
 -- each request is a member's, or leaves the tree as it was
 abbrev pub MembersEdit : CallTable → World → List Asked → List ℕ → Type 0
@@ -131,7 +137,7 @@ WithoutExec =
     (table : CallTable) → NoCallNeedsError table → EditsNeedC table →
     (w : World) (asks : List Asked) (process : ℕ) (now : ProcessState) →
     kept_at w process ≡ Some now → IsConfined now → VeilsStand w.tree now → TreesAlong table w asks →
-    MembersEdit table w asks (process ∷ []) → NoLineHasExec w.tree table now →
+    MembersEdit table w asks (process ∷ []) → NoLineHasExec w.tree (tmp_table table) now →
     IsTrue (none_done is_exec table w asks (process ∷ []))
 
 -- over a later tree: whatever path names a file on which exec would be allowed to a process, were it a program. It has a
@@ -176,7 +182,7 @@ EverOfMany =
     IsTrue (none_done is_exec table w asks members) → IsTrue (members_alone table w asks members) →
     (member : ℕ) → IsTrue (is_member (family table w asks members) member) →
     let after = world_after table w asks in
-    HasKept after member (Foresees w.tree table now after.tree)
+    HasKept after member (Foresees w.tree (tmp_table table) now after.tree)
 
 -- an exec of a member that is answered ok leaves it within a state: with its veils, no promise beyond it but `error`, and
 -- no way to put veils. So it is where execpromises were set that the state holds, since veils and lock then stay
@@ -200,7 +206,25 @@ EverWithExecs =
     NoExecLoosens table now w asks members → MembersEdit table w asks members →
     (member : ℕ) → IsTrue (is_member (family table w asks members) member) →
     let after = world_after table w asks in
-    HasKept after member (Foresees w.tree table now after.tree)
+    HasKept after member (Foresees w.tree (tmp_table table) now after.tree)
+
+-- so a call on a path that a member is then answered ok has its line, or the text is one that a promise opens which the state holds,
+-- pledged or not: such a text has a line of its own in the state, and none of its thing
+abbrev pub IsAccountedFor : Tree → CallTable → ProcessState → Tree → ProcessState → Call → List ℕ → Type 0
+IsAccountedFor t table now later last call text =
+    IsForeseen t (tmp_table table) now later call (object_named later last call text) ⊎ IsTrue (may_open now call text)
+
+abbrev pub OkaysAreForeseen : Type 0
+OkaysAreForeseen =
+    (table : CallTable) → NoCallNeedsError table → EditsNeedC table →
+    (w : World) (asks : List Asked) (members : List ℕ) (now : ProcessState) →
+    ActsWithin w now members → VeilsStand w.tree now → TreesAlong table w asks →
+    NoExecLoosens table now w asks members → MembersEdit table w asks members →
+    (member : ℕ) → IsTrue (is_member (family table w asks members) member) →
+    let after = world_after table w asks in
+    HasKept after member (λ last. (call : Call) (text : List ℕ) →
+    (apply table after (record { process = member; action = OnPath call text })).0 ≡ Okay →
+    IsAccountedFor w.tree table now after.tree last call text)
 
 -- the same of them where others may ask for anything that leaves the tree as it is
 abbrev pub EverBeside : Type 0
@@ -211,7 +235,7 @@ EverBeside =
     IsTrue (none_done is_exec table w asks members) → MembersEdit table w asks members →
     (member : ℕ) → IsTrue (is_member (family table w asks members) member) →
     let after = world_after table w asks in
-    HasKept after member (Foresees w.tree table now after.tree)
+    HasKept after member (Foresees w.tree (tmp_table table) now after.tree)
 
 -- so where a kernel makes programs of what they make, write or set the mode of, it starts none whose line has no exec
 abbrev pub StartsForeseen : Type 0
@@ -222,7 +246,7 @@ StartsForeseen =
     IsTrue (none_done is_exec table w asks members) → MembersEdit table w asks members →
     (member : ℕ) → IsTrue (is_member (family table w asks members) member) →
     let after = world_after table w asks in
-    HasKept after member (ForeseesStarts w.tree table now after.tree)
+    HasKept after member (ForeseesStarts w.tree (tmp_table table) now after.tree)
 
 -- each veil of each process stands on a number that was given: so it is in each world that a replay leaves
 abbrev pub PlacesStand : World → Type 0
@@ -250,7 +274,7 @@ EverAsRead =
     IsTrue (members_alone table w asks (process ∷ [])) →
     (member : ℕ) → IsTrue (is_member (family table w asks (process ∷ [])) member) →
     let after = world_after table w asks in
-    HasKept after member (Foresees w.tree table now after.tree)
+    HasKept after member (Foresees w.tree (tmp_table table) now after.tree)
 
 -- a listing and a script as a command reads them by any rules, and behind them any list of requests in bytes, however long,
 -- in which others than the family leave the tree as it is
@@ -264,7 +288,7 @@ EverAfterRead =
     IsTrue (none_done is_exec table w asks (process ∷ [])) → MembersEdit table w asks (process ∷ []) →
     (member : ℕ) → IsTrue (is_member (family table w asks (process ∷ [])) member) →
     let after = world_after table w asks in
-    HasKept after member (Foresees w.tree table now after.tree)
+    HasKept after member (Foresees w.tree (tmp_table table) now after.tree)
 
 -- a line of now has one in a list: by the same names, about the same thing, with all of its calls
 pub record IsWithinLines (lines : List EverLine) (line : Line) : Type 0 where
@@ -281,7 +305,7 @@ IsWithinEver t table h line = IsWithinLines (ever t table h) line
 abbrev pub NowWithinEver : Type 0
 NowWithinEver =
     (t : Tree) (table : CallTable) (h : ProcessState) → WellFormed t →
-    (line : Line) → Contains (objects t table h) line → IsWithinEver t table h line
+    (line : Line) → Contains (objects t table h) line → IsWithinEver t (tmp_table table) h line
 
 -- the rules that a command names, whichever they are, are tables that the laws speak of
 abbrev pub RulesEditByC : Type 0

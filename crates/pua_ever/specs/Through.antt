@@ -9,15 +9,16 @@ use Rattle.pua_tree.specs.Tree.{Tree, WellFormed}
 use Rattle.pua_tree.specs.Listing.{listing}
 use Rattle.pua_path.specs.declared.errno.Errno.{Errno}
 use Rattle.pua_path.specs.declared.found.Found.{Found}
-use Rattle.pua_calls.specs.Promises.{holds, tmppath, unveil}
+use Rattle.pua_calls.specs.Promises.{holds, unveil}
 use Rattle.pua_calls.specs.Tables.{NamesNoError}
 use Rattle.pua_calls.specs.Calls.{CallTable, rule_of, execpromises_by}
+use Rattle.pua_calls.specs.TmpTable.{tmp_table}
 use Rattle.pua_calls.specs.declared.rules.Rules.{Rules}
 use Rattle.pua_calls.specs.declared.call.Call.{Call}
 use Rattle.pua_calls.specs.declared.call.Call.TheVariants as call
 use Rattle.pua_calls.specs.declared.rules.ExecPromises.{ExecPromises}
 use Rattle.pua_calls.specs.declared.rules.ExecPromises.TheVariants.{Unset, Stay}
-use Rattle.pua_policy.specs.States.{ProcessState, SameVeils, held_set, held_for_exec, is_locked, is_ended, has_veil, veils, with_both}
+use Rattle.pua_policy.specs.States.{ProcessState, SameVeils, held_set, held_for_exec, is_locked, is_ended, with_both}
 use Rattle.pua_policy.specs.Verdict.{verdict_of}
 use Rattle.pua_policy.specs.declared.answer.Verdict.TheVariants.{Allowed}
 use Rattle.pua_script.specs.Bytes.{are_in_bytes}
@@ -88,25 +89,9 @@ ever_lasting t table h = by (bound_of table h)
     by None = ever t table h
     by (Some given) = if has_exec (ever t table h) then ever_through t table h given else ever t table h
 
--- some veil gives these permissions, or there is none
-abbrev pub gives_somewhere : ProcessState → ℕ → Bool
-gives_somewhere h perms = not (has_veil (veils h)) || list_any (λ veil. holds veil.1 perms) (veils h)
-
--- by a kernel's rules, which are those by which execpromises stay, the promise tmppath makes files in /tmp by itself, as programs
--- too, of which no line tells: one that holds it can start them, where exec is let through and is allowed under some veil
-abbrev pub starts_made : CallTable → ProcessState → Bool
-starts_made table h =
-    stays (execpromises_by table.whose)
-    && (holds (held_set h) tmppath
-    && (is_promised_by table (held_set h) call.Exec && gives_somewhere h (rule_of table call.Exec).perms))
-
--- what a list without an exec says of execs: nothing, unless a program can be started that it doesn't tell of
-abbrev pub execs_unlisted : CallTable → ProcessState → ExecBound
-execs_unlisted table h = if starts_made table h then Open else Never
-
--- what it says of execs: where no line of the process itself has one, what is said without; else whether what is started is bounded
+-- what it says of execs: nothing where no line of the process itself has one; else whether what is started is bounded
 abbrev pub execs_of : Tree → CallTable → ProcessState → ExecBound
-execs_of t table h = if has_exec (ever t table h) then by (bound_of table h) else execs_unlisted table h
+execs_of t table h = if has_exec (ever t table h) then by (bound_of table h) else Never
   where
     by : Option ℕ → ExecBound
     by None = Open
@@ -185,7 +170,7 @@ EverThroughExecs =
     GoAlong table w now given members → VeilsStand w.tree now → TreesAlong table w asks → MembersEdit table w asks members →
     (member : ℕ) → IsTrue (is_member (family table w asks members) member) →
     let after = world_after table w asks in
-    HasKept after member (ForeseesIn (ever_through w.tree table now given) w.tree table now after.tree)
+    HasKept after member (ForeseesIn (ever_through w.tree (tmp_table table) now given) w.tree (tmp_table table) now after.tree)
 
 -- and where a kernel makes programs of what they make, write or set the mode of, it starts none whose line has no exec
 abbrev pub StartsThroughExecs : Type 0
@@ -195,7 +180,7 @@ StartsThroughExecs =
     GoAlong table w now given members → VeilsStand w.tree now → TreesAlong table w asks → MembersEdit table w asks members →
     (member : ℕ) → IsTrue (is_member (family table w asks members) member) →
     let after = world_after table w asks in
-    HasKept after member (ForeseesStartsIn (ever_through w.tree table now given) w.tree table now after.tree)
+    HasKept after member (ForeseesStartsIn (ever_through w.tree (tmp_table table) now given) w.tree (tmp_table table) now after.tree)
 
 -- the same of one process whose execs are bounded, and of the list that holds longest
 abbrev pub EverLasts : Type 0
@@ -206,7 +191,7 @@ EverLasts =
     MembersEdit table w asks (process ∷ []) →
     (member : ℕ) → IsTrue (is_member (family table w asks (process ∷ [])) member) →
     let after = world_after table w asks in
-    HasKept after member (ForeseesIn (ever_lasting w.tree table now) w.tree table now after.tree)
+    HasKept after member (ForeseesIn (ever_lasting w.tree (tmp_table table) now) w.tree (tmp_table table) now after.tree)
 
 -- a listing and a script as a command reads them by any rules, and behind them any list of requests in bytes, however long,
 -- in which others than the family leave the tree as it is
@@ -220,10 +205,10 @@ EverLastsAfterRead =
     MembersEdit table w asks (process ∷ []) →
     (member : ℕ) → IsTrue (is_member (family table w asks (process ∷ [])) member) →
     let after = world_after table w asks in
-    HasKept after member (ForeseesIn (ever_lasting w.tree table now) w.tree table now after.tree)
+    HasKept after member (ForeseesIn (ever_lasting w.tree (tmp_table table) now) w.tree (tmp_table table) now after.tree)
 
 -- the list of the objects of now lies within the list that holds longest
 abbrev pub NowWithinLasting : Type 0
 NowWithinLasting =
     (t : Tree) (table : CallTable) → NoCallNeedsError table → (h : ProcessState) → WellFormed t →
-    (line : Line) → Contains (objects t table h) line → IsWithinLines (ever_lasting t table h) line
+    (line : Line) → Contains (objects t table h) line → IsWithinLines (ever_lasting t (tmp_table table) h) line

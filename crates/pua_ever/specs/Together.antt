@@ -6,6 +6,7 @@ use Rattle.pua_tree.specs.Tree.{Tree}
 use Rattle.pua_tree.specs.Listing.{listing}
 use Rattle.pua_calls.specs.Promises.{holds, unveil}
 use Rattle.pua_calls.specs.Calls.{CallTable}
+use Rattle.pua_calls.specs.TmpTable.{tmp_table}
 use Rattle.pua_calls.specs.declared.rules.Rules.{Rules}
 use Rattle.pua_calls.specs.declared.call.Call.TheVariants as call
 use Rattle.pua_policy.specs.States.{ProcessState, SameVeils, held_set, held_for_exec, is_locked, is_ended}
@@ -89,7 +90,7 @@ EverTogether =
     VeilsStand w.tree one → TreesAlong table w asks → IsTrue (none_done is_exec table w asks members) → MembersEdit table w asks members →
     (member : ℕ) → IsTrue (is_member (family table w asks members) member) →
     let after = world_after table w asks in
-    HasKept after member (Foresees w.tree table one after.tree)
+    HasKept after member (Foresees w.tree (tmp_table table) one after.tree)
 
 -- and through execs where all that they start is bounded
 abbrev pub TogetherLasts : Type 0
@@ -101,7 +102,7 @@ TogetherLasts =
     VeilsStand w.tree one → TreesAlong table w asks → MembersEdit table w asks members →
     (member : ℕ) → IsTrue (is_member (family table w asks members) member) →
     let after = world_after table w asks in
-    HasKept after member (ForeseesIn (ever_lasting w.tree table one) w.tree table one after.tree)
+    HasKept after member (ForeseesIn (ever_lasting w.tree (tmp_table table) one) w.tree (tmp_table table) one after.tree)
 
 -- a listing and a script as a command reads them by any rules, and behind them any list of requests in bytes, as long as the list
 -- doesn't say `exec open`, or no exec of theirs is answered ok
@@ -113,7 +114,7 @@ TogetherAfterRead =
     let w = world_after table (new_world t) before in
     (members : List ℕ) (first : ProcessState) (more : List ProcessState) → ActTogether w members first more →
     let one = joined table first more in
-    (execs_of w.tree table one ≢ Open) ⊎ IsTrue (none_done is_exec table w asks members) → MembersEdit table w asks members →
+    (execs_of w.tree (tmp_table table) one ≢ Open) ⊎ IsTrue (none_done is_exec table w asks members) → MembersEdit table w asks members →
     (member : ℕ) → IsTrue (is_member (family table w asks members) member) →
     let after = world_after table w asks in
-    HasKept after member (ForeseesIn (ever_lasting w.tree table one) w.tree table one after.tree)
+    HasKept after member (ForeseesIn (ever_lasting w.tree (tmp_table table) one) w.tree (tmp_table table) one after.tree)

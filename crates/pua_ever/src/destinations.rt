@@ -466,7 +466,7 @@ pub(crate) fn is_dir<T: FileTree>(tree: &T, id: NodeId) -> bool
 }
 
 /// Whether a cover has `c`.
-pub(crate) fn has_c(cover: Cover) -> bool
+pub fn has_c(cover: Cover) -> bool
     ensures { result ≡ cover_has_c cover }
 {
     match cover {

@@ -1,16 +1,14 @@
 //! Execs: by what all that a process starts is bounded, and which calls it and they have.
 
 ghost use Rattle.std.specs.Prelude.{◌≡◌, ◌||◌, None, IfOk, MatchOption};
-ghost use Rattle.pua_calls.specs.Calls.{execpromises_by};
 ghost use Rattle.pua_calls.specs.CallSets.{has};
 ghost use Rattle.pua_calls.specs.declared.call.Call.{Call as AnyCall};
 ghost use Rattle.pua_ever.specs.BoundedExec.{IsBoundedExec};
-ghost use Rattle.pua_ever.specs.Through.{bound_of, gives_somewhere, is_promised_by};
-ghost use Rattle.pua_ever.specs.Through.{starts_made, stays};
+ghost use Rattle.pua_ever.specs.Through.{bound_of, is_promised_by};
 ghost use Rattle.pua_ever.specs.Through.{is_promised_by_one as promised_by_either};
 ghost use Rattle.pua_ever.specs.Through.{is_bounded as bounds, is_confined_through};
 
-use pua_calls::{Call, CallTable, Calls, ExecPromises, Perms, Promises};
+use pua_calls::{Call, CallTable, Calls, ExecPromises, Promises};
 use pua_policy::Process;
 use pua_tree::OutOfMemory;
 use std::alloc::Global;
@@ -61,49 +59,6 @@ pub fn bound(process: &Process, table: &CallTable) -> Option<Promises>
     } else {
         None
     }
-}
-
-/// Whether a process can start what the promise tmppath makes, by a kernel's rules, which are those
-/// by which execpromises stay: it holds that promise, and exec is let through and is allowed under
-/// some veil. The only error is that a growth was refused.
-pub(crate) fn starts_made(
-    alloc: Global,
-    process: &Process,
-    table: &CallTable,
-) -> Result<bool, OutOfMemory>
-    ensures { IfOk result (λ starts. starts ≡ starts_made table.now process.now) }
-{
-    let held = process.held();
-    if keeps_execpromises(table)
-        && held.contains(Promises::TMPPATH)
-        && is_promised(table, held, Call::Exec)
-    {
-        gives_somewhere(alloc, process, table.perms(Call::Exec))
-    } else {
-        Ok(false)
-    }
-}
-
-/// Whether execpromises stay after an exec.
-fn keeps_execpromises(table: &CallTable) -> bool
-    ensures { result ≡ stays (execpromises_by table.now.whose) }
-{
-    match table.execpromises() {
-        ExecPromises::Stay => true,
-        ExecPromises::Unset => false,
-    }
-}
-
-/// Whether some veil of a process gives these permissions, or it has none. The only error is that a
-/// growth was refused.
-fn gives_somewhere(alloc: Global, process: &Process, perms: Perms) -> Result<bool, OutOfMemory>
-    ensures { IfOk result (λ gives. gives ≡ gives_somewhere process.now perms) }
-{
-    if !process.is_veiled() {
-        return Ok(true);
-    }
-    let veils = process.veils(alloc)?;
-    Ok(veils.iter().any(|veil| veil.1.contains(perms)))
 }
 
 /// Whether a program that is started with these promises keeps its execpromises, or can start none.

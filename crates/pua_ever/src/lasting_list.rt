@@ -10,14 +10,14 @@ ghost use Rattle.pua_ever.specs.EverList.{AreEverTold, IsRowOn, abouts};
 ghost use Rattle.pua_ever.specs.BoundedExec.{IsBoundedExec};
 ghost use Rattle.pua_ever.specs.LastingList.{IsBoundedExecOf, IsLasting};
 ghost use Rattle.pua_ever.specs.Refusals.{refusal as refusal_of, refusal_in};
-ghost use Rattle.pua_ever.specs.Through.{ever_through, execs_unlisted, has_exec, only_through};
+ghost use Rattle.pua_ever.specs.Through.{ever_through, has_exec, only_through};
 
 use crate::fault::EverFault;
-use crate::lasting::{BoundedExec, starts_made};
+use crate::lasting::BoundedExec;
 use crate::list::{EverRow, list_ever};
 use pua_calls::{Call, CallTable, Calls};
 use pua_policy::Process;
-use pua_tree::{FileTree, OutOfMemory};
+use pua_tree::FileTree;
 use std::alloc::{AllocError, Global};
 
 /// What a list for ever says of execs.
@@ -27,8 +27,7 @@ pub enum ExecBound {
     Never,
     /// All that is started is bounded: the list holds through every exec.
     Bounded,
-    /// Started programs aren't bounded, or no line shows them: the list holds until a program is
-    /// started.
+    /// Started programs aren't bounded: the list holds until a program is started.
     Open,
 }
 
@@ -44,8 +43,9 @@ pub struct LastingList<'t> {
 /// Lists what a process, and what it forks, can ever touch in a tree by their own doing. Where all
 /// that they start is bounded, the list holds through every exec, and has what the started programs
 /// can touch, too: `both` is what `bounded_exec` gave of the process by this table. Else it holds
-/// until an exec of theirs succeeds. Where `why_refused` has a reason, that is the fault. Else the
-/// only fault is that a growth was refused.
+/// until an exec of theirs succeeds. It is complete by the `with_tmppath` of the table by which the
+/// process's requests go. Where `why_refused` has a reason, that is the fault. Else the only fault is
+/// that a growth was refused.
 pub fn list_lasting<'t, T: FileTree>(
     alloc: Global,
     tree: &'t T,
@@ -62,8 +62,10 @@ pub fn list_lasting<'t, T: FileTree>(
 {
     let rows = list_ever(alloc, tree, process, table)?;
     if !some_exec(rows.as_slice()) {
-        let execs = unlisted(alloc, process, table)?;
-        return Ok(LastingList { rows, execs });
+        return Ok(LastingList {
+            rows,
+            execs: ExecBound::Never,
+        });
     }
     let Some(both) = both else {
         return Ok(LastingList {
@@ -100,19 +102,6 @@ fn rows_through<'t, T: FileTree>(
     match let_through(alloc, rows.as_slice(), both.passes) {
         Ok(through) => Ok(through),
         Err(AllocError) => Err(EverFault::OutOfMemory),
-    }
-}
-
-/// What a list without an exec says of execs: that none can ever succeed, unless a program can be
-/// started that it doesn't tell of. The only error is that a growth was refused.
-fn unlisted(alloc: Global, process: &Process, table: &CallTable) -> Result<ExecBound, EverFault>
-    ensures execs { IfOk result (λ execs. execs ≡ execs_unlisted table.now process.now) }
-    ensures unrefused { IfErr result (λ fault. refusal_in fault ≡ None) }
-{
-    match starts_made(alloc, process, table) {
-        Ok(true) => Ok(ExecBound::Open),
-        Ok(false) => Ok(ExecBound::Never),
-        Err(OutOfMemory) => Err(EverFault::OutOfMemory),
     }
 }
 

@@ -2,14 +2,8 @@
 
 ghost use Rattle.pua_ever.specs.ComingExamples.{ComingRows};
 ghost use Rattle.pua_ever.specs.Examples.{EverRows, MovedRows, StartedRows};
-ghost use Rattle.pua_ever.specs.JointTable.{TableLaw};
-ghost use Rattle.pua_ever.specs.JointlyExamples.{JointlyRows};
-ghost use Rattle.pua_ever.specs.JointStarts.{JointStartsListed};
-ghost use Rattle.pua_ever.specs.Jointly.{JointListsGrow, JointlyAfterRead};
-ghost use Rattle.pua_ever.specs.Jointly.{JointlyComplete, JointlyGrows, JointlyLasts, JointlyThrough};
-ghost use Rattle.pua_ever.specs.Jointly.{JointlyWithin};
 ghost use Rattle.pua_ever.specs.Laws.{EverAfterRead, EverAsRead, EverBeside, EverComplete, EverOfMany};
-ghost use Rattle.pua_ever.specs.Laws.{EverWithExecs};
+ghost use Rattle.pua_ever.specs.Laws.{EverWithExecs, OkaysAreForeseen};
 ghost use Rattle.pua_ever.specs.Laws.{NowWithinEver};
 ghost use Rattle.pua_ever.specs.Laws.{NewPlacesStand, ReplaysKeepPlaces, RulesEditByC};
 ghost use Rattle.pua_ever.specs.Laws.{StartsForeseen, WithoutExec};
@@ -24,14 +18,17 @@ ghost use Rattle.pua_ever.specs.TogetherExamples.{TogetherRows};
 /// else changes the tree and no exec of theirs succeeds: if a call of one of them is then allowed
 /// on what a path names, the line of that thing in the list of the beginning has the call. So it is
 /// of several processes with the same veils, of execs that let them do no more, and after a
-/// listing and a script as a command reads them. Where no line has an exec, none can succeed; and a
-/// file that is made, or that a call of its line can make a program, has exec in its line wherever
-/// it could be started, were it one.
+/// listing and a script as a command reads them. What one of them is then answered ok has its line,
+/// or a promise opens its text that was held in the beginning. Where no line has an exec, none can
+/// succeed; and a file that is made, or that a call of its line can make a program, has exec in its
+/// line wherever it could be started, were it one. Requests go by a table, and the list by its
+/// `with_tmppath`, so that what tmppath makes and frees has its lines too; and so in all laws here.
 pub fn ever_law()
     ensures complete { EverComplete }
     ensures many { EverOfMany }
     ensures beside { EverBeside }
     ensures execs { EverWithExecs }
+    ensures okays { OkaysAreForeseen }
     ensures exec { WithoutExec }
     ensures starts { StartsForeseen }
     ensures read { EverAsRead }
@@ -40,7 +37,6 @@ pub fn ever_law()
 
 /// The list of the objects of now lies within the list for ever: each line of now has one there by
 /// the same names, about the same thing, with all of its calls.
-#[tactic(auto, using(crate::proofs::Now::now_within_ever))]
 pub fn now_law()
     ensures { NowWithinEver }
 {}
@@ -115,33 +111,4 @@ pub fn together_law()
 #[tactic(auto, using(crate::specs::TogetherExamples::together_rows))]
 pub fn together_examples()
     ensures { TogetherRows }
-{}
-
-/// Several processes with veils and promises of their own, and what they fork: whatever they ask
-/// for, all of them together, each call that is then allowed to one of them has its line in the
-/// joint list of that one. So it is through execs, where all that they start is bounded, and after
-/// a listing and a script. Who has more help has no less in its list. A file on which exec would be
-/// allowed to one of them, were it a program, has exec in its list, if a call of any of them could
-/// make it one.
-pub fn jointly_law()
-    ensures within { JointlyWithin }
-    ensures complete { JointlyComplete }
-    ensures through { JointlyThrough }
-    ensures read { JointlyAfterRead }
-    ensures lasts { JointlyLasts }
-    ensures grows { JointlyGrows }
-    ensures lists { JointListsGrow }
-    ensures starts { JointStartsListed }
-{}
-
-/// Examples of what processes with veils of their own can ever touch together.
-#[tactic(auto, using(crate::proofs::JointlyRows::jointly_rows))]
-pub fn jointly_examples()
-    ensures { JointlyRows }
-{}
-
-/// The table of a crew: once nothing more follows from what is in it, it has all that the crew can
-/// come to do, and nothing else.
-pub fn crew_table_law()
-    ensures { TableLaw }
 {}

@@ -79,7 +79,8 @@ pub enum EverPlace {
 /// it has a veil of its own and can come to be free. Last comes what can be made: a directory, its
 /// names, a file and a link. Where `why_refused` has a reason, that is the fault. Else the process
 /// can put no veil any more or has ended, and the only fault is that a growth was refused. Each
-/// veil that is not at a directory is at a name. The veils are asked as by `find_movable`.
+/// veil that is not at a directory is at a name. The veils are asked as by `find_movable`. The list
+/// is complete by the `with_tmppath` of the table by which the process's requests go.
 pub fn list_ever<'t, T: FileTree>(
     alloc: Global,
     tree: &'t T,
@@ -217,7 +218,7 @@ fn stands_row<'t>(
 }
 
 /// Where what an item is about stands.
-pub(crate) fn place_of(item: &Item<'_>) -> EverPlace
+pub fn place_of(item: &Item<'_>) -> EverPlace
     ensures { (t : Tree) → subject_at t (last_name item.now.subject) result
         ≡ Some (subject_given t item.now.subject) }
 {
@@ -281,7 +282,7 @@ fn made_row<'t>(prospects: &Prospects, made: Made) -> EverRow<'t>
 }
 
 /// What a line says that an item is.
-pub(crate) fn kind_of(item: &Item<'_>) -> ObjectKind
+pub fn kind_of(item: &Item<'_>) -> ObjectKind
     ensures { (t : Tree) (h : ProcessState) (about : About) → IsItemOn t h about item.now →
         kind_word result ≡ subject_word t about }
 {

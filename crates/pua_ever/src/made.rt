@@ -1,12 +1,11 @@
 //! What can be made.
 
-ghost use Rattle.std.specs.Prelude.{◌≡◌, ◌<◌, ◌∷◌, Some};
+ghost use Rattle.std.specs.Prelude.{◌≡◌, ◌∷◌, Some};
 ghost use Rattle.std.specs.List.{list_any};
 ghost use Rattle.pua_objects.specs.Lines.{kind_word};
 ghost use Rattle.pua_calls.specs.CallSets.{has};
 ghost use Rattle.pua_script.specs.Decide.{made_by};
-ghost use Rattle.pua_ever.specs.Ever.{file_makers, is_made_by, is_some_file, new_kind, new_word};
-ghost use Rattle.pua_ever.specs.JointPlace.{new_bit};
+ghost use Rattle.pua_ever.specs.Ever.{file_makers, is_made_by, is_some_file, new_word};
 ghost use Rattle.pua_ever.specs.EverLines as left;
 ghost use Rattle.pua_ever.specs.EverLines.{made_left, new_of};
 
@@ -28,8 +27,8 @@ pub enum Made {
 }
 
 impl Made {
-    /// The next one, in the order of the lines.
-    pub(crate) fn after(self) -> Option<Made>
+    /// The next one, in the order of the lines; None after the last.
+    pub fn after(self) -> Option<Made>
         ensures { made_left (Some self) ≡ left.Coming (new_of self) ∷ made_left result }
     {
         match self {
@@ -51,32 +50,8 @@ impl Made {
         }
     }
 
-    /// Its bit in the table of a crew.
-    pub(crate) fn bit(self) -> u32
-        ensures bit { result ≡ new_bit (new_of self) }
-        ensures low { result < 4 }
-    {
-        match self {
-            Made::Dir => 0,
-            Made::Others => 1,
-            Made::File => 2,
-            Made::Link => 3,
-        }
-    }
-
-    /// What it is in a tree.
-    pub(crate) fn node(self) -> Kind
-        ensures { result ≡ new_kind (new_of self) }
-    {
-        match self {
-            Made::Dir | Made::Others => Kind::Dir,
-            Made::File => Kind::File,
-            Made::Link => Kind::Link,
-        }
-    }
-
     /// What a line says that it is.
-    pub(crate) fn kind(self) -> ObjectKind
+    pub fn kind(self) -> ObjectKind
         ensures { kind_word result ≡ new_word (new_of self) }
     {
         match self {

@@ -5,18 +5,17 @@ ghost use Rattle.std.specs.List.{list_any};
 ghost use Rattle.pua_policy.specs.States.{may_any as may_any_of};
 ghost use Rattle.pua_ever.specs.Ever.{can_link as gives_names, can_move as moves};
 ghost use Rattle.pua_ever.specs.Ever.{may_rename as renames, is_yes as says_yes};
-ghost use Rattle.pua_ever.specs.Jointly.{may_take as takes};
 
 use crate::destinations::has_c;
 use crate::prospects::may_link;
-use pua_calls::{Call, CallTable, Promises};
+use pua_calls::{CallTable, Promises};
 use pua_path::Last;
 use pua_policy::{Cover, May, Process, judge};
 use pua_tree::Kind;
 
 /// Whether a process can move what has this cover: it has `c` and what rename's old name needs, and
 /// the process holds the promises of both names.
-pub(crate) fn can_move(process: &Process, table: &CallTable, cover: &Cover) -> bool
+pub fn can_move(process: &Process, table: &CallTable, cover: &Cover) -> bool
     ensures { result ≡ moves table.now process.now cover.now }
 {
     let old_name = table.rename().old_name();
@@ -34,7 +33,7 @@ pub(crate) fn moves_any(process: &Process, table: &CallTable, covers: &[Cover]) 
 
 /// Whether a process can give what is of this kind, and no directory, a further name by link, by
 /// what covers it.
-pub(crate) fn can_link(process: &Process, table: &CallTable, kind: Kind, cover: Cover) -> bool
+pub fn can_link(process: &Process, table: &CallTable, kind: Kind, cover: Cover) -> bool
     ensures { result ≡ gives_names table.now process.now (Some kind) cover }
 {
     let old_name = table.link().old_name();
@@ -42,15 +41,6 @@ pub(crate) fn can_link(process: &Process, table: &CallTable, kind: Kind, cover: 
         return false;
     }
     kind != Kind::Link || old_name.last() == Last::Kept
-}
-
-/// Whether a process may take a name away.
-pub(crate) fn may_take(process: &Process, table: &CallTable) -> bool
-    ensures { result ≡ takes table.now process.now }
-{
-    may_any(process, table.rename().new_name().alternatives())
-        || may_any(process, table.alternatives(Call::Rmdir))
-        || may_any(process, table.alternatives(Call::Unlink))
 }
 
 /// Whether a process holds the promises of both of rename's names.
@@ -63,7 +53,7 @@ fn may_rename(process: &Process, table: &CallTable) -> bool
 }
 
 /// Whether a process holds one of these sets of promises.
-pub(crate) fn may_any(process: &Process, alternatives: &[Promises]) -> bool
+pub fn may_any(process: &Process, alternatives: &[Promises]) -> bool
     ensures { result ≡ says_yes (may_any_of process.now alternatives.now) }
 {
     process.may_any(alternatives) == May::Yes

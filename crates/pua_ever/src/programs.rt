@@ -21,7 +21,7 @@ pub(crate) fn on_file(as_file: Calls, as_program: Calls) -> Calls
 }
 
 /// The same of a file that is made, whose mode is given with it.
-pub(crate) fn on_new_file(as_file: Calls, as_program: Calls) -> Calls
+pub fn on_new_file(as_file: Calls, as_program: Calls) -> Calls
     ensures { (call : AnyCall) → has result call
         ≡ (has as_file call || (is_exec_call call && has as_program call)) }
 {
@@ -32,7 +32,7 @@ pub(crate) fn on_new_file(as_file: Calls, as_program: Calls) -> Calls
 }
 
 /// Whether one of the calls on a file writes it or sets its mode.
-pub(crate) fn can_turn(calls: Calls) -> bool
+pub fn can_turn(calls: Calls) -> bool
     ensures { result ≡ list_any (has calls) turning_calls }
 {
     Call::ALL

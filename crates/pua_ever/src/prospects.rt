@@ -304,7 +304,7 @@ pub(crate) fn moves_dir(process: &Process, table: &CallTable, dir: NodeId, cover
 
 /// The name at which what an item is about stands; None for the root, for further names, and where
 /// nothing stands.
-pub(crate) fn own_name<'t>(item: &Item<'t>) -> Option<(NodeId, &'t Name)>
+pub fn own_name<'t>(item: &Item<'t>) -> Option<(NodeId, &'t Name)>
     ensures { option_map (λ own. (own.0, own.1.now)) result
         ≡ own_given item.now.subject item.now.object }
 {

@@ -8,6 +8,7 @@ ghost use Rattle.pua_tree.specs.Listing.{listing};
 ghost use Rattle.pua_path.specs.Fits.{FoundsFit};
 ghost use Rattle.pua_path.specs.Resolution.{resolution_of_text};
 ghost use Rattle.pua_calls.specs.Calls.{call_number, standard_table};
+ghost use Rattle.pua_calls.specs.TmpTable.{tmp_table};
 ghost use Rattle.pua_policy.specs.States.{ProcessState};
 ghost use Rattle.pua_policy.specs.Verdict.{verdict_on};
 ghost use Rattle.pua_script.specs.Replay.{answers_to, new_world, world_after};
@@ -196,13 +197,14 @@ pub(crate) fn can_ever_start<T: FileTree>(
     table: &CallTable,
 ) -> Result<bool, EverFault>
     ensures never { IfOk result (λ starts. IsFalse starts →
-        NoLineHasExec (T.content tree.now) table.now process.now) }
+        NoLineHasExec (T.content tree.now) (tmp_table table.now) process.now) }
     ensures none { IfOk result (λ starts. IsFalse starts →
         NeverStarts (T.content tree.now) process.now table.now) }
 {
     ever_law();
     table.known();
-    let rows = list_ever(alloc, tree, process, table)?;
+    let wide = table.with_tmppath();
+    let rows = list_ever(alloc, tree, process, &wide)?;
     Ok(rows.iter().any(|row| row.line.calls.contains(Call::Exec)))
 }
 
@@ -229,6 +231,7 @@ pub(crate) fn list(
         whose: processes,
         span: Time::Now,
         columns: Columns::Plain,
+        images: false,
     };
     let table = TableChoice::STANDARD;
     list_to(alloc, tree, lines, table, &list, &mut sink)?;

@@ -1,37 +1,31 @@
 -- What no line has never comes, and what has a way has a line.
 use Rattle.std.proofs.Common.{◌≡◌, ℕ, true, false, Bool, List, [], ◌∷◌, ◌++◌, refl, sym, ap, subst, ◌∙◌, cond, Some}
 use Rattle.std.proofs.lemmas.Bool.{and_from, eq-eqb, false≢true, or_right}
-use Rattle.std.specs.Prelude.{◌&&◌, ◌||◌, ◌==◌, not, Ok, Err, Result}
+use Rattle.std.specs.Prelude.{◌&&◌, ◌||◌, ◌==◌, not, Ok, Result}
 use Rattle.std.specs.List.{AllByRecursion, Contains}
 use Rattle.pua_tree.specs.Tree.{Tree, WellFormed}
-use Rattle.pua_tree.proofs.ForCallers.{None≢Some}
 use Rattle.pua_path.specs.Resolution.{resolution_of_text}
 use Rattle.pua_path.specs.declared.errno.Errno.{Errno}
 use Rattle.pua_path.specs.declared.found.Found.{Found}
 use Rattle.pua_calls.specs.Calls.{CallTable, ending_of, last_of}
+use Rattle.pua_calls.specs.TmpTable.{tmp_table}
 use Rattle.pua_calls.specs.declared.call.Call.{Call}
-use Rattle.pua_calls.specs.declared.call.Call.TheVariants as call
 use Rattle.pua_policy.specs.States.{ProcessState, perms_kept, working_dir}
-use Rattle.pua_policy.specs.Verdict.{or_fault, allowed_unless, if_promised, verdict, verdict_of}
+use Rattle.pua_policy.specs.Verdict.{verdict, verdict_of}
 use Rattle.pua_policy.specs.Verdict.{object_named}
-use Rattle.pua_policy.specs.declared.answer.Refusal.TheVariants as refusals
 use Rattle.pua_policy.specs.declared.answer.Verdict.TheVariants.{Allowed}
 use Rattle.pua_script.specs.Requests.{Asked}
-use Rattle.pua_script.specs.Decide.{Change, Decision, decide}
-use Rattle.pua_script.specs.Guards.{IsDecided, OnOne}
-use Rattle.pua_script.specs.Replay.{World, kept_at, apply, world_after, answers_to, do_decided}
+use Rattle.pua_script.specs.Replay.{World, apply, world_after}
 use Rattle.pua_script.specs.Family.{family, family_then, none_done, members_alone, is_done, is_member, is_exec, is_okay, with_child, HasKept}
 use Rattle.pua_script.specs.Tightening.{EndsWithin}
 use Rattle.pua_script.specs.declared.request.Action.{Action}
-use Rattle.pua_script.specs.declared.request.Action.TheVariants.{OnPath, Symlink, Rename, Link, Pledge, Unveil, Lock, Fork, Exit, Uses}
-use Rattle.pua_script.specs.declared.answer.Answer.TheVariants.{Okay}
-use Rattle.pua_script.proofs.ForCallers.{by_request, decisions_are_guarded, families_narrow, first_tree}
+use Rattle.pua_script.specs.declared.request.Action.TheVariants.{OnPath, Symlink, Rename, Link, Pledge, Unveil, Lock, Fork, Exit, Uses, Comment}
+use Rattle.pua_script.proofs.ForCallers.{families_narrow, first_tree}
 use Rattle.pua_ever.specs.Laws.{EverComplete, Foresees, ForeseesIn, IsForeseen, IsForeseenIn}
 use Rattle.pua_ever.specs.Through.{EverLasts, ever_lasting}
 use Rattle.pua_ever.proofs.ForCallers.{beside_one}
 use Rattle.pua_how.specs.Targets.{IsGiven, is_listed, is_of}
 use Rattle.pua_how.specs.declared.target.Target.{Target}
-use Rattle.pua_how.specs.Ways.{call_of}
 use Rattle.pua_how.specs.Laws.{NeverComes, NeverComesThrough, WaysAreListed}
 use Rattle.pua_how.proofs.LineOfTarget.{line_about, listed_by, same_veils_same}
 use Rattle.pua_how.proofs.Lived.{LivesThing, lasting_lives, listed_lives}
@@ -59,72 +53,25 @@ unforeseen lines t u table now last well live foresees asked call given unlisted
 
 pub never_comes : NeverComes
 never_comes table sound needs w asks process now here confined stand trees none edit asked call given unlisted member belongs =
+    let tmp = tmp_table table in
     let last = beside_one table sound needs w asks process now here confined stand trees none edit member belongs in
     let well = first_tree table w asks trees in (
       last.0,
       last.1,
-      unforeseen (ever w.tree table now) w.tree (world_after table w asks).tree table now last.0 well (listed_lives w.tree now well table)
+      unforeseen (ever w.tree tmp now) w.tree (world_after table w asks).tree tmp now last.0 well (listed_lives w.tree now well tmp)
           last.2 asked call given unlisted,
     )
 
 pub never_comes_through : EverLasts → NeverComesThrough
 never_comes_through lasts table sound needs w asks process now bound here bounded stand trees edit asked call given unlisted member belongs =
+    let tmp = tmp_table table in
     let last = lasts table sound needs w asks process now bound here bounded stand trees edit member belongs in
     let well = first_tree table w asks trees in (
       last.0,
       last.1,
-      unforeseen (ever_lasting w.tree table now) w.tree (world_after table w asks).tree table now last.0 well
-          (lasting_lives w.tree table now well) last.2 asked call given unlisted,
+      unforeseen (ever_lasting w.tree tmp now) w.tree (world_after table w asks).tree tmp now last.0 well
+          (lasting_lives w.tree tmp now well) last.2 asked call given unlisted,
     )
-
--- a request that was answered `ok` was decided
-pub record IsDone (table : CallTable) (w : World) (ask : Asked) : Type 0 where
-  pub now : ProcessState
-  pub here : kept_at w ask.process ≡ Some now
-  pub change : Change
-  pub decided : decide table w.tree now ask.action ≡ Ok change
-
-done_by : (table : CallTable) (w : World) (ask : Asked) → (apply table w ask).0 ≡ Okay → IsDone table w ask
-done_by table w ask =
-    by_request table w ask (λ done. done.0 ≡ Okay → IsDone table w ask) (λ gone. cc)
-    (λ h here. by h here (decide table w.tree h ask.action) refl)
-  where
-    by : (h : ProcessState) → kept_at w ask.process ≡ Some h → (d : Decision) → decide table w.tree h ask.action ≡ d →
-        (do_decided w ask.process h d).0 ≡ Okay → IsDone table w ask
-    by h here (Ok change) is told = record { now = h; here = here; change = change; decided = is }
-    by h here (Err (refusals.Failed errno)) is told = cc
-    by h here (Err refusals.Killed) is told = cc
-
--- so a call on what a path names was allowed on it
-pub record IsAllowedOn (table : CallTable) (t : Tree) (h : ProcessState) (call : Call) (text : List ℕ) : Type 0 where
-  pub object : Found
-  pub named : object_named t h call text ≡ Ok object
-  pub allowed : verdict t table h call object ≡ Allowed
-
-on_one : (table : CallTable) (t : Tree) (h : ProcessState) (call : Call) (text : List ℕ) (object : Found) →
-    OnOne table t h call text object → IsAllowedOn table t h call text
-on_one table t h call text object one = record {
-  object = object;
-  named = one.found;
-  allowed = λ i. if_promised (one.promised i) (allowed_unless (or_fault (one.covered i) (one.fitting i)));
-}
-
-allowed_on : (table : CallTable) (t : Tree) (h : ProcessState) (action : Action) (change : Change) (asked : Call) (text : List ℕ) →
-    IsDecided table t h action change → call_of action ≡ Some (asked, text) → IsAllowedOn table t h asked text
-allowed_on table t h (OnPath other path) _ asked text decided e =
-    subst (λ (two : Call × List ℕ). IsAllowedOn table t h two.0 two.1) (same_some (other, path) (asked, text) e)
-    (on_one table t h other path decided.0 decided.1)
-allowed_on table t h (Symlink target path) _ asked text decided e =
-    subst (λ (two : Call × List ℕ). IsAllowedOn table t h two.0 two.1) (same_some (call.Symlink, path) (asked, text) e)
-    (on_one table t h call.Symlink path decided.0 decided.1)
-allowed_on table t h (Rename old new) _ asked text decided e = absurd (None≢Some (asked, text) e)
-allowed_on table t h (Link old new) _ asked text decided e = absurd (None≢Some (asked, text) e)
-allowed_on table t h (Pledge promises execpromises) _ asked text decided e = absurd (None≢Some (asked, text) e)
-allowed_on table t h (Unveil path perms) _ asked text decided e = absurd (None≢Some (asked, text) e)
-allowed_on table t h Lock _ asked text decided e = absurd (None≢Some (asked, text) e)
-allowed_on table t h (Fork new) _ asked text decided e = absurd (None≢Some (asked, text) e)
-allowed_on table t h Exit _ asked text decided e = absurd (None≢Some (asked, text) e)
-allowed_on table t h (Uses sets) _ asked text decided e = absurd (None≢Some (asked, text) e)
 
 -- requests of one process alone are of its family, and do what it does
 module _ (table : CallTable) (process : ℕ) where
@@ -139,6 +86,7 @@ module _ (table : CallTable) (process : ℕ) where
   child_more Lock members e = e
   child_more Exit members e = e
   child_more (Uses sets) members e = e
+  child_more Comment members e = e
 
   then_member : (w : World) (ask : Asked) (members : List ℕ) → is_member members process ≡ true →
       is_member (family_then table w ask members) process ≡ true
@@ -180,13 +128,9 @@ last_of_all : {A : Type 0} (P : A → Type 0) (xs : List A) (x : A) → AllByRec
 last_of_all P [] x all = all.0
 last_of_all P (y ∷ xs) x all = last_of_all P xs x all.1
 
-last_told : (table : CallTable) (asks : List Asked) (ask : Asked) (w : World) →
-    AllByRecursion (λ answer. answer ≡ Okay) (answers_to table w (asks ++ ask ∷ [])) → (apply table (world_after table w asks) ask).0 ≡ Okay
-last_told table [] ask w all = all.0
-last_told table (other ∷ asks) ask w all = last_told table asks ask (apply table w other).1 all.1
-
 pub ways_are_listed : EverComplete → WaysAreListed
 ways_are_listed complete table sound needs w process now here confined stand asked call given asks way trees =
+    let tmp = tmp_table table in
     let own = subst (AllByRecursion (λ ask. ask.process ≡ process)) way.parts way.own in
     let front = all_front (λ ask. ask.process ≡ process) way.first (way.last ∷ []) own in
     let whose : way.last.process ≡ process = last_of_all (λ ask. ask.process ≡ process) way.first way.last own in
@@ -197,26 +141,17 @@ ways_are_listed complete table sound needs w process now here confined stand ask
     let last = complete table sound needs w way.first process now here confined stand trees none alone process belongs in
     let narrow : HasKept before process (EndsWithin table w way.first process now) =
     families_narrow table w way.first process now here confined none process belongs in
-    let told = last_told table way.first way.last w
-    (subst (λ all. AllByRecursion (λ answer. answer ≡ Okay) (answers_to table w all)) way.parts way.granted) in
-    let done = done_by table before way.last told in
     let h = way.reaches.now in
-    let done_is : done.now ≡ h =
-    same_some done.now h (sym done.here ∙ ap (kept_at before) whose ∙ way.reaches.kept) in
     let last_is : last.0 ≡ h = same_some last.0 h (sym last.1 ∙ way.reaches.kept) in
     let narrow_is : narrow.0 ≡ h = same_some narrow.0 h (sym narrow.1 ∙ way.reaches.kept) in
-    let allowed : IsAllowedOn table before.tree h call way.text =
-    subst (λ g. IsAllowedOn table before.tree g call way.text) done_is
-    (allowed_on table before.tree done.now way.last.action done.change call way.text
-    (decisions_are_guarded table before.tree done.now way.last.action done.change done.decided) way.called) in
-    let foresees : Foresees w.tree table now before.tree h = subst (Foresees w.tree table now before.tree) last_is last.2 in
-    let foreseen : IsForeseen w.tree table now before.tree call (object_named before.tree h call way.text) =
-    foresees (working_dir h) call way.text (ap (verdict_of before.tree table h call) allowed.named ∙ allowed.allowed) in
+    let foresees : Foresees w.tree tmp now before.tree h = subst (Foresees w.tree tmp now before.tree) last_is last.2 in
+    let foreseen : IsForeseen w.tree tmp now before.tree call (object_named before.tree h call way.text) =
+    foresees (working_dir h) call way.text (ap (verdict_of before.tree tmp h call) way.reaches.named ∙ way.reaches.allowed) in
     let is : foreseen.object ≡ way.reaches.object =
     same_ok foreseen.object way.reaches.object (sym foreseen.names ∙ way.reaches.named) in
     let well = first_tree table w way.first trees in
-    listed_by (ever w.tree table now) asked call foreseen.line foreseen.listed
-    (line_about w.tree before.tree now well asked given foreseen.line.thing (listed_lives w.tree now well table foreseen.line foreseen.listed)
+    listed_by (ever w.tree tmp now) asked call foreseen.line foreseen.listed
+    (line_about w.tree before.tree now well asked given foreseen.line.thing (listed_lives w.tree now well tmp foreseen.line foreseen.listed)
     foreseen.object foreseen.about
     (ap (is_of before.tree now asked) is
     ∙ sym (same_veils_same before.tree h now (λ at. subst (λ g. perms_kept g at ≡ perms_kept now at) narrow_is (narrow.2.tightens.unveils.kept at))

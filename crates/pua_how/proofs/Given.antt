@@ -1,5 +1,5 @@
 -- What is asked about was there before, or is made later.
-use Rattle.std.proofs.Common.{◌≡◌, ◌<◌, ℕ, Bool, true, false, List, [], ◌∷◌, ◌++◌, refl, sym, subst, cond, inl, inr, Option, Some, None}
+use Rattle.std.proofs.Common.{◌≡◌, ◌<◌, ℕ, Bool, true, false, List, [], ◌∷◌, refl, subst, cond, inl, inr, Option, Some, None}
 use Rattle.std.specs.List.{Contains, list_any}
 use Rattle.std.specs.Prelude.{◌&&◌, ◌||◌, filter, is_some, option_and_then, unwrap_or}
 use Rattle.pua_tree.specs.Tree.{Tree, WellFormed, is_dir, look}

@@ -1,5 +1,5 @@
 -- Lines of a way that were granted, one line more, and the last one.
-use Rattle.std.proofs.Common.{◌≡◌, ℕ, true, false, List, [], ◌∷◌, ◌++◌, refl, sym, ap, subst, ◌∙◌, Option, Some, None}
+use Rattle.std.proofs.Common.{◌≡◌, ℕ, Bool, true, false, List, [], ◌∷◌, ◌++◌, refl, sym, ap, subst, ◌∙◌, Option, Some, None}
 use Rattle.std.specs.List.{AllByRecursion}
 use Rattle.std.specs.Prelude.{◌==◌, ◌&&◌, Result, Ok, Err}
 use Rattle.std.proofs.lemmas.Bool.{and_parts, false≢true}
@@ -7,10 +7,13 @@ use Rattle.std.proofs.lemmas.List.{map-append}
 use Rattle.pua_path.specs.declared.errno.Errno.{Errno}
 use Rattle.pua_path.specs.declared.found.Found.{Found}
 use Rattle.pua_calls.specs.Calls.{CallTable, call_number}
+use Rattle.pua_calls.specs.TmpTable.{tmp_table}
 use Rattle.pua_calls.specs.declared.call.Call.{Call}
 use Rattle.pua_calls.specs.declared.rules.Rules.{Rules}
 use Rattle.pua_policy.specs.States.{ProcessState}
-use Rattle.pua_policy.specs.Verdict.{object_named}
+use Rattle.pua_policy.specs.Verdict.{is_allowed, object_named, verdict}
+use Rattle.pua_policy.specs.declared.answer.Verdict.{Verdict}
+use Rattle.pua_policy.specs.declared.answer.Verdict.TheVariants as verdicts
 use Rattle.pua_script.specs.Requests.{Asked}
 use Rattle.pua_script.specs.Replay.{World, apply, answers_to, kept_at, world_after}
 use Rattle.pua_script.specs.Family.{is_exec}
@@ -19,6 +22,7 @@ use Rattle.pua_script.specs.declared.answer.Answer.TheVariants.{Okay}
 use Rattle.pua_script.specs.declared.answer.Answer.{Answer}
 use Rattle.pua_script.proofs.ForCallers.{one_request_more}
 use Rattle.pua_audit.proofs.ForCallers.{all_joined, all_mapped}
+use Rattle.pua_how.specs.Targets.{is_of}
 use Rattle.pua_how.specs.Ways.{Reaches, call_of}
 use Rattle.pua_how.specs.Served.{IsLine, AreGranted, IsCall, AreWay, asks_of}
 use Rattle.pua_how.specs.Steps.{is_some_by, is_the_call, names_asked, reaches}
@@ -79,34 +83,60 @@ module _ (rules : Rules) (before mid after : WorldState) (process : ℕ) (lines 
           lines so_far.quiet;
       text = asked.text;
       called = asked.called;
-      reaches = subst (λ s. Reaches (world_of s) process call target asked.text) so_far.left asked.reaches;
+      reaches = subst (λ s. Reaches s.table (world_of s) process call target asked.text) so_far.left asked.reaches;
     };
   }
 
 -- a request that passes the test is the call
 module _ (s : WorldState) (process : ℕ) (call : Call) (target : Target) where
+  allowed_is : (v : Verdict) → is_allowed v ≡ true → v ≡ verdicts.Allowed
+  allowed_is verdicts.Allowed e = refl
+  allowed_is (verdicts.Failed errno) e = absurd (false≢true e)
+  allowed_is verdicts.Death e = absurd (false≢true e)
+
   named_by : (text : List ℕ) (h : ProcessState) → kept_at (world_of s) process ≡ Some h → (named : Result Found Errno) →
-      object_named s.tree h call text ≡ named → names_asked s.tree h target named ≡ true → Reaches (world_of s) process call target text
-  named_by text h kept (Ok object) named e = record { now = h; kept = kept; object = object; named = named; asked = e }
+      object_named s.tree h call text ≡ named → names_asked s.table s.tree h call target named ≡ true →
+      Reaches s.table (world_of s) process call target text
+  named_by text h kept (Ok object) named e =
+      let parts = and_parts (is_of s.tree h target object) (is_allowed (verdict s.tree (tmp_table s.table) h call object)) e in record {
+        now = h;
+        kept = kept;
+        object = object;
+        named = named;
+        asked = parts.0;
+        allowed = allowed_is (verdict s.tree (tmp_table s.table) h call object) parts.1;
+      }
   named_by text h kept (Err errno) named e = absurd (false≢true e)
 
-  reached_by : (text : List ℕ) → reaches process call target (world_of s) text ≡ true → Reaches (world_of s) process call target text
+  -- a path that names what is asked about passes it where the call is allowed on that
+  pub reached_if : (text : List ℕ) (h : ProcessState) (object : Found) (allowed : Bool) → kept_at (world_of s) process ≡ Some h →
+      object_named s.tree h call text ≡ Ok object → is_of s.tree h target object ≡ true →
+      allowed ≡ is_allowed (verdict s.tree (tmp_table s.table) h call object) → allowed ≡ reaches s.table process call target (world_of s) text
+  reached_if text h object allowed kept named of is =
+      is
+      ∙ ap (λ b. b && is_allowed (verdict s.tree (tmp_table s.table) h call object)) (sym of)
+      ∙ ap (names_asked s.table s.tree h call target) (sym named)
+      ∙ ap (is_some_by (λ h. names_asked s.table s.tree h call target (object_named s.tree h call text))) (sym kept)
+
+  reached_by : (text : List ℕ) → reaches s.table process call target (world_of s) text ≡ true →
+      Reaches s.table (world_of s) process call target text
   reached_by text e = by (kept_at (world_of s) process) refl e
     where
       by : (o : Option ProcessState) → kept_at (world_of s) process ≡ o →
-          is_some_by (λ h. names_asked s.tree h target (object_named s.tree h call text)) o ≡ true → Reaches (world_of s) process call target text
+          is_some_by (λ h. names_asked s.table s.tree h call target (object_named s.tree h call text)) o ≡ true →
+          Reaches s.table (world_of s) process call target text
       by None is e = absurd (false≢true e)
       by (Some h) is e = named_by text h is (object_named s.tree h call text) refl e
 
-  pub asked_by : (ask : Asked) → is_the_call process call target (world_of s) ask.action ≡ true → IsCall s process call target ask
+  pub asked_by : (ask : Asked) → is_the_call s.table process call target (world_of s) ask.action ≡ true → IsCall s process call target ask
   asked_by ask e = by (call_of ask.action) refl e
     where
       by : (o : Option (Call × List ℕ)) → call_of ask.action ≡ o →
-          is_some_by (λ two. (call_number two.0 == call_number call) && reaches process call target (world_of s) two.1) o ≡ true →
+          is_some_by (λ two. (call_number two.0 == call_number call) && reaches s.table process call target (world_of s) two.1) o ≡ true →
           IsCall s process call target ask
       by None is e = absurd (false≢true e)
       by (Some two) is e =
-          let parts = and_parts (call_number two.0 == call_number call) (reaches process call target (world_of s) two.1) e in
+          let parts = and_parts (call_number two.0 == call_number call) (reaches s.table process call target (world_of s) two.1) e in
           record {
             text = two.1;
             called = is ∙ ap (λ (other : Call). Some (other, two.1)) (same_number call two.0 parts.0);

@@ -1,8 +1,7 @@
 -- A call that changes nothing leaves the world as it was.
-use Rattle.std.proofs.Common.{◌≡◌, ℕ, List, refl, sym, ap, subst, ◌∙◌, Option, Some, None}
-use Rattle.std.specs.Prelude.{Ok, Err}
+use Rattle.std.proofs.Common.{◌≡◌, ℕ, List, refl, sym, ap, subst, ◌∙◌, Option, Some}
+use Rattle.std.specs.Prelude.{Ok}
 use Rattle.pua_tree.proofs.ForCallers.{None≢Some}
-use Rattle.pua_path.specs.declared.found.Found.{Found}
 use Rattle.pua_calls.specs.Calls.{CallTable, effect_of}
 use Rattle.pua_calls.specs.declared.call.Call.{Call}
 use Rattle.pua_calls.specs.declared.call.Call.TheVariants as calls
@@ -17,7 +16,7 @@ use Rattle.pua_script.specs.Worlds.{WorldState, apply_to, with_world, world_of}
 use Rattle.pua_script.specs.declared.answer.Answer.{Answer}
 use Rattle.pua_script.specs.declared.answer.Answer.TheVariants as answers
 use Rattle.pua_script.specs.declared.request.Action.{Action}
-use Rattle.pua_script.specs.declared.request.Action.TheVariants.{OnPath, Symlink, Rename, Link, Pledge, Unveil, Lock, Fork, Exit, Uses}
+use Rattle.pua_script.specs.declared.request.Action.TheVariants.{OnPath, Symlink, Rename, Link, Pledge, Unveil, Lock, Fork, Exit, Uses, Comment}
 use Rattle.pua_script.proofs.ForCallers.{by_request, by_decision, decisions_are_guarded, put_back}
 use Rattle.pua_how.specs.Ways.{call_of}
 
@@ -79,6 +78,7 @@ look_leaves table w ask call text called looks = by ask.action refl called
     by (Fork new) is same = absurd (None≢Some (call, text) same)
     by Exit is same = absurd (None≢Some (call, text) same)
     by (Uses sets) is same = absurd (None≢Some (call, text) same)
+    by Comment is same = absurd (None≢Some (call, text) same)
 
 -- the same of a state of a world, in which such a request was answered `ok`
 pub look_kept : (s after : WorldState) (ask : Asked) (call : Call) (text : List ℕ) (answer : Answer) →

@@ -5,8 +5,9 @@ use Rattle.pua_tree.specs.Tree.{Tree, Node, empty_tree}
 use Rattle.pua_tree.specs.declared.node.Kind.TheVariants.{Dir, File}
 use Rattle.pua_path.specs.declared.found.Found.TheVariants.{Whole, Slot}
 use Rattle.pua_path.specs.declared.found.Way.TheVariants.{DotDot}
-use Rattle.pua_calls.specs.Promises.{rpath, wpath, cpath, reading, writing, creating}
+use Rattle.pua_calls.specs.Promises.{rpath, wpath, cpath, tmppath, reading, writing, creating}
 use Rattle.pua_calls.specs.Calls.{standard_table, openbsd_table}
+use Rattle.pua_calls.specs.TmpTable.{tmp_table}
 use Rattle.pua_calls.specs.declared.call.Call.TheVariants as call
 use Rattle.pua_calls.specs.declared.rules.Rules.TheVariants.{Standard}
 use Rattle.pua_policy.specs.States.{ProcessState, new_process}
@@ -96,14 +97,30 @@ of_rows = record {
 abbrev pub pid_world : World
 pid_world = record { tree = pid_tree; processes = (1, pid_now) ∷ [] }
 
+-- `/tmp/x`, and a process that has the promise tmppath alone
+abbrev pub tmp_tree : Tree
+tmp_tree = record empty_tree {
+  rows = ((0, codes "tmp"), 1) ∷ ((1, codes "x"), 2) ∷ [];
+  nodes = (0, directory) ∷ (1, directory) ∷ (2, file) ∷ [];
+  next = 3;
+}
+
+abbrev pub tmp_now : ProcessState
+tmp_now = record new_process { promises = Some tmppath; locked = true }
+
+abbrev pub tmp_world : World
+tmp_world = record { tree = tmp_tree; processes = (1, tmp_now) ∷ [] }
+
 abbrev one : Action → Asked
 one action = record { process = 1; action = action }
 
--- ways: by OpenBSD's rules a file that may only be read comes to a name that may be written; a name is freed
+-- ways: by OpenBSD's rules a file that may only be read comes to a name that may be written, and a promise opens what the list for ever
+-- has; a name is freed
 pub record WayRows : Type 0 where
   pub linked : IsWay openbsd_table pid_world 1 call.OpenWrite (target.Node 2)
       (one (OnPath call.Unlink (codes "/run/pid")) ∷ one (Link (codes "/etc/conf") (codes "/run/pid"))
       ∷ one (OnPath call.OpenWrite (codes "/run/pid")) ∷ [])
+  pub opened : IsWay openbsd_table tmp_world 1 call.Unlink (target.Node 2) (one (OnPath call.Unlink (codes "/tmp/x")) ∷ [])
   pub freed : IsWay standard_table pid_world 1 call.Create (target.Name 3 (codes "pid"))
       (one (OnPath call.Unlink (codes "/run/pid")) ∷ one (OnPath call.Create (codes "/run/pid")) ∷ [])
   pub at_once : IsWay standard_table pid_world 1 call.OpenRead (target.Node 2) (one (OnPath call.OpenRead (codes "/etc/conf")) ∷ [])
@@ -134,7 +151,19 @@ way_rows = record {
       object = Slot 3 (codes "pid") (Some 2);
       named = refl;
       asked = refl;
+      allowed = refl;
     };
+  };
+  opened = record {
+    first = [];
+    last = one (OnPath call.Unlink (codes "/tmp/x"));
+    parts = refl;
+    own = (refl, tt);
+    granted = (refl, tt);
+    quiet = tt;
+    text = codes "/tmp/x";
+    called = refl;
+    reaches = record { now = tmp_now; kept = refl; object = Slot 1 (codes "x") (Some 2); named = refl; asked = refl; allowed = refl };
   };
   freed = record {
     first = one (OnPath call.Unlink (codes "/run/pid")) ∷ [];
@@ -145,7 +174,7 @@ way_rows = record {
     quiet = (refl, tt);
     text = codes "/run/pid";
     called = refl;
-    reaches = record { now = pid_now; kept = refl; object = Slot 3 (codes "pid") None; named = refl; asked = refl };
+    reaches = record { now = pid_now; kept = refl; object = Slot 3 (codes "pid") None; named = refl; asked = refl; allowed = refl };
   };
   at_once = record {
     first = [];
@@ -156,7 +185,7 @@ way_rows = record {
     quiet = tt;
     text = codes "/etc/conf";
     called = refl;
-    reaches = record { now = pid_now; kept = refl; object = Slot 1 (codes "conf") (Some 2); named = refl; asked = refl };
+    reaches = record { now = pid_now; kept = refl; object = Slot 1 (codes "conf") (Some 2); named = refl; asked = refl; allowed = refl };
   };
   refused = λ way. no_answer way.granted.0;
   of_another = λ target way. no_process way.own.0;
@@ -192,12 +221,13 @@ step_rows = record {
 }
 
 -- lines of the list for ever about it that have a call: by OpenBSD's rules the file can come to be written, by a further name, and
--- by the standard ones it can't; a name with a veil can come to be free. And what lines are about
+-- by the standard ones it can't; a name with a veil can come to be free; tmppath lets a file go. And what lines are about
 pub record ListedRows : Type 0 where
   pub by_link : is_listed (ever_lasting pid_tree openbsd_table pid_now) (target.Node 2) call.OpenWrite ≡ true
   pub without_link : is_listed (ever_lasting pid_tree standard_table pid_now) (target.Node 2) call.OpenWrite ≡ false
   pub of_the_name : is_listed (ever_lasting pid_tree standard_table pid_now) (target.Name 3 (codes "pid")) call.Create ≡ true
   pub of_no_name : is_listed (ever_lasting pid_tree standard_table pid_now) (target.Others 3) call.Create ≡ false
+  pub by_tmppath : is_listed (ever_lasting tmp_tree (tmp_table openbsd_table) tmp_now) (target.Node 2) call.Unlink ≡ true
   pub what_stands : target_about 4 (Stands (objects.At (Slot 3 (codes "pid") (Some 4)))) ≡ target.Node 4
   pub what_is_freed : target_about 4 (Stands (objects.At (Slot 3 (codes "pid") None))) ≡ target.Name 3 (codes "pid")
   pub what_comes : target_about 4 (Comes NewLink) ≡ target.NewLink 4
@@ -208,6 +238,7 @@ listed_rows = record {
   without_link = refl;
   of_the_name = refl;
   of_no_name = refl;
+  by_tmppath = refl;
   what_stands = refl;
   what_is_freed = refl;
   what_comes = refl;

@@ -5,6 +5,7 @@ use Rattle.pua_tree.specs.Tree.{Tree, WellFormed}
 use Rattle.pua_path.specs.Resolution.{resolution_of_text}
 use Rattle.pua_path.specs.declared.found.Found.{Found}
 use Rattle.pua_calls.specs.Calls.{CallTable, ending_of, last_of}
+use Rattle.pua_calls.specs.TmpTable.{tmp_table}
 use Rattle.pua_calls.specs.declared.call.Call.{Call}
 use Rattle.pua_policy.specs.States.{ProcessState}
 use Rattle.pua_policy.specs.Verdict.{verdict}
@@ -26,7 +27,8 @@ use Rattle.pua_how.specs.Ways.{IsWay}
 use Rattle.pua_how.specs.declared.target.Target.{Target}
 
 -- a call that no line about a thing has: whatever the process and what it forks alone ask for, as long as no exec of theirs
--- is answered `ok`, it is then allowed to none of them on anything that is this thing, by whatever path from wherever
+-- is answered `ok`, it is then allowed to none of them on anything that is this thing, by whatever path from wherever. The requests
+-- go by the table, and the list by the one that has `tmppath` as one more set of some calls: nor does that one allow it
 abbrev pub NeverComes : Type 0
 NeverComes =
     (table : CallTable) → NoCallNeedsError table → EditsNeedC table →
@@ -34,12 +36,12 @@ NeverComes =
     kept_at w process ≡ Some now → IsConfined now → VeilsStand w.tree now → TreesAlong table w asks →
     IsTrue (none_done is_exec table w asks (process ∷ [])) →
     MembersEdit table w asks (process ∷ []) →
-    (asked : Target) (call : Call) → IsGiven w.tree asked → IsFalse (is_listed (ever w.tree table now) asked call) →
+    (asked : Target) (call : Call) → IsGiven w.tree asked → IsFalse (is_listed (ever w.tree (tmp_table table) now) asked call) →
     (member : ℕ) → IsTrue (is_member (family table w asks (process ∷ [])) member) →
     let after = world_after table w asks in
     HasKept after member (λ last. (from : ℕ) (text : List ℕ) (object : Found) →
     resolution_of_text after.tree from (ending_of call) text (last_of call) ≡ Ok object → is_of after.tree now asked object ≡ true →
-    verdict after.tree table last call object ≡ Allowed → ⊥)
+    verdict after.tree (tmp_table table) last call object ≡ Allowed → ⊥)
 
 -- and where there is a way, a line about the thing has the call
 abbrev pub WaysAreListed : Type 0
@@ -47,7 +49,7 @@ WaysAreListed =
     (table : CallTable) → NoCallNeedsError table → EditsNeedC table →
     (w : World) (process : ℕ) (now : ProcessState) → kept_at w process ≡ Some now → IsConfined now → VeilsStand w.tree now →
     (asked : Target) (call : Call) → IsGiven w.tree asked → (asks : List Asked) (way : IsWay table w process call asked asks) →
-    TreesAlong table w way.first → IsTrue (is_listed (ever w.tree table now) asked call)
+    TreesAlong table w way.first → IsTrue (is_listed (ever w.tree (tmp_table table) now) asked call)
 
 -- the same of the list that holds longest, through execs, where all that is started is bounded, and whatever others do that leaves
 -- the tree as it is
@@ -57,12 +59,12 @@ NeverComesThrough =
     (w : World) (asks : List Asked) (process : ℕ) (now : ProcessState) (given : ℕ) →
     kept_at w process ≡ Some now → bound_of table now ≡ Some given → VeilsStand w.tree now → TreesAlong table w asks →
     MembersEdit table w asks (process ∷ []) →
-    (asked : Target) (call : Call) → IsGiven w.tree asked → IsFalse (is_listed (ever_lasting w.tree table now) asked call) →
+    (asked : Target) (call : Call) → IsGiven w.tree asked → IsFalse (is_listed (ever_lasting w.tree (tmp_table table) now) asked call) →
     (member : ℕ) → IsTrue (is_member (family table w asks (process ∷ [])) member) →
     let after = world_after table w asks in
     HasKept after member (λ last. (from : ℕ) (text : List ℕ) (object : Found) →
     resolution_of_text after.tree from (ending_of call) text (last_of call) ≡ Ok object → is_of after.tree now asked object ≡ true →
-    verdict after.tree table last call object ≡ Allowed → ⊥)
+    verdict after.tree (tmp_table table) last call object ≡ Allowed → ⊥)
 
 -- the path and the kind of a line of the list that holds longest mean what the line is about, and nothing else
 abbrev pub LinesMeanTheirOwn : Type 0

@@ -36,7 +36,7 @@ pub record AreGranted (rules : Rules) (before : WorldState) (process : ℕ) (lin
 pub record IsCall (before : WorldState) (process : ℕ) (call : Call) (target : Target) (ask : Asked) : Type 0 where
   pub text : List ℕ
   pub called : call_of ask.action ≡ Some (call, text)
-  pub reaches : Reaches (world_of before) process call target text
+  pub reaches : Reaches before.table (world_of before) process call target text
 
 -- lines that are a way in a world
 pub record AreWay (rules : Rules) (before : WorldState) (process : ℕ) (call : Call) (target : Target) (lines : List WayLine) : Type 0 where

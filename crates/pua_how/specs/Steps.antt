@@ -5,11 +5,12 @@ use Rattle.pua_tree.specs.Tree.{Tree, look}
 use Rattle.pua_path.specs.declared.errno.Errno.{Errno}
 use Rattle.pua_path.specs.declared.found.Found.{Found}
 use Rattle.pua_calls.specs.Calls.{CallTable, call_name, call_number}
+use Rattle.pua_calls.specs.TmpTable.{tmp_table}
 use Rattle.pua_calls.specs.declared.call.Call.{Call}
 use Rattle.pua_calls.specs.declared.call.Call.TheVariants as call
 use Rattle.pua_calls.specs.declared.rules.Rules.{Rules}
 use Rattle.pua_policy.specs.States.{ProcessState}
-use Rattle.pua_policy.specs.Verdict.{object_named}
+use Rattle.pua_policy.specs.Verdict.{is_allowed, object_named, verdict}
 use Rattle.pua_script.specs.Requests.{Asked}
 use Rattle.pua_script.specs.Replay.{World, kept_at, apply}
 use Rattle.pua_script.specs.Scripts.{request_by}
@@ -73,22 +74,21 @@ abbrev pub is_some_by : {A : Type 0} → (A → Bool) → Option A → Bool
 is_some_by test None = false
 is_some_by test (Some x) = test x
 
--- the call is on a path that names what is asked about
-abbrev pub names_asked : Tree → ProcessState → Target → Result Found Errno → Bool
-names_asked t h target (Ok object) = is_of t h target object
-names_asked t h target (Err errno) = false
+-- the call is on a path that names what is asked about, and is allowed on it by the table by which lists for ever go
+abbrev pub names_asked : CallTable → Tree → ProcessState → Call → Target → Result Found Errno → Bool
+names_asked table t h call target (Ok object) = is_of t h target object && is_allowed (verdict t (tmp_table table) h call object)
+names_asked table t h call target (Err errno) = false
 
-module _ (process : ℕ) (call : Call) (target : Target) where
+module _ (table : CallTable) (process : ℕ) (call : Call) (target : Target) where
   abbrev pub reaches : World → List ℕ → Bool
-  reaches w text = is_some_by (λ h. names_asked w.tree h target (object_named w.tree h call text)) (kept_at w process)
+  reaches w text = is_some_by (λ h. names_asked table w.tree h call target (object_named w.tree h call text)) (kept_at w process)
 
   abbrev pub is_the_call : World → Action → Bool
   is_the_call w action = is_some_by (λ two. (call_number two.0 == call_number call) && reaches w two.1) (call_of action)
 
-module _ (table : CallTable) (process : ℕ) (call : Call) (target : Target) where
   -- a request is the call on what is asked about, and is answered `ok`
   abbrev pub is_end : World → Asked → Bool
-  is_end w ask = is_the_call process call target w ask.action && is_okay (apply table w ask).0
+  is_end w ask = is_the_call w ask.action && is_okay (apply table w ask).0
 
   -- a request is no exec, and is answered `ok`; the world, and the directory that was made last, then are as they have to be
   abbrev pub goes_on : (World → ℕ → Bool) → World → ℕ → Step → Asked → Bool

@@ -3,10 +3,12 @@ use Rattle.std.specs.Prelude.{◌≡◌, ℕ, true, false, List, [], ◌∷◌, 
 use Rattle.std.specs.List.{AllByRecursion}
 use Rattle.pua_path.specs.declared.found.Found.{Found}
 use Rattle.pua_calls.specs.Calls.{CallTable}
+use Rattle.pua_calls.specs.TmpTable.{tmp_table}
 use Rattle.pua_calls.specs.declared.call.Call.{Call}
 use Rattle.pua_calls.specs.declared.call.Call.TheVariants as call
 use Rattle.pua_policy.specs.States.{ProcessState}
-use Rattle.pua_policy.specs.Verdict.{object_named}
+use Rattle.pua_policy.specs.Verdict.{object_named, verdict}
+use Rattle.pua_policy.specs.declared.answer.Verdict.TheVariants.{Allowed}
 use Rattle.pua_script.specs.Requests.{Asked}
 use Rattle.pua_script.specs.Replay.{World, kept_at, answers_to, world_after}
 use Rattle.pua_script.specs.Family.{is_exec}
@@ -22,16 +24,18 @@ call_of (OnPath call path) = Some (call, path)
 call_of (Symlink target path) = Some (call.Symlink, path)
 call_of _ = None
 
--- what a text names to the process before the last request is what is asked about
-pub record Reaches (w : World) (process : ℕ) (call : Call) (target : Target) (text : List ℕ) : Type 0 where
+-- what a text names to the process before the last request is what is asked about, and the call is allowed on it, whatever promises
+-- open by themselves: by the table by which lists for ever go
+pub record Reaches (table : CallTable) (w : World) (process : ℕ) (call : Call) (target : Target) (text : List ℕ) : Type 0 where
   pub now : ProcessState
   pub kept : kept_at w process ≡ Some now
   pub object : Found
   pub named : object_named w.tree now call text ≡ Ok object
   pub asked : is_of w.tree now target object ≡ true
+  pub allowed : verdict w.tree (tmp_table table) now call object ≡ Allowed
 
 -- requests of one process, each answered `ok`, of which no exec comes before the last; the last one is the call, on a path
--- that names what is asked about in the world before it
+-- that names what is asked about in the world before it, and is allowed on that by the promises and the veils
 pub record IsWay (table : CallTable) (w : World) (process : ℕ) (call : Call) (target : Target) (asks : List Asked) : Type 0 where
   pub first : List Asked
   pub last : Asked
@@ -41,4 +45,4 @@ pub record IsWay (table : CallTable) (w : World) (process : ℕ) (call : Call) (
   pub quiet : AllByRecursion (λ ask. is_exec ask.action ≡ false) first
   pub text : List ℕ
   pub called : call_of last.action ≡ Some (call, text)
-  pub reaches : Reaches (world_after table w first) process call target text
+  pub reaches : Reaches table (world_after table w first) process call target text

@@ -10,7 +10,8 @@ use pua_ever::{ever_law, through_law};
 /// else changes the tree and no exec of theirs succeeds: a call that no line of the list for ever
 /// about a thing has is then allowed to none of them on that thing. The same holds through execs
 /// for the list that holds longest, where all that they start is bounded. And a call to which there
-/// is a way has a line there.
+/// is a way has a line there. Requests go by a table, and the lists by its
+/// `CallTable::with_tmppath`.
 pub fn how_law()
     ensures never { NeverComes }
     ensures through { NeverComesThrough }

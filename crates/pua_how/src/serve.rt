@@ -2,8 +2,11 @@
 
 ghost use Rattle.std.specs.Prelude.{◌≡◌, ◌++◌, ◌∷◌, [], IfOk, IfSome, is_some, option_map};
 ghost use Rattle.pua_calls.specs.Calls.{effect_of};
+ghost use Rattle.pua_calls.specs.TmpTable.{tmp_table};
 ghost use Rattle.pua_calls.specs.declared.call.Call.{Call as AnyCall};
+ghost use Rattle.pua_path.specs.Fits.{FoundFits, FoundsFit};
 ghost use Rattle.pua_path.specs.Resolution.{resolution_of_text};
+ghost use Rattle.pua_policy.specs.Verdict.{is_allowed, verdict as object_verdict};
 ghost use Rattle.pua_how.specs.Served.{AreGranted, AreWay};
 ghost use Rattle.pua_how.specs.Steps.{comes, is_some_by, is_the_call, reaches as comes_to};
 ghost use Rattle.pua_how.specs.Ways.{call_of as asked_for};
@@ -16,8 +19,10 @@ use crate::line::{WayLine, line_of, made_by};
 use crate::step::Step;
 use crate::target::Target;
 use pua_calls::needs::ending;
-use pua_calls::{Call, Effect, Rules};
+use pua_calls::{Call, CallTable, Effect, Rules};
 use pua_path::{Counted, Ending, Errno, Found, Last, PathText, resolve};
+use pua_policy::judge::verdict;
+use pua_policy::{Process, Verdict};
 use pua_script::{Action, Answer, PathBytes, Request, World, WorldFault};
 use pua_tree::{FileTree, NodeId, OutOfMemory};
 use std::alloc::Global;
@@ -32,11 +37,13 @@ pub(crate) struct Served {
 
 /// Serves the steps of a plan for the process of a number: a way to a call on what is asked about,
 /// if each of them is answered `ok`, none but the last is an exec, and the last is that call, on a
-/// path that names what is asked about when it is served. None exactly where this is not so: where
-/// a step has no line, say, since its path would be too long or the rules have no such call, and
-/// where there are no steps. After None, and after the error that a growth was refused, the world
-/// has served some of the steps or none. Its lines are read by these rules. What is answered `ok`
-/// is this profile's, as a script's lines are (`World::apply`).
+/// path that names what is asked about when it is served, and allowed on it by the promises and the
+/// veils, by the table by which lists for ever go (`CallTable::with_tmppath`), and not only since a
+/// promise opens the path. None exactly where this is not so: where a step has no line, say, since
+/// its path would be too long or the rules have no such call, and where there are no steps. After
+/// None, and after the error that a growth was refused, the world has served some of the steps or
+/// none. Its lines are read by these rules. What is answered `ok` is this profile's, as a script's
+/// lines are (`World::apply`).
 pub fn serve_way<T: FileTree>(
     alloc: Global,
     rules: Rules,
@@ -153,7 +160,8 @@ fn answered<T: FileTree>(world: &mut World<T>, request: &Request) -> Result<Answ
     }
 }
 
-/// Whether a request is the call, on a path that names what is asked about to the process.
+/// Whether a request is the call, on a path that names what is asked about to the process, and is
+/// allowed on it.
 fn is_asked<T: FileTree>(
     world: &World<T>,
     number: u32,
@@ -161,7 +169,8 @@ fn is_asked<T: FileTree>(
     target: &Target,
     request: &Request,
 ) -> bool
-    ensures { result ≡ is_the_call number call target.now (world_of world.now) request.now.action }
+    ensures { result ≡ is_the_call world.now.table number call target.now
+        (world_of world.now) request.now.action }
 {
     let Some((asked, path)) = call_of(request.action()) else {
         return false;
@@ -183,7 +192,7 @@ fn call_of(action: &Action) -> Option<(Call, &PathBytes)>
     }
 }
 
-/// Whether a path names what is asked about to a process.
+/// Whether a path names what is asked about to a process, and the call is allowed on it.
 fn reaches<T: FileTree>(
     world: &World<T>,
     number: u32,
@@ -191,7 +200,8 @@ fn reaches<T: FileTree>(
     target: &Target,
     path: &PathBytes,
 ) -> bool
-    ensures { result ≡ comes_to number call target.now (world_of world.now) path.now }
+    ensures { result ≡ comes_to world.now.table number call target.now
+        (world_of world.now) path.now }
 {
     let Some(process) = world.process(number) else {
         return false;
@@ -199,9 +209,33 @@ fn reaches<T: FileTree>(
     let mut probe = Counted::new(world.tree());
     let (from, text) = (process.dir(), path.bytes());
     match named(&mut probe, from, text, ending(call), call.last()) {
-        Ok(found) => target.is(world.tree(), process, &found),
+        Ok(found) => {
+            target.is(world.tree(), process, &found)
+                && allows(&mut probe, process, world.table(), call, &found)
+        }
         Err(_errno) => false,
     }
+}
+
+/// Whether a call is allowed to a process on what was found, by the table by which lists for ever
+/// go.
+fn allows<T: FileTree>(
+    probe: &mut Counted<'_, T>,
+    process: &Process,
+    table: &CallTable,
+    call: Call,
+    found: &Found,
+) -> bool
+    requires { FoundFits probe.old.tree found.now }
+    ensures { result
+        ≡ is_allowed (object_verdict probe.old.tree (tmp_table table.now) process.now call
+        found.now) }
+{
+    let wide = table.with_tmppath();
+    matches!(
+        verdict(probe, process, &wide, call, found),
+        Verdict::Allowed
+    )
 }
 
 /// What a path names from a directory.
@@ -212,7 +246,9 @@ fn named<T: FileTree>(
     ending: Ending,
     last: Last,
 ) -> Result<Found, Errno>
-    ensures { result ≡ resolution_of_text probe.old.tree from ending path.now last }
+    ensures exact { result ≡ resolution_of_text probe.old.tree from ending path.now last }
+    ensures fits { FoundsFit probe.old.tree result }
+    ensures tree { probe.new.tree ≡ probe.old.tree }
 {
     let text = PathText::read(path, ending)?;
     resolve(probe, from, &text, last)

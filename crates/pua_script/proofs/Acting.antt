@@ -1,7 +1,9 @@
 -- What is done where it was decided.
-use Rattle.pua_script.proofs.Common.{◌≡◌, ℕ, List, sym, ap, Result, Tree, CallTable, ProcessState, Refusal}
+use Rattle.pua_script.proofs.Common.{◌≡◌, ℕ, List, sym, ap, Option, OnPath, Call, Result, Tree, CallTable, ProcessState, Refusal}
 use Rattle.pua_script.proofs.Common.{asker_of, decide, come_of, Answer, WorldFault, Granted, Action}
+use Rattle.pua_script.specs.Decide.{refusals, asker_past, decide_by}
 use Rattle.pua_script.specs.Judged.{decision_for}
+use Rattle.pua_script.specs.Openings.{Opening, opening_of}
 use Rattle.pua_script.specs.Worlds.{Acts, Attempts}
 use Rattle.pua_script.proofs.Doing.{attempts_same}
 
@@ -13,3 +15,9 @@ pub acts : (table : CallTable) (t : Tree) (p : ProcessState) (action : Action) (
     → Acts table t p action result u after
 acts table t p action d same u after result done = λ processes. attempts_same t u p result after _ _
     (ap (come_of (record { tree = t; processes = processes }) p) (sym same)) (done processes)
+
+-- a call meets the checks of what opens it, and where nothing does, those that it would meet without openings
+pub opened_by : (table : CallTable) (t : Tree) (p : ProcessState) (call : Call) (path : List ℕ) (o : Option Opening) →
+    opening_of table p call path ≡ o → decide_by refusals table t (asker_past o (asker_of p)) (OnPath call path) ≡ decide table t p (OnPath call path)
+opened_by table t p call path o is =
+    ap (λ (o : Option Opening). decide_by refusals table t (asker_past o (asker_of p)) (OnPath call path)) (sym is)

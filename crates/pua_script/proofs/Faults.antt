@@ -4,7 +4,7 @@ use Rattle.pua_script.proofs.Common.{None, option_map, Result, Ok, Err, is_some,
 use Rattle.pua_script.proofs.Common.{is_absolute, path_fault, text_errno, resolve_parts, resolution_of_text, most_links, node_named, Errno}
 use Rattle.pua_script.proofs.Common.{ENOENT, EINVAL, ENOSPC, LongText, LongComponent, NulInText, Ending, Last, Found, Slot, holds}
 use Rattle.pua_script.proofs.Common.{CallTable, PairRule, rule_of, ending_of, last_of, ProcessState, working_dir, may_any, place_of, cover}
-use Rattle.pua_script.proofs.Common.{cover_fault, object_fault, object_of, object_named, Call, Cover, May, is_inside, is_same_node}
+use Rattle.pua_script.proofs.Common.{cover_fault, object_fault, object_of, Call, Cover, May, is_inside, is_same_node}
 use Rattle.pua_script.proofs.Common.{spot_named, Whole, Spot, or_fault, Failed, Change, NoChange, Decision, if_may, asker_of, decide_rename}
 use Rattle.pua_script.proofs.Common.{decide_link, shifting, is_whole, fault_if, kinds_fault, inside_fault}
 use Rattle.std.specs.Prelude.{not, ◌&&◌}
@@ -32,7 +32,7 @@ use Rattle.pua_policy.specs.declared.answer.UnveilFault.TheVariants as unveil_fa
 use Rattle.pua_policy.specs.declared.answer.May.TheVariants as may
 use Rattle.pua_path.specs.declared.errno.Errno.TheVariants.{EEXIST, EISDIR}
 use Rattle.pua_script.specs.Decide.{fails, unless_fault, if_named as decide_named}
-use Rattle.pua_script.specs.Decide.{decide_object}
+use Rattle.pua_script.specs.Decide.{decide_object, cover_past, past_promises, Sole}
 use Rattle.pua_script.specs.Decide.{decide_pair, decide_veil, dots_fault, top_fault, before_long, errno_behind, front_errno, named_in, path_named}
 use Rattle.pua_calls.specs.declared.rules.Rules.{Rules}
 use Rattle.pua_calls.specs.declared.rules.Rules.TheVariants.{Standard, Openbsd}
@@ -238,6 +238,18 @@ pub object_has_room : (table : CallTable) (t : Tree) (h : ProcessState) (c : Cal
 object_has_room table t h c path f = named_apart (path_named table.whose t (working_dir h) (ending_of c) path (last_of c)) _
     (named_any table.whose t (working_dir h) (ending_of c) path (last_of c)) λ x.
     checked_apart _ _ (or_apart _ _ (cover_apart (cover t h x) (rule_of table c).perms) (object_apart table.whose t c (object_of t x)))
+    (granted_apart (f x))
+
+past_apart : (t : Tree) (h : ProcessState) (x : Found) (asks_veils : Bool) (perms : ℕ) →
+    Apart (cover_past asks_veils (asker_of h).cover Sole t x perms)
+past_apart t h x true perms = cover_apart (cover t h x) perms
+past_apart t h x false perms = λ e. cc
+
+pub opened_has_room : (table : CallTable) (t : Tree) (h : ProcessState) (asks_veils : Bool) (c : Call) (path : List ℕ) (f : Found → Change) →
+    HasRoom (decide_object table t (past_promises asks_veils (asker_of h)) c path (λ x. Ok (f x)))
+opened_has_room table t h asks_veils c path f = named_apart (path_named table.whose t (working_dir h) (ending_of c) path (last_of c)) _
+    (named_any table.whose t (working_dir h) (ending_of c) path (last_of c)) λ x.
+    checked_apart _ _ (or_apart _ _ (past_apart t h x asks_veils (rule_of table c).perms) (object_apart table.whose t c (object_of t x)))
     (granted_apart (f x))
 
 pub pair_has_room : (whose : Rules) (pair : PairRule) (t : Tree) (h : ProcessState) (end : Ending) (old_path new_path : List ℕ) (f : Found → Found → Decision) →

@@ -31,6 +31,11 @@ pub use Rattle.pua_script.proofs.Changing.{by_placing, by_making, by_cutting, by
 -- a call that makes a node is one of those that change names
 pub use Rattle.pua_script.proofs.Unchanged.{adding_changes}
 pub use Rattle.pua_script.proofs.Guarding.{decisions_are_guarded, first_none, second_none, not_faulty}
+-- what is decided passes the checks of the table by which lists for ever go, which allows no less and needs the same permissions; what a
+-- promise opens is no exec
+pub use Rattle.pua_script.proofs.Widened.{changes_granted, opened_either, opened_no_exec, tmp_may, tmp_perms, tmp_table_allows}
+pub use Rattle.pua_script.proofs.Unchanged.{changing_needs_too}
+pub use Rattle.pua_script.proofs.Opened.{okays_are_accounted, openings_are_held, openings_narrow}
 -- a request is answered ENOSPC exactly where it was granted a change for which there is no room
 pub use Rattle.pua_script.proofs.RequestRoom.{requests_lack}
 -- the world after one request more

@@ -6,7 +6,7 @@ use Rattle.pua_path.specs.Resolution.{resolution}
 use Rattle.pua_path.specs.declared.traced.PathTextFault.{PathTextFault}
 use Rattle.pua_calls.specs.declared.rules.Rules.{Rules}
 use Rattle.pua_calls.specs.declared.rules.Rules.TheVariants.{Standard, Openbsd}
-use Rattle.pua_script.specs.Decide.{before_long, errno_behind, errno_by, named_in, path_named}
+use Rattle.pua_script.specs.Decide.{before_long, errno_behind, named_in, path_named}
 
 never : (errno : Errno) → None ≡ Some errno → ⊥
 never errno e = cc

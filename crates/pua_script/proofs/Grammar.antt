@@ -4,8 +4,8 @@ use Rattle.pua_script.proofs.Common.{arith, lit<, IsTrue, option_map, nat_lt, li
 use Rattle.pua_script.proofs.Common.{is_in_bytes, ◌>>=◌, None≢Some, Errno, Call, Asked, Action, OnPath, Symlink, Rename, Link, Unveil, Fork}
 use Rattle.pua_script.proofs.Common.{request_of_fields, request_by}
 use Rattle.std.proofs.Common.{Option, Some, None, Result, Ok}
-use Rattle.std.proofs.Common.{Err, true≢false, eqb, ◌||◌, ◌++◌}
-use Rattle.std.specs.List.{list_any, slice_split}
+use Rattle.std.proofs.Common.{Err, true≢false, eqb, ◌&&◌, ◌||◌, ◌++◌}
+use Rattle.std.specs.List.{list_any, onto_first, slice_split}
 use Rattle.std.specs.Prelude.{◌≢◌, codes, ok_or, not}
 use Rattle.std.specs.Result.{result_ok}
 use Rattle.std.proofs.lemmas.Bool.{le-ltb, ltb-false, cond-true, false≢true}
@@ -21,7 +21,7 @@ use Rattle.pua_calls.specs.Promises.{holds, error, promises_of, perms_of}
 use Rattle.pua_calls.specs.Neighbours.{call_asked_by}
 use Rattle.pua_calls.specs.declared.rules.Rules.{Rules}
 use Rattle.pua_calls.specs.declared.rules.Rules.TheVariants.{Standard, Openbsd}
-use Rattle.pua_script.specs.Requests.{is_symlink, has_no_nul}
+use Rattle.pua_script.specs.Requests.{is_symlink, has_no_nul, comment}
 use Rattle.pua_script.specs.declared.request.Given.{Given}
 use Rattle.pua_script.specs.declared.request.Given.TheVariants.{Null, Good}
 use Rattle.pua_script.specs.declared.request.Action.TheVariants.{Pledge, Lock, Exit, Uses}
@@ -30,10 +30,11 @@ use Rattle.pua_script.specs.declared.fault.ScriptFault.TheVariants.{BadLine, Bad
 use Rattle.pua_script.specs.Scripts.{is_dash, is_equals, path_in, has_empty_word, good_or_unknown, given_in, perms_in, Form, PathForm}
 use Rattle.pua_script.specs.Scripts.{SymlinkForm, RenameForm, LinkForm, PledgeForm, UnveilForm, ForkForm, ExitForm, UsesForm, form_of, with_paths}
 use Rattle.pua_script.specs.Scripts.{set_of_keyword, further_set, sets_of, sets_in, asks_promises}
-use Rattle.pua_script.specs.Scripts.{unveil_of, action_of, form_in, action_in, requests_of}
+use Rattle.pua_script.specs.Scripts.{unveil_of, action_of, form_in, action_in, requests_of, is_blank, text_in, request_of_text}
 use Rattle.pua_script.specs.ScriptGrammar.{SpellsPath, empty, spelled, IsList, SpellsGiven, null, nothing, known, unknown, SpellsPerms}
 use Rattle.pua_script.specs.ScriptGrammar.{no_letter, letters, unknown_letter, SpellsAction, on_path, symlink, rename, link, pledge, unveil}
-use Rattle.pua_script.specs.ScriptGrammar.{lock, fork, exit, uses, IsKeyword, SpellSets, SpellsRequest, SpellRequests, ScriptsAreRead}
+use Rattle.pua_script.specs.ScriptGrammar.{lock, fork, exit, uses, IsKeyword, SpellSets, SpellsRequest, SpellsLine, blank, request}
+use Rattle.pua_script.specs.ScriptGrammar.{SpellRequests, ScriptsAreRead}
 
 same_to : (a b : List ℕ) → a ≡ b → same_bytes a b ≡ true
 same_to a b e = (bytes_decides a b).1 e
@@ -372,7 +373,7 @@ module _ (rules : Rules) where
       ap (λ r. r >>= λ sets. Ok (Uses sets)) (sets_told n [] (slice_split (λ b. eqb b 124) a) sets spells),
     )
 
-  pub request_read : (n : ℕ) (line : List ℕ) (ask : Asked) → request_by rules n line ≡ Ok ask → SpellsRequest rules line ask
+  request_read : (n : ℕ) (line : List ℕ) (ask : Asked) → request_of_text rules n line ≡ Ok ask → SpellsRequest rules line ask
   request_read n line ask = by (list_all is_field (fields line)) refl (fields line) refl
     where
       split : (process : List ℕ) (more : List (List ℕ)) → IsTrue (list_all is_field (fields line)) → fields line ≡ process ∷ more →
@@ -398,7 +399,7 @@ module _ (rules : Rules) where
       by true visible (process ∷ more) are e = split process more visible are e
       by false visible fs are e = absurd (Err≢Ok (BadLine n) ask e)
 
-  request_told : (n : ℕ) (line : List ℕ) (ask : Asked) → SpellsRequest rules line ask → request_by rules n line ≡ Ok ask
+  request_told : (n : ℕ) (line : List ℕ) (ask : Asked) → SpellsRequest rules line ask → request_of_text rules n line ≡ Ok ask
   request_told n line ask spells =
       let reads = action_told n spells.more ask.action spells.spells in
       ap (λ s. cond s (request_of_fields rules n (fields line)) (Err (BadLine n))) spells.visible
@@ -408,6 +409,30 @@ module _ (rules : Rules) where
       ∙ ap (λ o. (ok_or o (BadCall n) >>= action_of n) >>= λ action. Ok (record { process = ask.process; action = action })) reads.1
       ∙ ap (λ r. r >>= λ action. Ok (record { process = ask.process; action = action })) reads.2
 
+  -- a line's text, which may be none
+  pub line_read : (n : ℕ) (line : List ℕ) (ask : Asked) → request_by rules n line ≡ Ok ask → SpellsLine rules line ask
+  line_read n line ask = by (is_blank rules (text_in rules line)) refl
+    where
+      by : (b : Bool) → is_blank rules (text_in rules line) ≡ b → cond b (Ok comment) (request_of_text rules n (text_in rules line)) ≡ Ok ask →
+          SpellsLine rules line ask
+      by true none e = subst (SpellsLine rules line) (same_Ok comment ask e) (blank none)
+      by false some e = request (request_read n (text_in rules line) ask e)
+
+  no_text : (named : Rules) (text : List ℕ) → IsTrue (list_all is_field (fields text)) → is_blank named text ≡ false
+  no_text Standard text visible = refl
+  no_text Openbsd [] visible = absurd (false≢true visible)
+  no_text Openbsd (b ∷ more) visible = by (eqb b 32) refl
+    where
+      by : (blank : Bool) → eqb b 32 ≡ blank → (eqb b 32 && list_all (λ c. eqb c 32) more) ≡ false
+      by true e = absurd (false≢true (sym (ap (λ t. list_all is_field (cond t ([] ∷ fields more) (onto_first b (fields more)))) e) ∙ visible))
+      by false e = ap (λ t. t && list_all (λ c. eqb c 32) more) e
+
+  line_told : (n : ℕ) (line : List ℕ) (ask : Asked) → SpellsLine rules line ask → request_by rules n line ≡ Ok ask
+  line_told n line _ (blank none) = ap (λ b. cond b (Ok comment) (request_of_text rules n (text_in rules line))) none
+  line_told n line ask (request spells) =
+      ap (λ b. cond b (Ok comment) (request_of_text rules n (text_in rules line))) (no_text rules (text_in rules line) spells.visible)
+      ∙ request_told n (text_in rules line) ask spells
+
   requests_read : (n : ℕ) (texts : List (List ℕ)) (asks : List Asked) → requests_of rules n texts ≡ Ok asks → SpellRequests rules texts asks
   requests_read n [] [] e = tt
   requests_read n [] (ask ∷ asks) e = cc
@@ -415,7 +440,7 @@ module _ (rules : Rules) where
       let first = step_read (request_by rules n text) (λ request. requests_of rules (suc n) texts >>= λ requests. Ok (request ∷ requests)) asks e in
       let rest = step_read (requests_of rules (suc n) texts) (λ requests. Ok (first.0 ∷ requests)) asks first.2 in
       subst (SpellRequests rules (text ∷ texts)) (same_Ok (first.0 ∷ rest.0) asks rest.2) (
-        request_read n text first.0 first.1,
+        line_read n text first.0 first.1,
         requests_read (suc n) texts rest.0 rest.1,
       )
 
@@ -424,7 +449,7 @@ module _ (rules : Rules) where
   requests_told n [] (ask ∷ asks) spells = absurd spells
   requests_told n (text ∷ texts) [] spells = absurd spells
   requests_told n (text ∷ texts) (ask ∷ asks) spells =
-      ap (λ r. r >>= λ request. requests_of rules (suc n) texts >>= λ requests. Ok (request ∷ requests)) (request_told n text ask spells.0)
+      ap (λ r. r >>= λ request. requests_of rules (suc n) texts >>= λ requests. Ok (request ∷ requests)) (line_told n text ask spells.0)
       ∙ ap (λ r. r >>= λ requests. Ok (ask ∷ requests)) (requests_told (suc n) texts asks spells.1)
 
   -- a script with at most so many lines

@@ -8,6 +8,7 @@ use Rattle.pua_tree.specs.declared.node.Kind.{Kind}
 use Rattle.pua_calls.specs.declared.call.Call.TheVariants as call
 use Rattle.pua_calls.specs.Calls.{effect_of}
 use Rattle.pua_calls.specs.Effects.{makes as makes_name, removes}
+use Rattle.pua_calls.specs.TmpTable.{tmp_table}
 use Rattle.pua_script.specs.Decide.{plain_node}
 use Rattle.pua_script.specs.Decide.{link_node, placing, cutting, tying, change_by, adding, removing, made_by, making}
 use Rattle.pua_script.specs.Guards.{OnOne, OnTwo}
@@ -24,12 +25,12 @@ abbrev pub LeadsToBytes : Node → Type 0
 LeadsToBytes node = (target : List ℕ) → node.target ≡ Some target → is_bytes target ≡ true
 
 module _ (table : CallTable) (t : Tree) (h : ProcessState) (action : Action) where
-  -- a node where nothing stands, at the spot that the path of an allowed call named
+  -- a node where nothing stands, at the spot that the path of a call named which passed the checks of the table with one more set
   pub record IsAdded (spot : Spot) (node : Node) : Type 0 where
     pub call : Call
     pub path : List ℕ
     pub object : Found
-    pub on : OnOne table t h call path object
+    pub on : OnOne (tmp_table table) t h call path object
     pub made : makes call ≡ true
     pub at : spot_named object ≡ Some spot
     pub free : node_named object ≡ None
@@ -37,12 +38,12 @@ module _ (table : CallTable) (t : Tree) (h : ProcessState) (action : Action) whe
     pub bytes : is_in_bytes action ≡ true → (is_bytes path ≡ true) × LeadsToBytes node
     pub room : IsTrue (not (has_room t)) → IsTrue (lacks_room t action)
 
-  -- the row by whose name the path of an allowed call named something
+  -- the row by whose name the path of such a call named something
   pub record IsCut (spot : Spot) : Type 0 where
     pub call : Call
     pub path : List ℕ
     pub object : Found
-    pub on : OnOne table t h call path object
+    pub on : OnOne (tmp_table table) t h call path object
     pub taken : takes call ≡ true
     pub at : spot_named object ≡ Some spot
 
@@ -89,7 +90,7 @@ module _ (table : CallTable) (t : Tree) (h : ProcessState) (action : Action) whe
   Grounds (CopyAs new) = Unit {0}
 
 module _ (table : CallTable) (t : Tree) (h : ProcessState) where
-  pub on_adding : (action : Action) (c : Call) (path : List ℕ) (x : Found) (node : Node) → OnOne table t h c path x → makes c ≡ true →
+  pub on_adding : (action : Action) (c : Call) (path : List ℕ) (x : Found) (node : Node) → OnOne (tmp_table table) t h c path x → makes c ≡ true →
       target_fits node.kind node.target ≡ true
       → (is_in_bytes action ≡ true → (is_bytes path ≡ true) × LeadsToBytes node) →
       (IsTrue (not (has_room t)) → IsTrue (lacks_room t action))
@@ -113,7 +114,7 @@ module _ (table : CallTable) (t : Tree) (h : ProcessState) where
       by (Some s) (Some y) at free = tt
       by None y at free = tt
 
-  on_cutting : (action : Action) (c : Call) (path : List ℕ) (x : Found) → OnOne table t h c path x → takes c ≡ true →
+  on_cutting : (action : Action) (c : Call) (path : List ℕ) (x : Found) → OnOne (tmp_table table) t h c path x → takes c ≡ true →
       Grounds table t h action (removing x)
   on_cutting action c path x on taken = by (spot_named x) (node_named x) refl
     where
@@ -130,7 +131,7 @@ module _ (table : CallTable) (t : Tree) (h : ProcessState) where
   is_maker c None = true
   is_maker c (Some made) = makes c && (adds_node c && target_fits made None)
 
-  on_making : (c : Call) (path : List ℕ) (x : Found) → OnOne table t h c path x → (made : Option Kind) → is_maker c made ≡ true →
+  on_making : (c : Call) (path : List ℕ) (x : Found) → OnOne (tmp_table table) t h c path x → (made : Option Kind) → is_maker c made ≡ true →
       Grounds table t h (OnPath c path) (making made (spot_named x) (node_named x))
   on_making c path x on None is = tt
   on_making c path x on (Some made) is =
@@ -139,7 +140,8 @@ module _ (table : CallTable) (t : Tree) (h : ProcessState) where
       on_adding (OnPath c path) c path x (plain_node made) on parts.0 more.1 (λ small. (small, no_target))
       (λ full. and_from (adds_node c) (not (has_room t)) more.0 full)
 
-  pub on_call : (c : Call) (path : List ℕ) (x : Found) → OnOne table t h c path x → Grounds table t h (OnPath c path) (change_by table c x)
+  pub on_call : (c : Call) (path : List ℕ) (x : Found) → OnOne (tmp_table table) t h c path x →
+      Grounds table t h (OnPath c path) (change_by (tmp_table table) c x)
   on_call call.Rmdir path x on = on_cutting (OnPath call.Rmdir path) call.Rmdir path x on refl
   on_call call.Unlink path x on = on_cutting (OnPath call.Unlink path) call.Unlink path x on refl
   on_call call.Chdir path (Whole dir way) on = refl

@@ -5,8 +5,8 @@ use Rattle.pua_script.proofs.Common.{EINVAL, Ending, Found, proc, unveil, CallTa
 use Rattle.pua_script.proofs.Common.{working_dir, place_of, cover, cover_fault, or_fault, object_named, object_fault, object_of, Call, May}
 use Rattle.pua_script.proofs.Common.{fault_if, is_whole, inside_fault, kinds_fault, Change, NoChange, Decision, if_may, decide_rename}
 use Rattle.pua_script.proofs.Common.{decide_link, asker_of, shifting, OnPath, Symlink, Rename, Link, Unveil, Fork, IsShift, and_parts, sym}
-use Rattle.pua_script.proofs.Common.{subst, is_bytes, Action}
-use Rattle.std.specs.Prelude.{not, ◌&&◌, ◌||◌}
+use Rattle.pua_script.proofs.Common.{subst, is_bytes, Action, ENOSPC, Failed, ◌≢◌, ◌&&◌}
+use Rattle.std.specs.Prelude.{not, ◌||◌}
 use Rattle.pua_path.specs.declared.errno.Errno.TheVariants.{EPERM, EEXIST, ENOTDIR}
 use Rattle.pua_path.specs.declared.text.Ending.TheVariants as ending
 use Rattle.pua_path.specs.declared.found.Last.TheVariants.{Followed}
@@ -16,16 +16,18 @@ use Rattle.pua_policy.specs.Verdict.{found_fault}
 use Rattle.pua_calls.specs.declared.call.Call.TheVariants as call
 use Rattle.pua_policy.specs.declared.answer.May.TheVariants as may
 use Rattle.pua_script.specs.Decide.{asks_directory, link_node, unveil_errno, given_set, is_unknown}
-use Rattle.pua_script.specs.Decide.{unless_fault, if_named, adding, change_by}
+use Rattle.pua_script.specs.Decide.{unless_fault, if_named, adding, change_by, asker_past, cover_past, decide_by, refusals, Sole}
+use Rattle.pua_script.specs.Openings.{Opening, opening_of}
 use Rattle.pua_script.specs.Decide.{covers_by, decide_veil, decide_pair, ways_fault, named_by, named_in, path_named}
-use Rattle.pua_script.specs.declared.request.Action.TheVariants.{Pledge, Lock, Exit, Uses}
-use Rattle.pua_script.specs.Guards.{OnOne, OnTwo, IsVeil, DecisionsAreGuarded}
+use Rattle.pua_script.specs.declared.request.Action.TheVariants.{Pledge, Lock, Exit, Uses, Comment}
+use Rattle.pua_script.specs.Guards.{OnOne, OnTwo, IsOpened, IsVeil, ChangesAreGranted, DecisionsAreGuarded}
 use Rattle.pua_script.specs.Guards.{IsDecided}
 use Rattle.pua_script.specs.Laws.{RefusalsLackNoRoom}
 use Rattle.pua_script.proofs.Faults.{promised_apart, checked_apart, if_apart, none_or, path_apart, granted_apart, object_has_room}
-use Rattle.pua_script.proofs.Faults.{pair_has_room, rename_has_room, link_has_room, veil_has_room}
+use Rattle.pua_script.proofs.Faults.{pair_has_room, rename_has_room, link_has_room, veil_has_room, opened_has_room}
 use Rattle.pua_script.proofs.Grounds.{Grounds, on_adding, on_call, on_rename, on_link, link_leads}
 use Rattle.pua_script.proofs.Linking.{target_is}
+use Rattle.pua_script.proofs.Widened.{changes_granted, tmp_one}
 
 from_promised : (m : May) (d : Decision) (c : Change) → if_may m d ≡ Ok c → (m ≡ may.Yes) × (d ≡ Ok c)
 from_promised may.Yes d c e = (refl, e)
@@ -77,6 +79,27 @@ module _ (t : Tree) (h : ProcessState) where
       let a = cover_fault (cover t h at.0) (rule_of table c).perms in
       let b = object_fault table.whose t c (object_of t at.0) in
       (at.0, record { promised = may; found = named_ok table.whose t (working_dir h) path (object_named t h c path) at.0 at.1; covered = first_none a b free.0; fitting = second_none a b free.0 }, is_ok _ _ free.1)
+
+  -- a call that a promise opens
+  opened : (table : CallTable) (c : Call) (path : List ℕ) (change : Change) (o : Opening) → opening_of table h c path ≡ Some o →
+      decide_by refusals table t (asker_past (Some o) (asker_of h)) (OnPath c path) ≡ Ok change →
+      (object : Found) × IsOpened table t h c path object × (change ≡ change_by table c object)
+  opened table c path change o is e =
+      let named = named_in table.whose t (working_dir h) path (object_named t h c path) in
+      let asked : Found → Option Errno = λ x. cover_past o.asks_veils (asker_of h).cover Sole t x (rule_of table c).perms in
+      let fit : Found → Option Errno = λ x. object_fault table.whose t c (object_of t x) in
+      let at = from_named named (λ x. unless_fault (or_fault (asked x) (fit x)) (Ok (change_by table c x))) change e in
+      let free = from_checked (or_fault (asked at.0) (fit at.0)) (Ok (change_by table c at.0)) change at.2 in (
+        at.0,
+        record {
+          opening = o;
+          opened = is;
+          found = named_ok table.whose t (working_dir h) path (object_named t h c path) at.0 at.1;
+          covered = first_none (asked at.0) (fit at.0) free.0;
+          fitting = second_none (asked at.0) (fit at.0) free.0;
+        },
+        is_ok _ _ free.1,
+      )
 
   -- what both paths named
   abbrev Pair : PairRule → Ending → List ℕ → List ℕ → (Found → Found → Option ℕ → Decision) → Change → Type 0
@@ -163,9 +186,15 @@ module _ (t : Tree) (h : ProcessState) where
       }
 
 pub decisions_are_guarded : DecisionsAreGuarded
-decisions_are_guarded table t h (OnPath c path) change e =
-    let may = from_promised (may_any h (rule_of table c).alternatives) _ change e in
-    one t h table c path (change_by table c) change may.0 may.1
+decisions_are_guarded table t h (OnPath c path) change e = by (opening_of table h c path) refl e
+  where
+    by : (o : Option Opening) → opening_of table h c path ≡ o →
+        decide_by refusals table t (asker_past o (asker_of h)) (OnPath c path) ≡ Ok change → IsDecided table t h (OnPath c path) change
+    by None is e =
+        let may = from_promised (may_any h (rule_of table c).alternatives) _ change e in
+        let at = one t h table c path (change_by table c) change may.0 may.1 in
+        (at.0, inl at.1, at.2)
+    by (Some o) is e = let at = opened t h table c path change o is e in (at.0, inr at.1, at.2)
 decisions_are_guarded table t h (Symlink target path) change e =
     let may = from_promised (may_any h (rule_of table call.Symlink).alternatives) _ change e in
     let text = from_checked (path_fault target) _ change may.1 in
@@ -205,13 +234,21 @@ decisions_are_guarded table t h (Fork new) change e =
 decisions_are_guarded table t h Exit change e = is_ok _ _ e
 decisions_are_guarded table t h (Uses sets) change e =
     let may = from_promised (may_any h sets) _ change e in (may.0, is_ok _ _ may.1)
+decisions_are_guarded table t h Comment change e = is_ok _ _ e
+
+pub changes_are_granted : ChangesAreGranted
+changes_are_granted table t h action change e = changes_granted table t h action change (decisions_are_guarded table t h action change e)
 
 module _ (table : CallTable) (t : Tree) (h : ProcessState) where
   -- what each request that was granted a change has checked
   pub grounds : (action : Action) (c : Change) → IsDecided table t h action c → Grounds table t h action c
-  grounds (OnPath asked path) c d = subst (Grounds table t h (OnPath asked path)) (sym d.2) (on_call table t h asked path d.0 d.1)
+  grounds (OnPath asked path) c d = elim (changes_granted table t h (OnPath asked path) c d) [
+    | inl g ↦ subst (Grounds table t h (OnPath asked path)) (sym g.2) (on_call table t h asked path g.0 g.1)
+    | inr same ↦ subst (Grounds table t h (OnPath asked path)) (sym same) tt
+  ]
   grounds (Symlink target path) c d = subst (Grounds table t h (Symlink target path)) (sym d.3)
-      (on_adding table t h (Symlink target path) call.Symlink path d.0 (link_node target) d.1 refl (target_is target d.2)
+      (on_adding table t h (Symlink target path) call.Symlink path d.0 (link_node target)
+      (tmp_one table t h call.Symlink path d.0 d.1) refl (target_is target d.2)
       (λ small. let two = and_parts (is_bytes target) (is_bytes path) small in (two.1, link_leads table t h target two.0)) (λ full. full))
   grounds (Rename old new) c d =
       on_rename table t h (Rename old new) old new d.old d.new d.node c d.two (λ small. (and_parts (is_bytes old) (is_bytes new) small).1)
@@ -225,9 +262,14 @@ module _ (table : CallTable) (t : Tree) (h : ProcessState) where
   grounds (Fork new) c d = subst (Grounds table t h (Fork new)) (sym d.1) tt
   grounds Exit c d = subst (Grounds table t h Exit) (sym d) tt
   grounds (Uses sets) c d = subst (Grounds table t h (Uses sets)) (sym d.1) tt
+  grounds Comment c d = subst (Grounds table t h Comment) (sym d) tt
 
 pub refusals_lack_no_room : RefusalsLackNoRoom
-refusals_lack_no_room table t h (OnPath c path) = promised_apart _ _ (object_has_room table t h c path (change_by table c))
+refusals_lack_no_room table t h (OnPath c path) = by (opening_of table h c path)
+  where
+    by : (o : Option Opening) → decide_by refusals table t (asker_past o (asker_of h)) (OnPath c path) ≢ Err (Failed ENOSPC)
+    by None = promised_apart _ _ (object_has_room table t h c path (change_by table c))
+    by (Some o) = opened_has_room table t h o.asks_veils c path (change_by table c)
 refusals_lack_no_room table t h (Symlink target path) =
     promised_apart _ _ (checked_apart _ _ (path_apart target) (object_has_room table t h call.Symlink path (adding (link_node target))))
 refusals_lack_no_room table t h (Rename old new) =
@@ -242,3 +284,4 @@ refusals_lack_no_room table t h Lock = promised_apart _ _ (granted_apart _)
 refusals_lack_no_room table t h (Fork new) = promised_apart _ _ (granted_apart _)
 refusals_lack_no_room table t h Exit = granted_apart _
 refusals_lack_no_room table t h (Uses sets) = promised_apart _ _ (granted_apart _)
+refusals_lack_no_room table t h Comment = granted_apart _

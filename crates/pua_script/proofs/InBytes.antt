@@ -10,7 +10,7 @@ use Rattle.pua_tree.specs.Listing.{Entry, made_entry, knows_hard}
 use Rattle.pua_tree.specs.Grammar.{entry_fits, entries_fit, made_fits, target_stands}
 use Rattle.pua_tree.specs.declared.node.Kind.TheVariants.{Dir, File, Prog, Link as LinkKind}
 use Rattle.pua_tree.proofs.ForCallers.{all_found, listings_are_read, listings_list_trees, fits_parts}
-use Rattle.pua_script.specs.ScriptGrammar.{SpellRequests}
+use Rattle.pua_script.specs.ScriptGrammar.{SpellsLine, blank, request, SpellRequests}
 use Rattle.pua_calls.specs.declared.rules.Rules.{Rules}
 use Rattle.pua_script.specs.Bytes.{are_in_bytes, ReplaysKeepByteTrees, ListingsListByteTrees, ScriptsAskInBytes}
 use Rattle.pua_script.proofs.KeepTrees.{requests_keep_trees}
@@ -63,12 +63,16 @@ listings_list_byte_trees bytes t read =
       targets = targets_lead t (ap (λ (u : Tree). list_all node_leads u.nodes) is.4 ∙ entries_lead is.0 [] is.1 is.2);
     }
 
+line_bytes : (rules : Rules) (line : List ℕ) (ask : Asked) → SpellsLine rules line ask → is_in_bytes ask.action ≡ true
+line_bytes rules line _ (blank none) = refl
+line_bytes rules line ask (request spells) = action_bytes rules spells.more ask.action spells.spells
+
 requests_bytes : (rules : Rules) (texts : List (List ℕ)) (asks : List Asked) → SpellRequests rules texts asks → are_in_bytes asks ≡ true
 requests_bytes rules [] [] spells = refl
 requests_bytes rules [] (ask ∷ asks) spells = absurd spells
 requests_bytes rules (text ∷ texts) [] spells = absurd spells
 requests_bytes rules (text ∷ texts) (ask ∷ asks) spells =
-    and_from (is_in_bytes ask.action) _ (action_bytes rules spells.0.more ask.action spells.0.spells) (requests_bytes rules texts asks spells.1)
+    and_from (is_in_bytes ask.action) _ (line_bytes rules text ask spells.0) (requests_bytes rules texts asks spells.1)
 
 pub scripts_ask_in_bytes : ScriptsAskInBytes
 scripts_ask_in_bytes rules bytes asks read = requests_bytes rules (lines bytes) asks ((scripts_are_read rules bytes asks).0 read).1

@@ -1,7 +1,7 @@
 -- The parts of a line as its reader finds them.
 use Rattle.pua_script.proofs.Common.{◌≡◌, ℕ, ◌≤◌, not, ◌&&◌, ◌||◌, eqb, cond, List, [], ◌∷◌, map, length, take, refl, ap, ◌∙◌, arith}
 use Rattle.pua_script.proofs.Common.{IsTrue, list_all, and_parts, not-true, has_byte, request_of_fields}
-use Rattle.pua_script.proofs.Common.{request_by, Asked, Result, ◌>>=◌}
+use Rattle.pua_script.proofs.Common.{Asked, Result, ◌>>=◌}
 use Rattle.std.proofs.Common.{leb, Some, None, Ok, Err}
 use Rattle.std.specs.Borrow.{Bor}
 use Rattle.std.specs.Prelude.{ok_or, ⊤}
@@ -14,7 +14,7 @@ use Rattle.pua_script.specs.Requests.{has_no_nul}
 use Rattle.pua_script.specs.declared.fault.ScriptFault.{ScriptFault}
 use Rattle.pua_script.specs.declared.fault.ScriptFault.TheVariants.{BadLine, BadCall}
 use Rattle.pua_script.specs.Added.{IsActionAdded, IsRequestAdded}
-use Rattle.pua_script.specs.Scripts.{action_in}
+use Rattle.pua_script.specs.Scripts.{action_in, request_of_text}
 use Rattle.pua_calls.specs.declared.rules.Rules.{Rules}
 
 -- a field of plain bytes is the text that it spells, and none of them is NUL
@@ -51,7 +51,7 @@ module _ (rules : Rules) where
   six_decide n (p ∷ w ∷ a ∷ b ∷ []) = refl
   six_decide n (p ∷ w ∷ a ∷ b ∷ c ∷ more) = refl
 
-  pub by_fields : (n : ℕ) (line : List ℕ) (fs : List (List ℕ)) → first_fields line ≡ Some fs → request_by rules n line ≡ request_of_fields rules n fs
+  pub by_fields : (n : ℕ) (line : List ℕ) (fs : List (List ℕ)) → first_fields line ≡ Some fs → request_of_text rules n line ≡ request_of_fields rules n fs
   by_fields n line fs e =
       let read = guarded (list_all is_field (fields line)) (take 6 (fields line)) fs e in
       ap (λ s. cond s (request_of_fields rules n (fields line)) (Err (BadLine n))) read.0 ∙ six_decide n (fields line) ∙

@@ -9,6 +9,7 @@ use Rattle.std.proofs.lemmas.Nat.{and_comm}
 use Rattle.pua_path.specs.declared.errno.Errno.TheVariants.{EACCES}
 use Rattle.pua_path.specs.declared.found.Way.TheVariants as way
 use Rattle.pua_calls.specs.Promises.{creating}
+use Rattle.pua_calls.specs.TmpTable.{tmp_table}
 use Rattle.pua_policy.proofs.ForCallers.{second_holds}
 use Rattle.pua_calls.specs.declared.call.Call.TheVariants as call
 use Rattle.pua_policy.specs.declared.answer.Cover.TheVariants.{Nothing, Only}
@@ -79,7 +80,7 @@ module _ (t : Tree) (h : ProcessState) where
         (s : Spot) → spot_named x ≡ Some s → SpotHasC t h s
     has_spot x fits perms has covered s is = spot_has_c x s fits is (c_from_cover (cover t h x) perms has covered)
 
-    taking_needs : (c : Call) → takes c ≡ true → NeedsC (rule_of table c)
+    taking_needs : (c : Call) → takes c ≡ true → NeedsC (rule_of (tmp_table table) c)
     taking_needs call.Rmdir taken = needs.rmdir
     taking_needs call.Unlink taken = needs.unlink
     taking_needs _ taken = cc

@@ -5,7 +5,11 @@ use Rattle.pua_script.proofs.Common.{may_any, CallTable, rule_of, Call, Yes, mos
 use Rattle.pua_script.proofs.Common.{TieRow, CopyAs, World, Fails, Copies, kept_at, change_effect, Action}
 use Rattle.std.specs.Prelude.{length}
 use Rattle.std.proofs.lemmas.Bool.{or_right}
-use Rattle.pua_calls.specs.Calls.{Rule}
+use Rattle.pua_script.proofs.Common.{◌++◌, ◌&&◌, and_parts, subst}
+use Rattle.pua_calls.specs.Calls.{Rule, about_rules}
+use Rattle.pua_calls.specs.Promises.{tmppath}
+use Rattle.pua_calls.specs.TmpTable.{is_tmp_call, tmp_table, tmppath_suffices}
+use Rattle.pua_calls.proofs.ForCallers.{tmp_rule_is}
 use Rattle.pua_calls.specs.declared.call.Call.TheVariants as call
 use Rattle.pua_policy.specs.declared.answer.May.TheVariants.{Enosys, Death}
 use Rattle.pua_policy.proofs.ForCallers.{holds_through}
@@ -47,6 +51,29 @@ module _ (promises : List ℕ) (h : ProcessState) (lacks : list_any (holds (held
       by true c e = cc
       by false true e = cc
       by false false e = cc
+
+-- a call with one more set needs one of the promises too, where tmppath is one
+module _ (promises : List ℕ) (table : CallTable) (needs : ChangingNeeds promises table) where
+  abbrev AllName : List ℕ → Type 0
+  AllName sets = AllByRecursion (λ set. IsTrue (list_any (holds set) promises)) sets
+
+  name_more : (sets : List ℕ) → AllName sets → list_any (holds tmppath) promises ≡ true → AllName (sets ++ tmppath ∷ [])
+  name_more [] names named = (named, tt)
+  name_more (set ∷ sets) names named = (names.0, name_more sets names.1 named)
+
+  pub changing_needs_too : (c : Call) → changes_names c ≡ true → NamesOne promises (rule_of (tmp_table table) c)
+  changing_needs_too c changes = subst (NamesOne promises) (sym (tmp_rule_is table c))
+      (by (is_tmp_call c && (about_rules table.whose).has_openings) refl (tmppath_suffices (rule_of table c).alternatives))
+    where
+      sets : List ℕ
+      sets = (rule_of table c).alternatives
+
+      by : (more : Bool) → (is_tmp_call c && (about_rules table.whose).has_openings) ≡ more → (enough : Bool) →
+          AllName (cond more (cond enough sets (sets ++ tmppath ∷ [])) sets)
+      by false is enough = needs.calls c changes
+      by true is true = needs.calls c changes
+      by true is false =
+          name_more sets (needs.calls c changes) (needs.opened (and_parts (is_tmp_call c) (about_rules table.whose).has_openings is).1)
 
 -- a change of the tree
 abbrev is_edit : Change → Bool
@@ -92,8 +119,10 @@ module _ (promises : List ℕ) (table : CallTable) (needs : ChangingNeeds promis
 
   -- without them no edit is decided
   no_edit : (action : Action) (c : Change) → Grounds table t h action c → is_edit c ≡ false
-  no_edit action (AddNode spot node) g = never (rule_of table g.call) (needs.calls g.call (making_changes g.call g.made)) g.on.promised
-  no_edit action (CutRow spot) g = never (rule_of table g.call) (needs.calls g.call (taking_changes g.call g.taken)) g.on.promised
+  no_edit action (AddNode spot node) g =
+      never (rule_of (tmp_table table) g.call) (changing_needs_too promises table needs g.call (making_changes g.call g.made)) g.on.promised
+  no_edit action (CutRow spot) g =
+      never (rule_of (tmp_table table) g.call) (changing_needs_too promises table needs g.call (taking_changes g.call g.taken)) g.on.promised
   no_edit action (ShiftRow from to) g = never table.rename.new.needs needs.rename g.two.promised_new
   no_edit action (TieRow spot x) g = never table.link.new.needs needs.link g.two.promised_new
   no_edit action _ g = refl

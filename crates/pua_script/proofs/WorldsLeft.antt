@@ -9,7 +9,7 @@ use Rattle.std.proofs.Math.Seq.{take-suc}
 use Rattle.std.specs.Prelude.{IfOk, OnErr, MatchResult}
 use Rattle.pua_calls.proofs.ForCallers.{standard_needs_no_error, openbsd_needs_no_error, texts_need_no_error, texts_keep_pairs}
 use Rattle.pua_calls.proofs.ForCallers.{none_by_test}
-use Rattle.pua_calls.specs.Calls.{openbsd_table, standard_table}
+use Rattle.pua_calls.specs.Calls.{about_rules, openbsd_table, standard_table}
 use Rattle.pua_calls.specs.declared.call.Call.TheVariants as call
 use Rattle.pua_calls.specs.declared.rules.Rules.TheVariants.{Standard, Openbsd}
 use Rattle.pua_script.specs.Worlds.{world_of, apply_to, run_to, state_after_all}
@@ -66,6 +66,7 @@ rules_narrow Standard = record {
     calls = standard_changes;
     rename = (refl, tt);
     link = (refl, tt);
+    opened = λ e. absurd (false≢true e);
   };
 }
 rules_narrow Openbsd = record {
@@ -80,6 +81,7 @@ rules_narrow Openbsd = record {
     calls = openbsd_changes;
     rename = (refl, tt);
     link = (refl, tt);
+    opened = λ e. refl;
   };
 }
 
@@ -101,6 +103,7 @@ read_tables_narrow = record {
         calls = calls;
         rename = subst (λ (pair : PairRule). NamesOne promises pair.new.needs) (sym same.rename) needs.rename;
         link = subst (λ (pair : PairRule). NamesOne promises pair.new.needs) (sym same.link) needs.link;
+        opened = λ e. needs.opened (ap (λ whose. (about_rules whose).has_openings) (sym same.whose) ∙ e);
       };
 }
 

@@ -5,8 +5,8 @@ use Rattle.pua_tree.specs.Tree.{Tree, WellFormed, Spot, is_dir, look, node_at}
 use Rattle.pua_path.specs.declared.found.Found.{Found}
 use Rattle.pua_path.specs.declared.found.Found.TheVariants.{Whole, Slot}
 use Rattle.pua_path.specs.declared.found.Way.TheVariants.{Named}
-use Rattle.pua_calls.specs.Promises.{holds, creating}
-use Rattle.pua_calls.specs.Calls.{Rule, CallTable, rule_of, effect_of}
+use Rattle.pua_calls.specs.Promises.{holds, creating, tmppath}
+use Rattle.pua_calls.specs.Calls.{Rule, CallTable, about_rules, rule_of, effect_of}
 use Rattle.pua_calls.specs.Effects.{edits}
 use Rattle.pua_calls.specs.Tables.{NamesNoError}
 use Rattle.pua_policy.specs.States.{ProcessState, held_set}
@@ -44,12 +44,14 @@ changes_names call = edits (effect_of call)
 abbrev pub CallsNeed : List ℕ → CallTable → Type 0
 CallsNeed promises table = (c : Call) → IsTrue (changes_names c) → NamesOne promises (rule_of table c)
 
--- so do the new names of rename and of link, and none of the promises is `error`, since a process can gain that
+-- so do the new names of rename and of link; `tmppath` is one of them where promises open calls, since it opens such as change names; and
+-- none of the promises is `error`, since a process can gain that
 pub record ChangingNeeds (promises : List ℕ) (table : CallTable) : Type 0 where
   pub no_error : AllByRecursion NamesNoError promises
   pub calls : CallsNeed promises table
   pub rename : NamesOne promises table.rename.new.needs
   pub link : NamesOne promises table.link.new.needs
+  pub opened : IsTrue (about_rules table.whose).has_openings → IsTrue (list_any (holds tmppath) promises)
 
 -- a state doesn't hold any of these promises
 abbrev pub HoldsNone : List ℕ → ProcessState → Type 0

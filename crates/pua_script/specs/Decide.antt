@@ -44,10 +44,11 @@ use Rattle.pua_policy.specs.declared.answer.UnveilFault.TheVariants as unveil_fa
 use Rattle.pua_policy.specs.declared.answer.May.{May}
 use Rattle.pua_policy.specs.declared.answer.Refusal.{Refusal}
 use Rattle.pua_policy.specs.declared.answer.Refusal.TheVariants.{Failed}
+use Rattle.pua_script.specs.Openings.{Opening, opening_of}
 use Rattle.pua_script.specs.declared.request.Given.{Given}
 use Rattle.pua_script.specs.declared.request.Given.TheVariants.{Good, Unknown}
 use Rattle.pua_script.specs.declared.request.Action.{Action}
-use Rattle.pua_script.specs.declared.request.Action.TheVariants.{OnPath, Symlink, Rename, Link, Pledge, Unveil, Lock, Fork, Exit, Uses}
+use Rattle.pua_script.specs.declared.request.Action.TheVariants.{OnPath, Symlink, Rename, Link, Pledge, Unveil, Lock, Fork, Exit, Uses, Comment}
 
 -- what a request that is granted changes: nothing, a row of the tree, the program with what it leaves of execpromises,
 -- the state by an event, or the number of processes
@@ -335,6 +336,7 @@ decide_by told table t asker Lock = lock_by asker
 decide_by told table t asker (Fork new) = fork_by asker new
 decide_by told table t asker Exit = Ok (AddEvent Ended)
 decide_by told table t asker (Uses sets) = uses_by asker sets
+decide_by told table t asker Comment = Ok NoChange
 
 -- an errno is told of a check that fails, and of promises whether the process ends
 abbrev pub unveil_errno : Option UnveilFault → Option Errno
@@ -488,6 +490,24 @@ pledging asker whose promises execpromises = pledging_by refusals asker whose pr
 abbrev pub decide_pledge : Requester → Rules → Given → Given → Decision
 decide_pledge asker whose promises execpromises = pledge_by refusals asker whose promises execpromises
 
+-- the cover that an opened request is asked for: where the veils aren't asked, none
+abbrev pub cover_past : {E : Type 0} → Bool → (Side → Tree → Found → ℕ → Option E) → Side → Tree → Found → ℕ → Option E
+cover_past true asked = asked
+cover_past false asked = λ side t object perms. None
+
+-- an opened request is asked for no promises, and past the veils for no cover
+abbrev pub past_promises : {E R : Type 0} → Bool → Asker E R → Asker E R
+past_promises asks_veils asker = record asker { promises = λ sets. None; cover = cover_past asks_veils asker.cover }
+
+abbrev pub asker_past : {E R : Type 0} → Option Opening → Asker E R → Asker E R
+asker_past None asker = asker
+asker_past (Some o) asker = past_promises o.asks_veils asker
+
+-- the checks that a process's request meets: an opening is looked for before all others
+abbrev pub asker_for : {E R : Type 0} → CallTable → ProcessState → Action → Asker E R → Asker E R
+asker_for table p (OnPath call path) asker = asker_past (opening_of table p call path) asker
+asker_for table p action asker = asker
+
 -- what a process's request changes, or why it is refused, by what the process keeps
 abbrev pub decide : CallTable → Tree → ProcessState → Action → Decision
-decide table t p action = decide_by refusals table t (asker_of p) action
+decide table t p action = decide_by refusals table t (asker_for table p action (asker_of p)) action

@@ -1,17 +1,19 @@
 -- Worked rows on scripts: a listing's lines, a script's lines, and the answers.
-use Rattle.std.specs.Prelude.{◌≡◌, ℕ, Bool, true, false, List, [], ◌∷◌, ◌++◌, Result, Ok, Err, codes, refl, replicate}
+use Rattle.std.specs.Prelude.{◌≡◌, ℕ, Bool, true, false, List, [], ◌∷◌, ◌++◌, Some, None, Result, Ok, Err, codes, refl, replicate}
 use Rattle.pua_tree.specs.Examples.{text_of_lines}
 use Rattle.pua_tree.specs.Listing.{listing}
 use Rattle.pua_tree.specs.Tree.{Tree}
 use Rattle.pua_calls.specs.Calls.{CallTable, standard_table, openbsd_table}
 use Rattle.pua_calls.specs.declared.rules.Rules.TheVariants.{Openbsd}
-use Rattle.pua_script.specs.Requests.{Asked}
+use Rattle.pua_script.specs.Requests.{Asked, comment}
 use Rattle.pua_script.specs.Scripts.{request_by, script, script_by}
-use Rattle.pua_script.specs.Replay.{answers_to, new_world}
+use Rattle.pua_script.specs.Replay.{answers_to, new_world, told}
 use Rattle.pua_script.specs.Family.{is_exec, none_done}
 use Rattle.pua_tree.specs.declared.fault.ListingFault.{ListingFault}
 use Rattle.pua_path.specs.declared.errno.Errno.TheVariants.{EPERM, ENOENT, EACCES, EAGAIN, EBUSY, EEXIST, ENOTDIR, EISDIR, EINVAL, ELOOP}
 use Rattle.pua_path.specs.declared.errno.Errno.TheVariants.{ENAMETOOLONG, ENOTEMPTY, ENOSYS, ENOTSOCK, EADDRINUSE}
+use Rattle.pua_calls.specs.declared.call.Call.TheVariants as call
+use Rattle.pua_script.specs.declared.request.Action.TheVariants.{OnPath, Exit}
 use Rattle.pua_script.specs.declared.answer.Answer.{Answer}
 use Rattle.pua_script.specs.declared.answer.Answer.TheVariants.{Okay, Failed, Killed, Gone}
 use Rattle.pua_script.specs.declared.fault.ScriptFault.{ScriptFault}
@@ -307,6 +309,163 @@ uses_rows = record {
   null = refl;
   nothing = refl;
   escaped = refl;
+}
+
+abbrev pub exits : Asked
+exits = record { process = 1; action = Exit }
+
+abbrev pub looks : List ℕ → Asked
+looks path = record { process = 1; action = OnPath call.Stat path }
+
+pub record CommentRows : Type 0 where
+  -- a comment is a line that nobody asks on, so each request stays on the line of its number
+  pub alone : read_by_openbsd (codes "# x") ≡ Ok (comment ∷ [])
+  pub bare : read_by_openbsd (codes "#") ≡ Ok (comment ∷ [])
+  pub behind_blanks : read_by_openbsd (codes "  # x") ≡ Ok (comment ∷ [])
+  pub hashes : read_by_openbsd (codes "## 1 exit") ≡ Ok (comment ∷ [])
+  -- any bytes may stand in it
+  pub any_bytes : request_by Openbsd 1 (35 ∷ 0 ∷ 9 ∷ 255 ∷ []) ≡ Ok comment
+  pub empty : read_by_openbsd [] ≡ Ok (comment ∷ [])
+  pub blanks : read_by_openbsd (codes "  ") ≡ Ok (comment ∷ [])
+  -- each line ends in LF or CRLF
+  pub returns : script_by Openbsd (13 ∷ 10 ∷ codes "# x" ++ 13 ∷ 10 ∷ codes "1 exit # x" ++ 13 ∷ 10 ∷ [])
+      ≡ Ok (comment ∷ comment ∷ exits ∷ [])
+  -- a carriage return that ends no line is no blank
+  pub return_within : request_by Openbsd 1 (13 ∷ []) ≡ Err (BadLine 1)
+  -- nor is a tab
+  pub tab : request_by Openbsd 1 (9 ∷ []) ≡ Err (BadLine 1)
+  -- behind a request, with any number of blanks before it
+  pub behind : read_by_openbsd (codes "1 exit # control.c:89") ≡ Ok (exits ∷ [])
+  pub far_behind : read_by_openbsd (codes "1 exit   #x") ≡ Ok (exits ∷ [])
+  -- which is the one place for more than one, or for one at the end
+  pub blank_last : read_by_openbsd (codes "1 exit ") ≡ Err (BadLine 1)
+  -- without a blank before it a `#` is part of a field
+  pub in_word : read_by_openbsd (codes "1 exit#") ≡ Err (BadCall 1)
+  pub in_path : read_by_openbsd (codes "1 stat /a#b") ≡ Ok (looks (codes "/a#b") ∷ [])
+  pub in_dot : read_by_openbsd (codes "1 stat ./#b") ≡ Ok (looks (codes "./#b") ∷ [])
+  -- it is a visible byte, which is never spelled by digits
+  pub spelled : read_by_openbsd (codes "1 stat \\043") ≡ Err (BadPath 1)
+  -- what it cuts off is missing
+  pub cut : read_by_openbsd (codes "1 stat #/a") ≡ Err (BadCall 1)
+  pub number_alone : read_by_openbsd (codes "1 # exit") ≡ Err (BadCall 1)
+  -- lines count on, and nobody's line is answered as that of a process that was never made
+  pub counted : script_by Openbsd (text_of_lines (codes "# x" ∷ [] ∷ codes "1 stat" ∷ [])) ≡ Err (BadCall 3)
+  pub answered : answers_by_openbsd root_alone (codes "# x" ∷ codes "1 stat /" ∷ [] ∷ codes "1 exit" ∷ []) ≡ Gone ∷ Okay ∷ Gone ∷ Okay ∷ []
+  -- and it is told of no line on which nobody asks
+  pub told : told (comment ∷ exits ∷ []) (Gone ∷ Okay ∷ []) ≡ None ∷ Some Okay ∷ []
+  -- by the standard rules neither comments nor blank lines are read
+  pub standard : script (text_of_lines (codes "# x" ∷ [])) ≡ Err (BadLine 1)
+  pub standard_blank : script (text_of_lines ([] ∷ [])) ≡ Err (BadLine 1)
+  pub standard_behind : script (text_of_lines (codes "1 exit # x" ∷ [])) ≡ Err (BadCall 1)
+
+pub comment_rows : CommentRows
+comment_rows = record {
+  alone = refl;
+  bare = refl;
+  behind_blanks = refl;
+  hashes = refl;
+  any_bytes = refl;
+  empty = refl;
+  blanks = refl;
+  returns = refl;
+  return_within = refl;
+  tab = refl;
+  behind = refl;
+  far_behind = refl;
+  blank_last = refl;
+  in_word = refl;
+  in_path = refl;
+  in_dot = refl;
+  spelled = refl;
+  cut = refl;
+  number_alone = refl;
+  counted = refl;
+  answered = refl;
+  told = refl;
+  standard = refl;
+  standard_blank = refl;
+  standard_behind = refl;
+}
+
+-- files that promises open, and a file beside them
+abbrev pub opened_tree : List (List ℕ)
+opened_tree = root_alone ++ codes "1 dir 0 dev" ∷ codes "2 file 1 tty" ∷ codes "3 dir 0 etc" ∷ codes "4 file 3 resolv.conf"
+    ∷ codes "5 file 3 passwd" ∷ codes "6 dir 0 tmp" ∷ codes "7 file 6 x" ∷ codes "8 dir 0 usr" ∷ codes "9 dir 8 share"
+    ∷ codes "10 dir 9 zoneinfo" ∷ codes "11 file 10 UTC" ∷ []
+
+abbrev pub openings_of : List (List ℕ) → List Answer
+openings_of lines = answers_by_openbsd opened_tree lines
+
+-- what is answered where a promise opens a text
+pub record OpeningRows : Type 0 where
+  -- it is answered ok without the promise that the call needs, and only for the calls and the texts of a row
+  pub opened : openings_of (codes "1 pledge stdio,dns -" ∷ codes "1 open-r /etc/resolv.conf" ∷ codes "1 stat /etc/resolv.conf" ∷ []) ≡ Okay ∷ Okay ∷ Okay ∷ []
+  pub another_call : openings_of (codes "1 pledge stdio,dns -" ∷ codes "1 open-rw /etc/resolv.conf" ∷ []) ≡ Okay ∷ Killed ∷ []
+  pub beside : openings_of (codes "1 pledge dns,error -" ∷ codes "1 open-r /etc/resolv.conf.bak" ∷ codes "1 open-r /etc/resolv"
+      ∷ codes "1 open-r /etc" ∷ codes "1 open-r /etc/resolv.conf/x" ∷ codes "1 open-r /x/etc/resolv.conf" ∷ codes "1 open-r etc/resolv.conf" ∷ []) ≡
+      Okay ∷ Failed ENOSYS ∷ Failed ENOSYS ∷ Failed ENOSYS ∷ Failed ENOSYS ∷ Failed ENOSYS ∷ Failed ENOSYS ∷ []
+  pub another_promise : openings_of (codes "1 pledge stdio,getpw -" ∷ codes "1 open-r /etc/resolv.conf" ∷ []) ≡ Okay ∷ Killed ∷ []
+  -- one that was never pledged has no opening, and the standard rules know none
+  pub unpledged : openings_of (codes "1 unveil /tmp r" ∷ codes "1 open-r /etc/resolv.conf" ∷ codes "1 pledge dns -"
+      ∷ codes "1 open-r /etc/resolv.conf" ∷ []) ≡ Okay ∷ Failed ENOENT ∷ Okay ∷ Okay ∷ []
+  pub standard : answers_of opened_tree (codes "1 pledge stdio,dns -" ∷ codes "1 open-r /etc/resolv.conf" ∷ []) ≡ Okay ∷ Killed ∷ []
+  -- texts are compared in their canonical form, before a link is followed or a name looked up
+  pub canonical : openings_of (codes "1 pledge stdio,dns -" ∷ codes "1 open-r /etc//./resolv.conf" ∷ codes "1 open-r /tmp/../etc/resolv.conf"
+      ∷ codes "1 open-r /../etc/resolv.conf" ∷ []) ≡ Okay ∷ Okay ∷ Okay ∷ Okay ∷ []
+  pub slash_at_end : openings_of (codes "1 pledge stdio,dns -" ∷ codes "1 open-r /etc/resolv.conf/" ∷ codes "1 open-r /no/../etc/resolv.conf" ∷ []) ≡
+      Okay ∷ Failed ENOTDIR ∷ Failed ENOENT ∷ []
+  pub below : openings_of (codes "1 pledge stdio,error -" ∷ codes "1 open-r /usr/share/zoneinfo/UTC" ∷ codes "1 open-r /usr/share/zoneinfo/../zoneinfo/UTC"
+      ∷ codes "1 open-r /usr/share/zoneinfo/" ∷ codes "1 open-r /usr/share/zoneinfo" ∷ codes "1 open-r /usr/share/zoneinfo/../x"
+      ∷ codes "1 open-r /usr/share/zoneinfo/../../../etc/passwd" ∷ []) ≡
+      Okay ∷ Okay ∷ Okay ∷ Failed ENOSYS ∷ Failed ENOSYS ∷ Failed ENOSYS ∷ Failed ENOSYS ∷ []
+  -- path and kind are judged as ever, and the process lives
+  pub missing : openings_of (codes "1 pledge stdio,dns -" ∷ codes "1 open-r /etc/hosts" ∷ codes "1 open-r /etc/resolv.conf" ∷ []) ≡
+      Okay ∷ Failed ENOENT ∷ Okay ∷ []
+  -- past the veils, and where the veils are asked
+  pub past_veils : openings_of (codes "1 unveil /tmp r" ∷ codes "1 pledge rpath,dns -" ∷ codes "1 open-r /etc/resolv.conf"
+      ∷ codes "1 open-r /etc/passwd" ∷ []) ≡ Okay ∷ Okay ∷ Okay ∷ Failed ENOENT ∷ []
+  pub past_letters : openings_of (codes "1 unveil /etc w" ∷ codes "1 pledge rpath,dns -" ∷ codes "1 stat /etc/resolv.conf"
+      ∷ codes "1 stat /etc/passwd" ∷ []) ≡ Okay ∷ Okay ∷ Okay ∷ Failed EACCES ∷ []
+  pub by_veils : openings_of (codes "1 unveil /dev/tty r" ∷ codes "1 pledge tty -" ∷ codes "1 open-r /dev/tty"
+      ∷ codes "1 open-rw /dev/tty" ∷ codes "1 stat /dev/tty" ∷ []) ≡ Okay ∷ Okay ∷ Okay ∷ Failed EACCES ∷ Killed ∷ []
+  pub uncovered : openings_of (codes "1 unveil /etc r" ∷ codes "1 pledge rpath,tty -" ∷ codes "1 open-r /dev/tty" ∷ []) ≡
+      Okay ∷ Okay ∷ Failed ENOENT ∷ []
+  -- tmppath makes and takes away files below /tmp by itself, and nothing else there, nor elsewhere
+  pub made : openings_of (codes "1 pledge rpath,tmppath,error -" ∷ codes "1 create /tmp/y" ∷ codes "1 stat /tmp/y" ∷ codes "1 create-rw /tmp/z"
+      ∷ codes "1 stat /etc/../tmp//z" ∷ codes "1 open-w /tmp/y" ∷ codes "1 mkdir /tmp/d" ∷ codes "1 create /y" ∷ codes "1 create /tmp/../y" ∷ []) ≡
+      Okay ∷ Okay ∷ Okay ∷ Okay ∷ Okay ∷ Failed ENOSYS ∷ Failed ENOSYS ∷ Failed ENOSYS ∷ Failed ENOSYS ∷ []
+  pub taken : openings_of (codes "1 pledge rpath,tmppath,error -" ∷ codes "1 unlink /tmp/x" ∷ codes "1 stat /tmp/x" ∷ codes "1 unlink /tmp/x"
+      ∷ codes "1 unlink /tmp" ∷ codes "1 unlink /etc/passwd" ∷ []) ≡
+      Okay ∷ Okay ∷ Failed ENOENT ∷ Failed ENOENT ∷ Failed ENOSYS ∷ Failed ENOSYS ∷ []
+  pub made_by_veils : openings_of (codes "1 unveil /tmp rc" ∷ codes "1 pledge tmppath -" ∷ codes "1 create /tmp/y" ∷ codes "1 unlink /tmp/x"
+      ∷ codes "1 create /y" ∷ []) ≡ Okay ∷ Okay ∷ Failed EACCES ∷ Okay ∷ Killed ∷ []
+  pub not_made : openings_of (codes "1 unveil /etc rwc" ∷ codes "1 pledge tmppath -" ∷ codes "1 create /tmp/y" ∷ []) ≡
+      Okay ∷ Okay ∷ Failed ENOENT ∷ []
+  -- an ended process has none
+  pub ended : openings_of (codes "1 pledge stdio,dns -" ∷ codes "1 mkdir /x" ∷ codes "1 open-r /etc/resolv.conf" ∷ []) ≡
+      Okay ∷ Killed ∷ Gone ∷ []
+
+pub opening_rows : OpeningRows
+opening_rows = record {
+  opened = refl;
+  another_call = refl;
+  beside = refl;
+  another_promise = refl;
+  unpledged = refl;
+  standard = refl;
+  canonical = refl;
+  slash_at_end = refl;
+  below = refl;
+  missing = refl;
+  past_veils = refl;
+  past_letters = refl;
+  by_veils = refl;
+  uncovered = refl;
+  made = refl;
+  taken = refl;
+  made_by_veils = refl;
+  not_made = refl;
+  ended = refl;
 }
 
 pub record ReplayRows : Type 0 where

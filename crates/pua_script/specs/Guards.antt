@@ -7,11 +7,13 @@ use Rattle.pua_path.specs.Resolution.{resolution_of_text}
 use Rattle.pua_path.specs.Fits.{spot_named, node_named}
 use Rattle.pua_calls.specs.Promises.{proc, unveil}
 use Rattle.pua_calls.specs.Calls.{CallTable, PairRule, rule_of}
+use Rattle.pua_calls.specs.TmpTable.{tmp_table}
 use Rattle.pua_policy.specs.States.{ProcessState, Pledged, Unveiled, Locked, Ended, working_dir, is_locked, pledge_fault, unveil_fault, may_any}
 use Rattle.pua_policy.specs.Verdict.{place_of, cover, cover_fault, object_named, object_fault, object_of}
 use Rattle.pua_script.specs.Decide.{link_node, is_whole, kinds_fault, inside_fault, unveil_errno, given_set, is_unknown, Change, NoChange}
 use Rattle.pua_script.specs.Decide.{AddNode, CutRow, ShiftRow, TieRow, AddEvent, CopyAs, adding, change_by, shifting, tying, ways_fault}
-use Rattle.pua_script.specs.Decide.{named_by, decide}
+use Rattle.pua_script.specs.Decide.{named_by, decide, asker_of, cover_past, Sole}
+use Rattle.pua_script.specs.Openings.{Opening, opening_of}
 use Rattle.pua_path.specs.declared.text.Ending.{Ending}
 use Rattle.pua_path.specs.declared.text.Ending.TheVariants as ending
 use Rattle.pua_path.specs.declared.found.Last.TheVariants.{Followed}
@@ -22,13 +24,21 @@ use Rattle.pua_calls.specs.declared.call.Call.TheVariants as call
 use Rattle.pua_policy.specs.declared.answer.May.TheVariants as may
 use Rattle.pua_script.specs.declared.request.Given.{Given}
 use Rattle.pua_script.specs.declared.request.Action.{Action}
-use Rattle.pua_script.specs.declared.request.Action.TheVariants.{OnPath, Symlink, Rename, Link, Pledge, Unveil, Lock, Fork, Exit, Uses}
+use Rattle.pua_script.specs.declared.request.Action.TheVariants.{OnPath, Symlink, Rename, Link, Pledge, Unveil, Lock, Fork, Exit, Uses, Comment}
 
 -- a call on what its path named: its promises, its letters, and the kind that it is for
 pub record OnOne (table : CallTable) (t : Tree) (h : ProcessState) (call : Call) (path : List ℕ) (object : Found) : Type 0 where
   pub promised : may_any h (rule_of table call).alternatives ≡ may.Yes
   pub found : object_named t h call path ≡ Ok object
   pub covered : cover_fault (cover t h object) (rule_of table call).perms ≡ None
+  pub fitting : object_fault table.whose t call (object_of t object) ≡ None
+
+-- a call that a promise opens: its opening, what its path names, the letters where the veils are asked, and the kind that it is for
+pub record IsOpened (table : CallTable) (t : Tree) (h : ProcessState) (call : Call) (path : List ℕ) (object : Found) : Type 0 where
+  pub opening : Opening
+  pub opened : opening_of table h call path ≡ Some opening
+  pub found : object_named t h call path ≡ Ok object
+  pub covered : cover_past opening.asks_veils (asker_of h).cover Sole t object (rule_of table call).perms ≡ None
   pub fitting : object_fault table.whose t call (object_of t object) ≡ None
 
 -- two paths: the promises and the letters of both names, and the node that the old one named
@@ -83,7 +93,8 @@ pub record IsPledge (whose : Rules) (h : ProcessState) (promises execpromises : 
 
 -- which checks a request passed that changes this
 abbrev pub IsDecided : CallTable → Tree → ProcessState → Action → Change → Type 0
-IsDecided table t h (OnPath call path) change = (object : Found) × OnOne table t h call path object × (change ≡ change_by table call object)
+IsDecided table t h (OnPath call path) change =
+    (object : Found) × (OnOne table t h call path object ⊎ IsOpened table t h call path object) × (change ≡ change_by table call object)
 IsDecided table t h (Symlink target path) change = (object : Found) × OnOne table t h call.Symlink path object × (path_fault target ≡ None)
     × (change ≡ adding (link_node target) object)
 IsDecided table t h (Rename old new) change = IsRename table.rename t h old new change
@@ -94,11 +105,23 @@ IsDecided table t h Lock change = (may_any h (unveil ∷ []) ≡ may.Yes) × (ch
 IsDecided table t h (Fork new) change = (may_any h (proc ∷ []) ≡ may.Yes) × (change ≡ CopyAs new)
 IsDecided table t h Exit change = change ≡ AddEvent Ended
 IsDecided table t h (Uses sets) change = (may_any h sets ≡ may.Yes) × (change ≡ NoChange)
+IsDecided table t h Comment change = change ≡ NoChange
+
+-- what a change passed, whatever opened it: a call on a path passed all checks of this table, or it changes nothing; else its guards
+abbrev pub IsGranted : CallTable → Tree → ProcessState → Action → Change → Type 0
+IsGranted table t h (OnPath call path) change =
+    ((object : Found) × OnOne table t h call path object × (change ≡ change_by table call object)) ⊎ (change ≡ NoChange)
+IsGranted table t h action change = IsDecided table t h action change
 
 -- each decision had its guards
 abbrev pub DecisionsAreGuarded : Type 0
 DecisionsAreGuarded = (table : CallTable) (t : Tree) (h : ProcessState) (action : Action) (change : Change) →
     decide table t h action ≡ Ok change → IsDecided table t h action change
+
+-- and each change is one that passes the checks of the table by which lists for ever go, also where a promise opened it
+abbrev pub ChangesAreGranted : Type 0
+ChangesAreGranted = (table : CallTable) (t : Tree) (h : ProcessState) (action : Action) (change : Change) →
+    decide table t h action ≡ Ok change → IsGranted (tmp_table table) t h action change
 
 -- a spot at which nothing stands
 abbrev pub IsFree : Tree → Spot → Type 0

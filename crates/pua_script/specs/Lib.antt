@@ -3,6 +3,8 @@ pub mod Limits
 pub mod Requests
 pub mod Scripts
 pub mod FaultTexts
+pub mod Canonical
+pub mod Openings
 pub mod Decide
 pub mod Replay
 pub mod AnswerTexts
@@ -13,14 +15,17 @@ pub mod Laws
 pub mod Bytes
 pub mod Family
 pub mod Tightening
+pub mod OpeningLaws
 pub mod Confinement
 pub mod ErrorTables
 pub mod Futures
 -- Worked rows, which hold by computation.
 pub mod Examples
--- Notes: what a reader of lines adds, a request with other arguments, for which worlds of the replay a world of the code stands, and what it decides.
+-- Notes: what a reader of lines adds, a request with other arguments, for which worlds of the replay a world of the code stands, what it decides, and how it
+-- compares the names of texts.
 pub mod Added
 pub mod Regiven
 pub mod Worlds
 pub mod Pasts
 pub mod Judged
+pub mod Beside

@@ -5,7 +5,7 @@ use Rattle.pua_tree.specs.Tree.{Tree}
 use Rattle.pua_tree.specs.Edits.{add, tie, cut, shift}
 use Rattle.pua_calls.specs.Calls.{CallTable}
 use Rattle.pua_policy.specs.States.{ProcessState, state_after, Ended, new_process, is_ended, after_exec}
-use Rattle.pua_script.specs.Requests.{Asked}
+use Rattle.pua_script.specs.Requests.{Asked, says_nothing}
 use Rattle.pua_script.specs.Limits.{most_processes}
 use Rattle.pua_script.specs.Decide.{Change, NoChange, AddNode, CutRow, ShiftRow, TieRow, BeginProgram, AddEvent, CopyAs, Decision, decide}
 use Rattle.pua_tree.specs.declared.fault.TreeFault.{TreeFault}
@@ -115,6 +115,15 @@ apply table w ask = answer_and_world table w ask (kept_at w ask.process)
 abbrev pub answers_to : CallTable → World → List Asked → List Answer
 answers_to table w [] = []
 answers_to table w (ask ∷ asks) = let done : Answer × World = apply table w ask in done.0 ∷ answers_to table done.1 asks
+
+-- the answers to lines of which each has one, but for lines on which nobody asks
+abbrev pub told : List Asked → List Answer → List (Option Answer)
+told (ask ∷ asks) (answer ∷ answers) = (if says_nothing ask.action then None else Some answer) ∷ told asks answers
+told asks answers = []
+
+-- what is told of a script's lines
+abbrev pub lines_told : CallTable → World → List Asked → List (Option Answer)
+lines_told table w asks = told asks (answers_to table w asks)
 
 abbrev pub world_after : CallTable → World → List Asked → World
 world_after table w [] = w

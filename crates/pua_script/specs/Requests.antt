@@ -1,11 +1,11 @@
 -- A line of a script, as a value.
-use Rattle.std.specs.Prelude.{ℕ, Bool, true, false, not, ◌&&◌, List, nat_le}
+use Rattle.std.specs.Prelude.{ℕ, Bool, true, false, not, ◌&&◌, ◌||◌, ◌==◌, List, nat_le}
 use Rattle.pua_tree.specs.Names.{has_byte}
 use Rattle.pua_script.specs.Limits.{most_number}
 use Rattle.pua_calls.specs.declared.call.Call.{Call}
 use Rattle.pua_calls.specs.declared.call.Call.TheVariants as call
 use Rattle.pua_script.specs.declared.request.Action.{Action}
-use Rattle.pua_script.specs.declared.request.Action.TheVariants.{OnPath, Symlink, Rename, Link, Unveil, Fork}
+use Rattle.pua_script.specs.declared.request.Action.TheVariants.{OnPath, Symlink, Rename, Link, Unveil, Fork, Comment}
 
 -- the number of a process, and what it asks for
 pub record Asked : Type 0 where
@@ -24,7 +24,7 @@ abbrev pub is_symlink : Call → Bool
 is_symlink call.Symlink = true
 is_symlink _ = false
 
--- an action that a script can ask for: no NUL in a path, and symlink only with its target
+-- an action that a process can ask for by a script: no NUL in a path, and symlink only with its target
 abbrev pub is_askable : Action → Bool
 is_askable (OnPath call path) = not (is_symlink call) && has_no_nul path
 is_askable (Symlink target path) = has_no_nul target && has_no_nul path
@@ -32,7 +32,20 @@ is_askable (Rename old new) = has_no_nul old && has_no_nul new
 is_askable (Link old new) = has_no_nul old && has_no_nul new
 is_askable (Unveil path perms) = has_no_nul path
 is_askable (Fork new) = is_process_number new
+is_askable Comment = false
 is_askable _ = true
 
+-- a line on which nobody asks for anything: there is never a process 0
+abbrev pub comment : Asked
+comment = record { process = 0; action = Comment }
+
+abbrev pub says_nothing : Action → Bool
+says_nothing Comment = true
+says_nothing _ = false
+
+abbrev pub is_comment : Asked → Bool
+is_comment ask = ask.process == 0 && says_nothing ask.action
+
+-- a comment, or what a process asks for
 abbrev pub is_asked : Asked → Bool
-is_asked ask = is_process_number ask.process && is_askable ask.action
+is_asked ask = is_comment ask || (is_process_number ask.process && is_askable ask.action)

@@ -1,4 +1,4 @@
--- What a script is as a text: lines, each of which spells a request by its fields.
+-- What a script is as a text: lines, each of which spells a request by its fields, or has none but a comment.
 use Rattle.std.specs.Prelude.{◌≡◌, ◌≢◌, ℕ, ◌≤◌, List, [], ◌∷◌, length, Option, Some, None, Ok, Err, codes, decimal, IsTrue, IsFalse, nat_lt}
 use Rattle.std.specs.Prelude.{◌↔◌, ◌==◌, ◌||◌, ◌++◌}
 use Rattle.std.specs.List.{list_all, list_any, slice_split}
@@ -12,8 +12,8 @@ use Rattle.pua_calls.specs.declared.rules.Rules.TheVariants.{Openbsd}
 use Rattle.pua_path.specs.declared.errno.Errno.{Errno}
 use Rattle.pua_calls.specs.declared.call.Call.{Call}
 use Rattle.pua_script.specs.Limits.{most_script_lines, most_number}
-use Rattle.pua_script.specs.Requests.{Asked, is_symlink, has_no_nul}
-use Rattle.pua_script.specs.Scripts.{has_empty_word, script_by}
+use Rattle.pua_script.specs.Requests.{Asked, comment, is_symlink, has_no_nul}
+use Rattle.pua_script.specs.Scripts.{has_empty_word, is_blank, text_in, script_by}
 use Rattle.pua_script.specs.declared.request.Given.{Given}
 use Rattle.pua_script.specs.declared.request.Given.TheVariants.{Null, Good, Unknown}
 use Rattle.pua_script.specs.declared.request.Action.{Action}
@@ -80,21 +80,26 @@ pub data SpellsAction (rules : Rules) : List (List ℕ) → Action → Type 0 wh
   exit : {word : List ℕ} → word ≡ codes "exit" → SpellsAction rules (word ∷ []) Exit
   uses : {word a sets : List ℕ} → rules ≡ Openbsd → word ≡ codes "uses" → SpellsSets a sets → SpellsAction rules (word ∷ a ∷ []) (Uses sets)
 
--- a line: the decimal of the process, and the fields of what it asks for, with single spaces between fields
-pub record SpellsRequest (rules : Rules) (line : List ℕ) (ask : Asked) : Type 0 where
-  pub visible : IsTrue (list_all is_field (fields line))
+-- a text: the decimal of the process, and the fields of what it asks for, with single spaces between fields
+pub record SpellsRequest (rules : Rules) (text : List ℕ) (ask : Asked) : Type 0 where
+  pub visible : IsTrue (list_all is_field (fields text))
   pub more : List (List ℕ)
-  pub split : fields line ≡ decimal ask.process ∷ more
+  pub split : fields text ≡ decimal ask.process ∷ more
   pub low : 1 ≤ ask.process
   pub high : ask.process ≤ most_number
   pub spells : SpellsAction rules more ask.action
+
+-- a line without a text, or one whose text spells a request
+pub data SpellsLine (rules : Rules) (line : List ℕ) : Asked → Type 0 where
+  blank : IsTrue (is_blank rules (text_in rules line)) → SpellsLine rules line comment
+  request : {ask : Asked} → SpellsRequest rules (text_in rules line) ask → SpellsLine rules line ask
 
 -- each line spells its request
 abbrev pub SpellRequests : Rules → List (List ℕ) → List Asked → Type 0
 SpellRequests rules [] [] = Unit {0}
 SpellRequests rules [] (ask ∷ asks) = ⊥
 SpellRequests rules (line ∷ lines) [] = ⊥
-SpellRequests rules (line ∷ lines) (ask ∷ asks) = SpellsRequest rules line ask × SpellRequests rules lines asks
+SpellRequests rules (line ∷ lines) (ask ∷ asks) = SpellsLine rules line ask × SpellRequests rules lines asks
 
 -- the bytes are a script of these requests
 abbrev pub IsScript : Rules → List ℕ → List Asked → Type 0

@@ -1,8 +1,9 @@
 -- Which bytes are a script of which requests, and else which fault comes first.
-use Rattle.std.specs.Prelude.{◌≡◌, ◌≢◌, MatchResult, ℕ, suc, Bool, false, not, ◌||◌, if◌then◌else◌, List, [], ◌∷◌, ◌++◌, length, take}
+use Rattle.std.specs.Prelude.{◌≡◌, ◌≢◌, MatchResult, ℕ, suc, Bool, true, false, not, ◌||◌, ◌&&◌, if◌then◌else◌, List, [], ◌∷◌, ◌++◌, length, take}
 use Rattle.std.specs.Prelude.{nat_lt, ◌==◌, Option}
 use Rattle.std.specs.Prelude.{Some, None, Result, Ok, Err, codes, ok_or, option_map}
 use Rattle.std.specs.List.{list_all, list_any, slice_split}
+use Rattle.std.specs.Option.{unwrap_or}
 use Rattle.std.specs.Result.{result_ok}
 use Rattle.std.specs.Str.Lines.{lines}
 use Rattle.pua_tree.specs.Names.{same_bytes, has_byte}
@@ -14,7 +15,7 @@ use Rattle.pua_calls.specs.Neighbours.{call_asked_by}
 use Rattle.pua_calls.specs.declared.rules.Rules.{Rules}
 use Rattle.pua_calls.specs.declared.rules.Rules.TheVariants.{Standard, Openbsd}
 use Rattle.pua_script.specs.Limits.{most_script_lines, most_number}
-use Rattle.pua_script.specs.Requests.{Asked, is_symlink, has_no_nul}
+use Rattle.pua_script.specs.Requests.{Asked, comment, is_symlink, has_no_nul}
 use Rattle.pua_path.specs.declared.errno.Errno.{Errno}
 use Rattle.pua_calls.specs.declared.call.Call.{Call}
 use Rattle.pua_script.specs.declared.request.Given.{Given}
@@ -146,9 +147,33 @@ request_of_fields rules n (process ∷ more) = do
   action ← action_in rules n more
   Ok (record { process = number; action = action })
 
+-- a byte before the rest of a text, before whose end a blank doesn't count
+abbrev pub before_rest : ℕ → List ℕ → List ℕ
+before_rest b [] = if b == 32 then [] else b ∷ []
+before_rest b (next ∷ more) = b ∷ next ∷ more
+
+-- what stands before a comment and the blanks before that, where a `#` begins one: as a line's first byte, or behind a blank
+abbrev pub before_comment : Bool → List ℕ → Option (List ℕ)
+before_comment may_begin [] = None
+before_comment may_begin (b ∷ more) =
+    if may_begin && b == 35 then Some [] else option_map (before_rest b) (before_comment (b == 32) more)
+
+-- by OpenBSD's rules alone a line may have a comment
+abbrev pub text_in : Rules → List ℕ → List ℕ
+text_in Standard line = line
+text_in Openbsd line = unwrap_or (before_comment true line) line
+
+-- by OpenBSD's rules alone a line may have no text, or blanks alone
+abbrev pub is_blank : Rules → List ℕ → Bool
+is_blank Standard text = false
+is_blank Openbsd text = list_all (λ b. b == 32) text
+
+abbrev pub request_of_text : Rules → ℕ → List ℕ → Result Asked ScriptFault
+request_of_text rules n text = if list_all is_field (fields text) then request_of_fields rules n (fields text) else Err (BadLine n)
+
 -- what line n asks for, or its first fault
 abbrev pub request_by : Rules → ℕ → List ℕ → Result Asked ScriptFault
-request_by rules n text = if list_all is_field (fields text) then request_of_fields rules n (fields text) else Err (BadLine n)
+request_by rules n line = if is_blank rules (text_in rules line) then Ok comment else request_of_text rules n (text_in rules line)
 
 -- by the standard rules
 abbrev pub request_of : ℕ → List ℕ → Result Asked ScriptFault

@@ -4,14 +4,12 @@
 //! when it begins, and a name takes 256 bytes. What a path names stays lent until a name is to be
 //! kept.
 
-ghost use Rattle.std.specs.Prelude.{◌≡◌, ℕ, List, None, OnErr, IsFalse, true, false};
+ghost use Rattle.std.specs.Prelude.{◌≡◌, ℕ, List, None, Some, Ok, OnErr, IsFalse, true, false};
 ghost use Rattle.pua_policy.specs.States.{ProcessState};
-ghost use Rattle.pua_script.specs.Decide.{asker_of};
+ghost use Rattle.pua_script.specs.Decide.{asker_of, change_by, decide, decide_object};
+ghost use Rattle.pua_script.specs.Openings.{opening_of, opening_seen};
 ghost use Rattle.pua_script.specs.Judged.{decision_for, is_edit};
 ghost use Rattle.pua_script.specs.Replay.{come_of};
-ghost use Rattle.pua_calls.specs.Calls.{rule_of};
-ghost use Rattle.pua_policy.specs.States.{may_any};
-ghost use Rattle.pua_policy.specs.Verdict.{refusal_of};
 ghost use Rattle.pua_script.specs.Worlds.{Acts, Attempts, is_fork};
 ghost use Rattle.pua_script.specs.declared.request.Action.TheVariants.{Link, OnPath, Rename};
 ghost use Rattle.pua_script.specs.declared.request.Action.TheVariants.{Symlink, Unveil};
@@ -20,9 +18,11 @@ use crate::answer::Answer;
 use crate::fault::WorldFault;
 use crate::granted::{Granted, NewNode, make};
 use crate::judged::{
-    adding, editing, grant_unveil, judge_letters, judge_object, judge_target, looking, veil_named,
+    adding, editing, grant_unveil, judge_fit, judge_letters, judge_object, judge_target, looking,
+    veil_named,
 };
 use crate::link::{judge_link, naming};
+use crate::opening::{Opening, opening_of};
 use crate::pair::{node_named, promised_pair, spot_named};
 use crate::process::{decide_lock, decide_pledge, decide_uses, refuse};
 use crate::rename::{asks_directory, judge_rename, moving};
@@ -68,11 +68,12 @@ pub(crate) fn act<T: FileTree>(
             let granted = decide_uses(process, any.sets());
             answer(tree, process, &granted)
         }
+        Action::Comment => answer(tree, process, &Ok(Granted::NoChange)),
         Action::Fork(_) => unreachable!(),
     }
 }
 
-/// Makes one of the calls on a path.
+/// Makes one of the calls on a path. What a promise opens is looked for before all checks.
 fn call_on<T: FileTree>(
     tree: &mut T,
     table: &CallTable,
@@ -85,9 +86,48 @@ fn call_on<T: FileTree>(
     ensures unchanged { OnErr result
         ((T.content tree.new ≡ T.content tree.old) × (process.new ≡ process.old)) }
 {
+    match opening_of(table, process, call, path) {
+        Some(row) => opened(tree, table, process, call, path, row),
+        None => asked(tree, table, process, call, path),
+    }
+}
+
+/// Makes a call that no promise opens: the promises that it needs are asked first.
+fn asked<T: FileTree>(
+    tree: &mut T,
+    table: &CallTable,
+    process: &mut Process,
+    call: Call,
+    path: &[u8],
+) -> Result<Answer, WorldFault>
+    ensures exact { opening_of table.now process.old call path.now ≡ None →
+        Acts table.now (T.content tree.old) process.old (OnPath call path.now)
+        result (T.content tree.new) process.new }
+    ensures unchanged { OnErr result
+        ((T.content tree.new ≡ T.content tree.old) × (process.new ≡ process.old)) }
+{
     if let Err(refusal) = promised_for(process, table, call) {
         return answer(tree, process, &Err(refusal));
     }
+    unasked(tree, table, process, call, path)
+}
+
+/// Makes a call whose promises are held, or which are not asked.
+fn unasked<T: FileTree>(
+    tree: &mut T,
+    table: &CallTable,
+    process: &mut Process,
+    call: Call,
+    path: &[u8],
+) -> Result<Answer, WorldFault>
+    ensures exact { decide table.now (T.content tree.old) process.old (OnPath call path.now)
+        ≡ decide_object table.now (T.content tree.old) (asker_of process.old) call path.now
+        (λ object. Ok (change_by table.now call object)) →
+        Acts table.now (T.content tree.old) process.old (OnPath call path.now)
+        result (T.content tree.new) process.new }
+    ensures unchanged { OnErr result
+        ((T.content tree.new ≡ T.content tree.old) × (process.new ≡ process.old)) }
+{
     if call.effect().edits() {
         edit(tree, table, process, call, path)
     } else {
@@ -95,8 +135,32 @@ fn call_on<T: FileTree>(
     }
 }
 
-/// Makes a call whose promises are held, and that makes no name and takes none away. No name is
-/// copied.
+/// Makes a call that a promise opens. No promise is asked, and the veils only where the opening asks
+/// them: what it opens past them is not changed.
+fn opened<T: FileTree>(
+    tree: &mut T,
+    table: &CallTable,
+    process: &mut Process,
+    call: Call,
+    path: &[u8],
+    row: &Opening,
+) -> Result<Answer, WorldFault>
+    ensures exact { opening_of table.now process.old call path.now ≡ Some (opening_seen row.now) →
+        Acts table.now (T.content tree.old) process.old (OnPath call path.now)
+        result (T.content tree.new) process.new }
+    ensures unchanged { OnErr result
+        ((T.content tree.new ≡ T.content tree.old) × (process.new ≡ process.old)) }
+{
+    if row.asks_veils {
+        return unasked(tree, table, process, call, path);
+    }
+    match judge_fit(tree, table, process, call, path) {
+        Ok(()) => answer(tree, process, &Ok(Granted::NoChange)),
+        Err(errno) => answer(tree, process, &Err(Refusal::Failed(errno))),
+    }
+}
+
+/// Makes such a call that makes no name and takes none away. No name is copied.
 fn look<T: FileTree>(
     tree: &mut T,
     table: &CallTable,
@@ -104,7 +168,9 @@ fn look<T: FileTree>(
     call: Call,
     path: &[u8],
 ) -> Result<Answer, WorldFault>
-    ensures exact { refusal_of (may_any process.old (rule_of table.now call).alternatives) ≡ None →
+    ensures exact { decide table.now (T.content tree.old) process.old (OnPath call path.now)
+        ≡ decide_object table.now (T.content tree.old) (asker_of process.old) call path.now
+        (λ object. Ok (change_by table.now call object)) →
         is_edit call ≡ false → Acts table.now (T.content tree.old) process.old (OnPath call path.now)
         result (T.content tree.new) process.new }
     ensures unchanged { OnErr result
@@ -119,8 +185,8 @@ fn look<T: FileTree>(
     }
 }
 
-/// Makes a call whose promises are held, and that makes a name or takes one away. The name is
-/// copied, since what is lent may lie in the tree that is to change.
+/// Makes such a call that makes a name or takes one away. The name is copied, since what is lent
+/// may lie in the tree that is to change.
 fn edit<T: FileTree>(
     tree: &mut T,
     table: &CallTable,
@@ -128,7 +194,9 @@ fn edit<T: FileTree>(
     call: Call,
     path: &[u8],
 ) -> Result<Answer, WorldFault>
-    ensures exact { refusal_of (may_any process.old (rule_of table.now call).alternatives) ≡ None →
+    ensures exact { decide table.now (T.content tree.old) process.old (OnPath call path.now)
+        ≡ decide_object table.now (T.content tree.old) (asker_of process.old) call path.now
+        (λ object. Ok (change_by table.now call object)) →
         is_edit call ≡ true → Acts table.now (T.content tree.old) process.old (OnPath call path.now)
         result (T.content tree.new) process.new }
     ensures unchanged { OnErr result

@@ -52,7 +52,7 @@ pub(crate) fn read_any_of(alloc: Global, number: u32, field: &[u8]) -> Result<An
 }
 
 /// Whether a line asks for promises by this word: by OpenBSD's rules alone.
-pub(crate) fn asks_promises(rules: Rules, word: &[u8]) -> bool
+pub fn asks_promises(rules: Rules, word: &[u8]) -> bool
     ensures { result ≡ asks_promises rules word.now }
 {
     match rules {
@@ -61,8 +61,8 @@ pub(crate) fn asks_promises(rules: Rules, word: &[u8]) -> bool
     }
 }
 
-/// The set of a keyword that is none of those before it.
-fn further_set(before: &[Promises], word: &[u8]) -> Option<Promises>
+/// The set of one keyword that is not `error`, where none of those before has it.
+pub fn further_set(before: &[Promises], word: &[u8]) -> Option<Promises>
     ensures { result ≡ further_set before.now word.now }
 {
     let set = set_of_keyword(word)?;

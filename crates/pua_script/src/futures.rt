@@ -7,6 +7,8 @@ ghost use Rattle.pua_script.specs.Bytes.{ReplaysKeepTrees, RequestsKeepTrees, Sc
 ghost use Rattle.pua_script.specs.Confinement.{EachRequestSpares, FamiliesConfine, PromisesChange};
 ghost use Rattle.pua_script.specs.ErrorTables.{ErrorTables};
 ghost use Rattle.pua_script.specs.Futures.{ReadTablesNarrow, RulesNarrow};
+ghost use Rattle.pua_script.specs.OpeningLaws.{OkaysAreAccounted, OpeningsAreHeld, OpeningsNarrow};
+ghost use Rattle.pua_script.specs.OpeningLaws.{TmpTableAllows};
 ghost use Rattle.pua_script.specs.Tightening.{EachRequestNarrows, FamiliesNarrow, ForksCopy};
 ghost use Rattle.pua_script.specs.Tightening.{OthersLeave, OthersLeaveAlways};
 
@@ -34,11 +36,23 @@ pub fn families_law()
     ensures { FamiliesNarrow }
 {}
 
+/// What promises open is by those that are held: a process that can put no veil any more has no
+/// further opening, whatever is asked; and a call on a path that is answered ok is allowed by the
+/// verdict, or a promise opens its text. What a table allows is allowed by the one by which lists
+/// for ever go.
+pub fn openings_law()
+    ensures held { OpeningsAreHeld }
+    ensures narrow { OpeningsNarrow }
+    ensures okays { OkaysAreAccounted }
+    ensures tmp { TmpTableAllows }
+{}
+
 /// What a family alone asks for leaves each row whose object it can't touch with `c`, with the
 /// node, the kind, the target and the cover, as long as no member's exec succeeds, where the table
 /// asks rmdir, unlink and both names of rename for `c` and each tree on the way is one; and without
 /// certain promises it leaves the tree, where the calls that make a name or take one away need one
-/// of these, and the new names of rename and link. A single request of any process does so by the
+/// of these, and the new names of rename and link, and where tmppath is one of them if promises
+/// open calls. A single request of any process does so by the
 /// state that it had before. A row that stays says nothing of what is written to its file: link
 /// takes no name away, so that where it needs less of its old name, as by OpenBSD's rules, the file
 /// may be given a further name and be written by that.
@@ -61,8 +75,9 @@ pub fn bytes_law()
 
 /// The standard rules, and those of OpenBSD, are of those that the laws speak of: no call needs
 /// `error`, rmdir, unlink and both names of rename need `c`, and the calls that make a name or take
-/// one away need cpath, as the new names of rename and link do; by OpenBSD's rules cpath, unix or
-/// dpath. Of a table that a text gives over such rules no more is asked than of these calls.
+/// one away need cpath, as the new names of rename and link do; by OpenBSD's rules cpath, unix, dpath
+/// or tmppath, which opens such calls. Of a table that a text gives over such rules no more is asked
+/// than of these calls.
 pub fn table_law()
     ensures rules { RulesNarrow }
     ensures read { ReadTablesNarrow }

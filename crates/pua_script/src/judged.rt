@@ -14,7 +14,8 @@ ghost use Rattle.pua_policy.specs.States.{may_any};
 ghost use Rattle.pua_policy.specs.Verdict.{place_of};
 ghost use Rattle.pua_script.specs.Decide.{Requester, Decision, asker_of, change_by, cutting};
 ghost use Rattle.pua_script.specs.Decide.{decide_object, decide_unveil, decide_veil, if_may};
-ghost use Rattle.pua_script.specs.Decide.{if_named, path_named, placing, unless_fault, veiling};
+ghost use Rattle.pua_script.specs.Decide.{if_named, NoChange, past_promises, path_named, placing};
+ghost use Rattle.pua_script.specs.Decide.{unless_fault, veiling};
 ghost use Rattle.pua_script.specs.Judged.{NameFits, decision_for, decision_by, edit_by, is_edit};
 ghost use Rattle.pua_script.specs.Judged.{node_made, on_judged};
 
@@ -23,7 +24,7 @@ use crate::granted::{Granted, NewNode};
 use pua_calls::needs::ending;
 use pua_calls::{Call, CallTable, Effect, Perms, Promises};
 use pua_path::{Counted, Ending, Errno, Found, Last, LentFound, PathText, Probe, resolve_lent};
-use pua_policy::judge::{object_verdict_lent, promised, promised_for};
+use pua_policy::judge::{misfit, object_verdict_lent, promised, promised_for};
 use pua_policy::{Process, Refusal};
 use pua_tree::{FileTree, Kind, Name, NodeId};
 
@@ -107,6 +108,27 @@ pub(crate) fn judge_object<'t, T: FileTree>(
     match object_verdict_lent(&mut probe, process, table, call, &lent) {
         Ok(()) => Ok(lent),
         Err(errno) => Err(errno),
+    }
+}
+
+/// Whether what a path names is of a kind that the call is for, the veils aside.
+pub(crate) fn judge_fit<T: FileTree>(
+    tree: &T,
+    table: &CallTable,
+    process: &Process,
+    call: Call,
+    path: &[u8],
+) -> Result<(), Errno>
+    ensures { decide_object table.now (T.content tree.now)
+        (past_promises false (asker_of process.now)) call path.now (λ object. Ok NoChange)
+        ≡ if_named result (λ one. Ok NoChange) }
+{
+    let mut probe = Counted::new(tree);
+    let (dir, last) = (process.dir(), call.last());
+    let found = named(&mut probe, table, dir, path, ending(call), last)?;
+    match misfit(&mut probe, table.rules(), call, &found) {
+        Some(wrong) => Err(wrong.errno()),
+        None => Ok(()),
     }
 }
 

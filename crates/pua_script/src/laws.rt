@@ -3,8 +3,8 @@
 
 ghost use Rattle.std.specs.Prelude.{◌≡◌};
 ghost use Rattle.pua_script.specs.Examples.{ExecRows, LinkRows, PairRows, RenameRows, ReplayRows};
-ghost use Rattle.pua_script.specs.Examples.{ScriptRows, SocketRows, UsesRows};
-ghost use Rattle.pua_script.specs.Guards.{DecisionsAreGuarded};
+ghost use Rattle.pua_script.specs.Examples.{CommentRows, OpeningRows, ScriptRows, SocketRows, UsesRows};
+ghost use Rattle.pua_script.specs.Guards.{ChangesAreGranted, DecisionsAreGuarded};
 ghost use Rattle.pua_script.specs.Limits.{most_script_lines, most_number, most_processes};
 ghost use Rattle.pua_script.specs.Laws.{ChangesLackRoom, DecisionsArePossible, RefusalsLackNoRoom};
 ghost use Rattle.pua_script.specs.Laws.{ReplayComposes, RequestsLackRoom};
@@ -27,7 +27,8 @@ pub fn script_examples()
 {}
 
 /// Examples of scripts and their answers, of what a rename and a link check first, of these and of
-/// an exec by OpenBSD's rules, and of an exec by which a locked process reaches more.
+/// an exec by OpenBSD's rules, of what promises open by these, and of an exec by which a locked
+/// process reaches more.
 pub fn replay_examples()
     ensures replays { ReplayRows }
     ensures renames { RenameRows }
@@ -35,6 +36,8 @@ pub fn replay_examples()
     ensures pairs { PairRows }
     ensures sockets { SocketRows }
     ensures uses { UsesRows }
+    ensures comments { CommentRows }
+    ensures openings { OpeningRows }
     ensures execs { ExecRows }
 {}
 
@@ -44,9 +47,12 @@ pub fn replay_law()
 {}
 
 /// A request that is granted passed the checks of its kind: the promises, what its paths name, what
-/// the veils leave of it, and its kind. So what is to change says what was checked.
+/// the veils leave of it, and its kind. So what is to change says what was checked. What a promise
+/// opens was asked for none; but whatever it changes passes the checks of the table by which lists
+/// for ever go.
 pub fn decide_law()
-    ensures { DecisionsAreGuarded }
+    ensures guarded { DecisionsAreGuarded }
+    ensures granted { ChangesAreGranted }
 {}
 
 /// A replay, which keeps what is left of histories, answers as the one that keeps the histories

@@ -4,6 +4,8 @@
 mod act;
 mod answer;
 mod any_of;
+mod canonical;
+mod comment;
 mod fault;
 mod fork;
 mod front;
@@ -14,6 +16,7 @@ mod laws;
 mod limits;
 mod line;
 mod link;
+mod opening;
 mod origin;
 mod pair;
 mod process;
@@ -23,18 +26,21 @@ mod script;
 mod world;
 
 pub use answer::Answer;
-pub use any_of::AnyOf;
+pub use any_of::{AnyOf, asks_promises, further_set};
+pub use comment::{is_blank, text_in};
 pub use fault::{ScriptFault, WorldFault};
 pub use front::before_long;
 pub use futures::{
-    bytes_law, confined_law, error_table_examples, families_law, others_law, steps_law, table_law,
+    bytes_law, confined_law, error_table_examples, families_law, openings_law, others_law,
+    steps_law, table_law,
 };
 pub use laws::{
     decide_law, limits_law, pasts_law, replay_examples, replay_law, room_law, script_examples,
     script_law,
 };
 pub use limits::{MOST_NUMBER, MOST_PROCESSES, MOST_SCRIPT_LINES};
-pub use line::{read_request, read_request_by};
+pub use line::{has_empty_word, is_dash, is_equals, read_request, read_request_by};
+pub use opening::{Opening, opening_of, openings};
 pub use rename::asks_directory;
 pub use request::{Action, Given, PathBytes, Request};
 pub use script::{Script, read_script, read_script_by};

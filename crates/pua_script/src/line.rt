@@ -7,12 +7,14 @@ ghost use Rattle.pua_script.specs.Scripts.{IsReadAs};
 ghost use Rattle.pua_script.specs.Scripts.{is_dash, is_equals, has_empty_word, path_in};
 ghost use Rattle.pua_script.specs.Scripts.{given_in, perms_in, unveil_of, with_paths, action_in};
 ghost use Rattle.pua_script.specs.Scripts.{action_of, request_by, request_of, request_of_fields};
+ghost use Rattle.pua_script.specs.Scripts.{request_of_text};
 ghost use Rattle.pua_script.specs.Scripts.Form.{PledgeForm};
 ghost use Rattle.pua_script.specs.declared.request.Action.TheVariants.{Symlink, Rename, Link};
 ghost use Rattle.pua_script.specs.declared.fault.ScriptFault.TheVariants.{BadCall, BadList};
 ghost use Rattle.pua_script.specs.declared.fault.ScriptFault.TheVariants.{BadPath};
 
 use crate::any_of::{asks_promises, read_any_of};
+use crate::comment::{is_blank, text_in};
 use crate::fault::ScriptFault;
 use crate::limits::MOST_NUMBER;
 use crate::origin::Origin;
@@ -43,7 +45,7 @@ pub fn read_request_by(
     Ok(requests.pop().unwrap())
 }
 
-/// Adds what the line of this number asks for.
+/// Adds what the line of this number asks for, by OpenBSD's rules a comment where it says nothing.
 pub(crate) fn add_request(
     alloc: Global,
     rules: Rules,
@@ -54,7 +56,25 @@ pub(crate) fn add_request(
     ensures { IsRequestAdded (request_by rules number line.now)
         requests.old.items requests.new.items result }
 {
-    let Some(fields) = Fields::read(line) else {
+    let text = text_in(rules, line);
+    if is_blank(rules, text) {
+        return Request::add_comment(requests);
+    }
+    read_text(alloc, rules, requests, number, text)
+}
+
+/// Adds the request of a line's text.
+fn read_text(
+    alloc: Global,
+    rules: Rules,
+    requests: &mut Vec<Request>,
+    number: u32,
+    text: &[u8],
+) -> Result<(), ScriptFault>
+    ensures { IsRequestAdded (request_of_text rules number text.now)
+        requests.old.items requests.new.items result }
+{
+    let Some(fields) = Fields::read(text) else {
         return Err(ScriptFault::BadLine(number));
     };
     read_fields(alloc, rules, requests, number, fields.as_slice())
@@ -250,15 +270,15 @@ fn read_unveil(
     ensures { IsActionAdded (unveil_of origin.line path.now perms.now) origin.process
         requests.old.items requests.new.items result }
 {
-    if is_null(path) {
-        return if is_null(perms) {
+    if is_dash(path) {
+        return if is_dash(perms) {
             Request::add(requests, origin, Action::Lock)
         } else {
             Err(ScriptFault::BadList(origin.line))
         };
     }
     let path = read_path(alloc, origin.line, path)?;
-    if is_null(perms) {
+    if is_dash(perms) {
         return Err(ScriptFault::BadList(origin.line));
     }
     Request::add(requests, origin, Action::Unveil(path, read_perms(perms)))
@@ -270,7 +290,7 @@ fn read_unveil(
 fn read_path(alloc: Global, number: u32, field: &[u8]) -> Result<PathBytes, ScriptFault>
     ensures { IsReadAs (ok_or (path_in field.now) (BadPath number)) result }
 {
-    if is_empty_text(field) {
+    if is_equals(field) {
         return Ok(PathBytes::new(Vec::new(alloc)));
     }
     if are_plain(field) {
@@ -287,9 +307,9 @@ fn read_path(alloc: Global, number: u32, field: &[u8]) -> Result<PathBytes, Scri
 fn read_given(number: u32, field: &[u8]) -> Result<Given, ScriptFault>
     ensures { result ≡ ok_or (given_in field.now) (BadList number) }
 {
-    if is_null(field) {
+    if is_dash(field) {
         Ok(Given::Null)
-    } else if is_empty_text(field) {
+    } else if is_equals(field) {
         Ok(Given::Good(Promises::NONE))
     } else if has_empty_word(field) {
         Err(ScriptFault::BadList(number))
@@ -305,7 +325,7 @@ fn read_given(number: u32, field: &[u8]) -> Result<Given, ScriptFault>
 fn read_perms(field: &[u8]) -> Option<Perms>
     ensures { result ≡ perms_in field.now }
 {
-    if is_empty_text(field) {
+    if is_equals(field) {
         Some(Perms::NONE)
     } else {
         Perms::read(field).ok()
@@ -313,7 +333,7 @@ fn read_perms(field: &[u8]) -> Option<Perms>
 }
 
 /// Whether a list of keywords has an empty word: a comma stands first, last, or after another.
-fn has_empty_word(field: &[u8]) -> bool
+pub fn has_empty_word(field: &[u8]) -> bool
     ensures { result ≡ has_empty_word field.now }
 {
     field
@@ -327,13 +347,15 @@ fn is_fork(word: &[u8]) -> bool
     matches!(word, b"fork")
 }
 
-fn is_null(field: &[u8]) -> bool
+/// Whether a field is `-`, which is NULL.
+pub fn is_dash(field: &[u8]) -> bool
     ensures { result ≡ is_dash field.now }
 {
     matches!(field, [b'-'])
 }
 
-fn is_empty_text(field: &[u8]) -> bool
+/// Whether a field is `=`, which is the empty text.
+pub fn is_equals(field: &[u8]) -> bool
     ensures { result ≡ is_equals field.now }
 {
     matches!(field, [b'='])

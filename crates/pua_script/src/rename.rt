@@ -39,7 +39,8 @@ pub fn asks_directory(rules: Rules, old: &[u8], new: &[u8]) -> bool
     }
 }
 
-fn ends_in_slash(text: &[u8]) -> bool
+/// Whether a text ends in a slash.
+pub(crate) fn ends_in_slash(text: &[u8]) -> bool
     ensures { result ≡ ends_in_slash text.now }
 {
     match text.split_last() {

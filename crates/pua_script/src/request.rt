@@ -59,10 +59,13 @@ pub enum Action {
     Exit,
     /// A call without a path that asks for one of these promises.
     Uses(AnyOf),
+    /// Nothing: a line that is blank or has no more than a comment.
+    Comment,
 }
 
 /// A process's number, and what it asks for. `read_script` alone makes one, so its paths and its
-/// target hold no NUL, its numbers lie from 1 to 999,999, and a symlink has its own action.
+/// target hold no NUL, its numbers lie from 1 to 999,999, and a symlink has its own action. A line
+/// without a request is one of process 0, which there never is, with `Action::Comment`.
 #[derive(Drop)]
 pub struct Request {
     process: u32,
@@ -109,11 +112,11 @@ impl PathBytes {
 }
 
 impl Request {
-    ghost use Rattle.pua_script.specs.Requests.{Asked, is_asked, is_askable};
+    ghost use Rattle.pua_script.specs.Requests.{Asked, comment, is_asked, is_askable, says_nothing};
     ghost use Rattle.pua_script.specs.Regiven.{with_lists, with_perms};
-    ghost use Rattle.pua_script.specs.Added.{IsActionAdded};
+    ghost use Rattle.pua_script.specs.Added.{IsActionAdded, IsRequestAdded};
 
-    /// The number of the process that asks.
+    /// The number of the process that asks, 0 for a line on which none does.
     pub fn process(&self) -> u32
         ensures process { result ≡ self.now.process }
         ensures asked { IsTrue (is_asked self.now) }
@@ -127,6 +130,13 @@ impl Request {
         ensures asked { IsTrue (is_asked self.now) }
     {
         &self.action
+    }
+
+    /// Whether nobody asks on its line, which is blank or a comment.
+    pub fn says_nothing(&self) -> bool
+        ensures { result ≡ says_nothing self.now.action }
+    {
+        matches!(self.action, Action::Comment)
     }
 
     /// Gives a pledge these arguments in the place of its own. Any other request stays as it is.
@@ -162,6 +172,20 @@ impl Request {
         let request = Request {
             process: origin.process,
             action,
+        };
+        let Ok(()) = requests.push(request) else {
+            return Err(ScriptFault::OutOfMemory);
+        };
+        Ok(())
+    }
+
+    /// Adds a line on which nobody asks for anything. `OutOfMemory` is its only error.
+    pub(crate) fn add_comment(requests: &mut Vec<Request>) -> Result<(), ScriptFault>
+        ensures { IsRequestAdded (Ok comment) requests.old.items requests.new.items result }
+    {
+        let request = Request {
+            process: 0,
+            action: Action::Comment,
         };
         let Ok(()) = requests.push(request) else {
             return Err(ScriptFault::OutOfMemory);

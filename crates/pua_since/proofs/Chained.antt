@@ -5,7 +5,6 @@ use Rattle.pua_since.proofs.Common.{answer_words}
 use Rattle.std.proofs.lemmas.Grind.{flat_map-append}
 use Rattle.std.proofs.lemmas.List.{append-nil}
 use Rattle.pua_why.specs.Texts.{answer_why, chain, fact_dated, fact_text, veil_since}
-use Rattle.pua_calls.specs.declared.rules.Rules.{Rules}
 use Rattle.pua_since.specs.Dates.{AreDatesOf}
 use Rattle.pua_since.specs.declared.chain.Dates.{Dates}
 
@@ -19,24 +18,24 @@ mapped t line_of [] = refl
 mapped t line_of (fact ∷ facts) = ap (λ more. fact_dated t (line_of fact) fact ∷ more) (mapped t line_of facts)
 
 -- what is told of each fact, and of the answer behind them
-pub chained : (rules : Rules) (table : CallTable) (w : World) (asks : List Asked) (ask : Asked) (facts : List Fact) (dates : Dates) (t : Tree)
+pub chained : (table : CallTable) (w : World) (asks : List Asked) (ask : Asked) (facts : List Fact) (dates : Dates) (t : Tree)
     (text : List ℕ) →
     t ≡ (world_after table w asks).tree → facts ≡ facts_of table (world_after table w asks) ask → AreDatesOf table w asks ask facts dates →
     text ≡ flat_map with_end (dated_lines t facts dates.facts.items) →
     text ++ with_end (answer_words table (world_after table w asks) ask
-    ++ reason_tail rules table (world_after table w asks) ask (date_of (reason table (world_after table w asks) ask) dates.answer)) ≡ flat_map with_end (chain rules table w asks ask)
-chained rules table w asks ask facts dates t text same are dated told =
+    ++ reason_tail table (world_after table w asks) ask (date_of (reason table (world_after table w asks) ask) dates.answer)) ≡ flat_map with_end (chain table w asks ask)
+chained table w asks ask facts dates t text same are dated told =
     ap (λ front. front ++ with_end (answer_words table (world_after table w asks) ask
-    ++ reason_tail rules table (world_after table w asks) ask (date_of (reason table (world_after table w asks) ask) dates.answer)))
+    ++ reason_tail table (world_after table w asks) ask (date_of (reason table (world_after table w asks) ask) dates.answer)))
     (told ∙ ap (λ lines. flat_map with_end (dated_lines t facts lines)) dated.veils ∙
     ap (flat_map with_end) (mapped t (veil_since table w asks ask) facts)
     ∙ (λ i. flat_map with_end (map (λ fact. fact_dated (same i) (veil_since table w asks ask fact) fact) (are i))))
     ∙ ap (λ date. flat_map with_end (map (fact_text table w asks ask) (facts_of table (world_after table w asks) ask))
-    ++ with_end (answer_words table (world_after table w asks) ask ++ reason_tail rules table (world_after table w asks) ask date)) dated.answer
+    ++ with_end (answer_words table (world_after table w asks) ask ++ reason_tail table (world_after table w asks) ask date)) dated.answer
     ∙ ap (λ last. flat_map with_end (map (fact_text table w asks ask) (facts_of table (world_after table w asks) ask)) ++ last)
-    (sym (append-nil (with_end (answer_why rules table w asks ask))))
+    (sym (append-nil (with_end (answer_why table w asks ask))))
     ∙ sym (flat_map-append with_end (map (fact_text table w asks ask) (facts_of table (world_after table w asks) ask))
-    (answer_why rules table w asks ask ∷ []))
+    (answer_why table w asks ask ∷ []))
 
 -- a further line
 pub one_line : (t : Tree) (fact : Fact) (line : Option ℕ) (facts : List Fact) (lines : List (Option ℕ)) (all text told new : List ℕ) →

@@ -15,7 +15,8 @@ use Rattle.pua_script.specs.Limits.{most_number}
 use Rattle.pua_script.specs.Scripts.{Form, PathForm, SymlinkForm, RenameForm, LinkForm, PledgeForm, UnveilForm, ForkForm, ExitForm}
 use Rattle.pua_script.specs.Scripts.{UsesForm, further_set, sets_of}
 use Rattle.pua_script.specs.Scripts.{action_of, form_in, given_in, is_dash, path_in, perms_in, request_by, request_of_fields, unveil_of}
-use Rattle.pua_script.specs.Scripts.{with_paths}
+use Rattle.pua_script.specs.Requests.{comment}
+use Rattle.pua_script.specs.Scripts.{with_paths, is_blank, text_in, request_of_text}
 use Rattle.pua_script.specs.declared.fault.ScriptFault.{ScriptFault}
 use Rattle.pua_script.specs.declared.fault.ScriptFault.TheVariants.{BadLine, BadCall, BadPath, BadList}
 use Rattle.pua_since.specs.Dates.{AreKnown, IsLineKnown}
@@ -86,13 +87,21 @@ module _ (rules : Rules) (n m : ℕ) where
       same_then _ _ _ _ (same_found (number_within 1 most_number process) (BadLine n) (BadLine m)) λ number.
       same_then _ _ _ _ (same_then _ _ _ _ (same_found (form_in rules more) (BadCall n) (BadCall m)) same_action) λ action. refl
 
-  same_request : (text : List ℕ) → SameOk (request_by rules n text) (request_by rules m text)
-  same_request text = by (list_all is_field (fields text))
+  same_text : (text : List ℕ) → SameOk (request_of_text rules n text) (request_of_text rules m text)
+  same_text text = by (list_all is_field (fields text))
     where
       by : (good : Bool) → SameOk (if good then request_of_fields rules n (fields text) else Err (BadLine n))
           (if good then request_of_fields rules m (fields text) else Err (BadLine m))
       by true = same_fields (fields text)
       by false = refl
+
+  same_request : (line : List ℕ) → SameOk (request_by rules n line) (request_by rules m line)
+  same_request line = by (is_blank rules (text_in rules line))
+    where
+      by : (none : Bool) → SameOk (if none then Ok comment else request_of_text rules n (text_in rules line))
+          (if none then Ok comment else request_of_text rules m (text_in rules line))
+      by true = refl
+      by false = same_text (text_in rules line)
 
 -- a line asks the same wherever it stands
 pub asks_same : (rules : Rules) (n m : ℕ) (text : List ℕ) (a b : Asked) → request_by rules n text ≡ Ok a → request_by rules m text ≡ Ok b → a ≡ b

@@ -5,9 +5,9 @@ use Rattle.pua_since.proofs.Common.{WorldState, apply_to, state_after_all, world
 use Rattle.pua_since.proofs.Common.{reason_tail, answer_words, ArePlacesOf, AreWatched, IsKeptThrough, Watch, Watches, one_request_more}
 use Rattle.std.proofs.Common.{add-one}
 use Rattle.std.specs.Prelude.{decimal}
-use Rattle.pua_calls.specs.declared.rules.Rules.{Rules}
 use Rattle.std.proofs.lemmas.List.{length_push}
-use Rattle.pua_why.specs.Texts.{answer_why, why_lines}
+use Rattle.pua_why.specs.Texts.{answer_why, line_said, why_lines}
+use Rattle.std.proofs.lemmas.Grind.{flat_map-append}
 use Rattle.pua_since.specs.Dates.{question_line, places_left}
 use Rattle.pua_since.proofs.Answered.{okay_is_granted}
 use Rattle.pua_since.proofs.Keeping.{kept_all, kept_twice}
@@ -45,7 +45,7 @@ next_places watches n ask more Killed told (place ∷ places) at = at.1
 next_places watches n ask more Gone told (place ∷ places) at = at.1
 
 -- some requests were served and told of, and others are still to be
-pub record IsTold (rules : Rules) (before : WorldState) (kept_before : Watches) (requests : List Asked) (told : List Answer) (places : List ℕ)
+pub record IsTold (before : WorldState) (kept_before : Watches) (requests : List Asked) (told : List Answer) (places : List ℕ)
     (now : WorldState) (kept_now : Watches) (left : List Asked) (told_left : List Answer) (left_places : List ℕ) (n : ℕ) (text : List ℕ) :
     Type 0 where
   pub past : List Asked
@@ -59,16 +59,16 @@ pub record IsTold (rules : Rules) (before : WorldState) (kept_before : Watches) 
       AreWatched before.table (world_of before) [] requests kept_before → AreWatched before.table (world_of before) past left kept_now
   pub lines : told ≡ answers_to before.table (world_of before) requests →
       AreWatched before.table (world_of before) [] requests kept_before → ArePlacesOf kept_before.watches.items 0 requests told places
-      → (flat_map with_end (why_lines rules before.table (world_of before) [] 1 requests) ≡ text
-      ++ flat_map with_end (why_lines rules before.table (world_of before) past (suc n) left)) × ArePlacesOf kept_now.watches.items n left
+      → (flat_map with_end (why_lines before.table (world_of before) [] 1 requests) ≡ text
+      ++ flat_map with_end (why_lines before.table (world_of before) past (suc n) left)) × ArePlacesOf kept_now.watches.items n left
       told_left left_places
 
 -- none yet
-pub none_told : (rules : Rules) (before : WorldState) (kept_before : Watches) (requests : List Asked) (told : List Answer) (places : List ℕ)
+pub none_told : (before : WorldState) (kept_before : Watches) (requests : List Asked) (told : List Answer) (places : List ℕ)
     (left : List Asked) (told_left : List Answer) (left_places : List ℕ) (n : ℕ) (text : List ℕ)
     → left ≡ requests → told_left ≡ told → left_places ≡ places → n ≡ 0 → text ≡ [] →
-    IsTold rules before kept_before requests told places before kept_before left told_left left_places n text
-none_told rules before kept_before requests told places left told_left left_places n text same same_told same_places count empty = record {
+    IsTold before kept_before requests told places before kept_before left told_left left_places n text
+none_told before kept_before requests told places left told_left left_places n text same same_told same_places count empty = record {
   past = [];
   split = sym same;
   count = count;
@@ -77,33 +77,33 @@ none_told rules before kept_before requests told places left told_left left_plac
   answers = λ answered. same_told ∙ answered ∙ ap (answers_to before.table (world_of before)) (sym same);
   watched = λ answered are. subst (λ asks. AreWatched before.table (world_of before) [] asks kept_before) (sym same) are;
   lines = λ answered are at. (
-    sym (λ i. empty i ++ flat_map with_end (why_lines rules before.table (world_of before) [] (suc (count i)) (same i))),
+    sym (λ i. empty i ++ flat_map with_end (why_lines before.table (world_of before) [] (suc (count i)) (same i))),
     subst (λ (X : Type 0). X) (λ i. ArePlacesOf kept_before.watches.items (sym count i) (sym same i) (sym same_told i) (sym same_places i))
         at,
   );
 }
 
 -- the line of a request, behind a text
-abbrev Tells : Rules → WorldState → Asked → Answer → Option ℕ → ℕ → List ℕ → List ℕ → Type 0
-Tells rules s ask answer line number text more = answer ≡ (apply_to s ask).0 →
-    more ≡ text ++ with_end (decimal number ++ 32 ∷ (answer_words s.table (world_of s) ask
-    ++ reason_tail rules s.table (world_of s) ask (date_of (reason s.table (world_of s) ask) line)))
+abbrev Tells : WorldState → Asked → Answer → Option ℕ → ℕ → List ℕ → List ℕ → Type 0
+Tells s ask answer line number text more = answer ≡ (apply_to s ask).0 →
+    more ≡ text ++ flat_map with_end (line_said ask (decimal number ++ 32 ∷ (answer_words s.table (world_of s) ask
+    ++ reason_tail s.table (world_of s) ask (date_of (reason s.table (world_of s) ask) line))))
 
 -- what is told and done of one more
-pub record IsTurn (rules : Rules) (now : WorldState) (kept_now : Watches) (next : WorldState) (kept_next : Watches) (ask : Asked) (answer : Answer)
+pub record IsTurn (now : WorldState) (kept_now : Watches) (next : WorldState) (kept_next : Watches) (ask : Asked) (answer : Answer)
     (line : Option ℕ) (number : ℕ) (text more : List ℕ) : Type 0 where
   pub kept : IsKeptThrough kept_now.watches.items kept_next.watches.items
   pub world : next ≡ (apply_to now ask).1
   pub watched : (s : WorldState) (done left : List Asked) → now ≡ state_after_all s done → answer ≡ (apply_to (state_after_all s done) ask).0 →
       number ≡ length done + 1 → AreWatched s.table (world_of s) done (ask ∷ left) kept_now →
       AreWatched s.table (world_of s) (done ++ ask ∷ []) left kept_next
-  pub told : Tells rules now ask answer line number text more
+  pub told : Tells now ask answer line number text more
 
-module _ (rules : Rules) (before : WorldState) (kept_before : Watches) (requests : List Asked) (told : List Answer) (places : List ℕ) (now : WorldState)
+module _ (before : WorldState) (kept_before : Watches) (requests : List Asked) (told : List Answer) (places : List ℕ) (now : WorldState)
     (kept_now : Watches) (n : ℕ) (text : List ℕ)
     (ask : Asked) (more : List Asked) (answer : Answer) (told_more : List Answer) (left_places : List ℕ)
-    (so : IsTold rules before kept_before requests told places now kept_now (ask ∷ more) (answer ∷ told_more) left_places n text)
-    (next : WorldState) (kept_next : Watches) (more_text : List ℕ) (turn : IsTurn rules now kept_now next kept_next ask answer
+    (so : IsTold before kept_before requests told places now kept_now (ask ∷ more) (answer ∷ told_more) left_places n text)
+    (next : WorldState) (kept_next : Watches) (more_text : List ℕ) (turn : IsTurn now kept_now next kept_next ask answer
     (question_line kept_now.watches.items answer left_places) (n + 1) text more_text) where
   abbrev behind : List Asked
   behind = so.past ++ ask ∷ []
@@ -124,8 +124,8 @@ module _ (rules : Rules) (before : WorldState) (kept_before : Watches) (requests
         both ∙ ap (λ v. answers_to before.table v more) (sym (one_request_more before.table w so.past ask))
 
     turn_lines : AreWatched before.table w [] requests kept_before → ArePlacesOf kept_before.watches.items 0 requests told places
-        → (flat_map with_end (why_lines rules before.table w [] 1 requests) ≡ more_text
-        ++ flat_map with_end (why_lines rules before.table w behind (suc (n + 1)) more)) ×
+        → (flat_map with_end (why_lines before.table w [] 1 requests) ≡ more_text
+        ++ flat_map with_end (why_lines before.table w behind (suc (n + 1)) more)) ×
         ArePlacesOf kept_next.watches.items (n + 1) more told_more (places_left answer left_places)
     turn_lines are at =
         let lines = so.lines answered are at in
@@ -133,23 +133,27 @@ module _ (rules : Rules) (before : WorldState) (kept_before : Watches) (requests
         let dated = next_date before.table w so.past (ask ∷ more) kept_now (so.watched answered are) ask more answer told_more
         left_places first_answer
         (subst (λ k. ArePlacesOf kept_now.watches.items k (ask ∷ more) (answer ∷ told_more) left_places) so.count lines.1) in
-        let says : Tells rules (state_after_all before so.past) ask answer line (n + 1) text more_text =
-        subst (λ s. Tells rules s ask answer line (n + 1) text more_text) so.world turn.told in
-        let pushed : more_text ≡ text ++ with_end (decimal (n + 1) ++ 32 ∷ answer_why rules before.table w so.past ask) =
+        let says : Tells (state_after_all before so.past) ask answer line (n + 1) text more_text =
+        subst (λ s. Tells s ask answer line (n + 1) text more_text) so.world turn.told in
+        let said : ℕ → List ℕ = λ number. flat_map with_end (line_said ask (decimal number ++ 32 ∷ answer_why before.table w so.past ask)) in
+        let pushed : more_text ≡ text ++ said (n + 1) =
         says first_answer
-        ∙ ap (λ date. text ++ with_end (decimal (n + 1) ++ 32 ∷ (answer_words before.table reached ask ++ reason_tail rules before.table reached ask date))) dated in
-        let rest : List ℕ = flat_map with_end (why_lines rules before.table w behind (suc (suc n)) more) in (
+        ∙ ap (λ date. text ++ flat_map with_end (line_said ask (decimal (n + 1) ++ 32 ∷ (answer_words before.table reached ask
+        ++ reason_tail before.table reached ask date)))) dated in
+        let rest : List ℕ = flat_map with_end (why_lines before.table w behind (suc (suc n)) more) in (
           lines.0
-              ∙ sym (append_assoc text (with_end (decimal (suc n) ++ 32 ∷ answer_why rules before.table w so.past ask)) rest)
-              ∙ sym ((λ i. pushed i ++ flat_map with_end (why_lines rules before.table w behind (suc (n + 1)) more))
-              ∙ (λ i. (text ++ with_end (decimal (add-one n i) ++ 32 ∷ answer_why rules before.table w so.past ask))
-              ++ flat_map with_end (why_lines rules before.table w behind (suc (add-one n i)) more))),
+              ∙ ap (λ told. text ++ told) (flat_map-append with_end (line_said ask (decimal (suc n) ++ 32 ∷ answer_why before.table w so.past ask))
+              (why_lines before.table w behind (suc (suc n)) more))
+              ∙ sym (append_assoc text (said (suc n)) rest)
+              ∙ sym ((λ i. pushed i ++ flat_map with_end (why_lines before.table w behind (suc (n + 1)) more))
+              ∙ (λ i. (text ++ said (add-one n i))
+              ++ flat_map with_end (why_lines before.table w behind (suc (add-one n i)) more))),
           subst (λ k. ArePlacesOf kept_next.watches.items k more told_more (places_left answer left_places)) (sym (add-one n))
               (places_kept kept_now.watches.items kept_next.watches.items turn.kept (suc n) more told_more (places_left answer left_places)
               (next_places kept_now.watches.items n ask more answer told_more left_places lines.1)),
         )
 
-  one_more : IsTold rules before kept_before requests told places next kept_next more told_more (places_left answer left_places) (n + 1) more_text
+  one_more : IsTold before kept_before requests told places next kept_next more told_more (places_left answer left_places) (n + 1) more_text
   one_more = record {
     past = behind;
     split = so.split ∙ sym (append_assoc so.past (ask ∷ []) more);
@@ -163,37 +167,37 @@ module _ (rules : Rules) (before : WorldState) (kept_before : Watches) (requests
   }
 
 -- one more, by what its iteration finds
-pub turned : (rules : Rules) (before : WorldState) (kept_before : Watches) (requests : List Asked) (told : List Answer) (places : List ℕ) (now : WorldState)
+pub turned : (before : WorldState) (kept_before : Watches) (requests : List Asked) (told : List Answer) (places : List ℕ) (now : WorldState)
     (kept_now : Watches) (left : List Asked) (told_left : List Answer) (left_places : List ℕ) (n : ℕ) (text : List ℕ)
     (ask : Asked) (more : List Asked) (answer : Answer) (told_more : List Answer) (more_places : List ℕ) (m : ℕ) (line : Option ℕ)
     (next : WorldState) (kept_next : Watches) (more_text : List ℕ)
-    → IsTold rules before kept_before requests told places now kept_now left told_left left_places n text → left ≡ ask ∷ more →
+    → IsTold before kept_before requests told places now kept_now left told_left left_places n text → left ≡ ask ∷ more →
     told_left ≡ answer ∷ told_more → m ≡ n + 1 → line ≡ question_line kept_now.watches.items answer left_places →
     more_places ≡ places_left answer left_places
-    → IsTurn rules now kept_now next kept_next ask answer line (n + 1) text more_text →
-    IsTold rules before kept_before requests told places next kept_next more told_more more_places m more_text
-turned rules before kept_before requests told places now kept_now left told_left left_places n text ask more answer told_more more_places m line
+    → IsTurn now kept_now next kept_next ask answer line (n + 1) text more_text →
+    IsTold before kept_before requests told places next kept_next more told_more more_places m more_text
+turned before kept_before requests told places now kept_now left told_left left_places n text ask more answer told_more more_places m line
     next kept_next more_text so asked answered count by_line by_places turn =
-    subst (λ (X : Type 0). X) (λ i. IsTold rules before kept_before requests told places next kept_next more told_more (sym by_places i)
+    subst (λ (X : Type 0). X) (λ i. IsTold before kept_before requests told places next kept_next more told_more (sym by_places i)
     (sym count i) more_text)
-    (one_more rules before kept_before requests told places now kept_now n text ask more answer told_more left_places
-    (subst (λ (X : Type 0). X) (λ i. IsTold rules before kept_before requests told places now kept_now (asked i) (answered i) left_places n text)
+    (one_more before kept_before requests told places now kept_now n text ask more answer told_more left_places
+    (subst (λ (X : Type 0). X) (λ i. IsTold before kept_before requests told places now kept_now (asked i) (answered i) left_places n text)
     so) next kept_next more_text
-    (subst (λ l. IsTurn rules now kept_now next kept_next ask answer l (n + 1) text more_text) by_line turn))
+    (subst (λ l. IsTurn now kept_now next kept_next ask answer l (n + 1) text more_text) by_line turn))
 
 -- all were told of
-pub all_told : (rules : Rules) (before : WorldState) (kept_before : Watches) (requests : List Asked) (told : List Answer) (places : List ℕ)
+pub all_told : (before : WorldState) (kept_before : Watches) (requests : List Asked) (told : List Answer) (places : List ℕ)
     (now : WorldState) (kept_now : Watches) (left : List Asked) (told_left : List Answer) (left_places : List ℕ) (n : ℕ) (text : List ℕ)
-    → IsTold rules before kept_before requests told places now kept_now left told_left left_places n text → (left ≡ []) ⊎ (told_left ≡ []) →
+    → IsTold before kept_before requests told places now kept_now left told_left left_places n text → (left ≡ []) ⊎ (told_left ≡ []) →
     told ≡ answers_to before.table (world_of before) requests → left ≡ []
-all_told rules before kept_before requests told places now kept_now [] told_left left_places n text so empty answered = refl
-all_told rules before kept_before requests told places now kept_now (ask ∷ more) told_left left_places n text so (inl empty) answered =
+all_told before kept_before requests told places now kept_now [] told_left left_places n text so empty answered = refl
+all_told before kept_before requests told places now kept_now (ask ∷ more) told_left left_places n text so (inl empty) answered =
     cc
-all_told rules before kept_before requests told places now kept_now (ask ∷ more) told_left left_places n text so (inr empty) answered =
+all_told before kept_before requests told places now kept_now (ask ∷ more) told_left left_places n text so (inr empty) answered =
     let all = so.answers answered in cc
 
-pub past_all : (rules : Rules) (before : WorldState) (kept_before : Watches) (requests : List Asked) (told : List Answer) (places : List ℕ)
+pub past_all : (before : WorldState) (kept_before : Watches) (requests : List Asked) (told : List Answer) (places : List ℕ)
     (now : WorldState) (kept_now : Watches) (left : List Asked) (told_left : List Answer) (left_places : List ℕ) (n : ℕ) (text : List ℕ)
-    → (so : IsTold rules before kept_before requests told places now kept_now left told_left left_places n text) → left ≡ [] → so.past ≡ requests
-past_all rules before kept_before requests told places now kept_now left told_left left_places n text so none =
+    → (so : IsTold before kept_before requests told places now kept_now left told_left left_places n text) → left ≡ [] → so.past ≡ requests
+past_all before kept_before requests told places now kept_now left told_left left_places n text so none =
     sym (so.split ∙ ap (λ more. so.past ++ more) none ∙ append-nil so.past)

@@ -2,7 +2,7 @@
 use Rattle.pua_since.proofs.Common.{◌≡◌, ℕ, Bool, true, false, cond, length, Some, refl, sym, ap, subst, ◌∙◌}
 use Rattle.pua_since.proofs.Common.{is_some, false≢true, eqb-true, Found, CallTable, ProcessState, Refusal, Call, Asked, Change}
 use Rattle.pua_since.proofs.Common.{change_by, decide, World, Effect, Fails, Kills, Leaves, Copies, apply, kept_at, answer_to}
-use Rattle.pua_since.proofs.Common.{left_by, Answer, Okay, Action, OnPath, Symlink, Rename, Link, Pledge, Unveil, Lock, Fork, Exit, Uses}
+use Rattle.pua_since.proofs.Common.{left_by, Answer, Okay, Action, OnPath, Symlink, Rename, Link, Pledge, Unveil, Lock, Fork, Exit, Uses, Comment}
 use Rattle.pua_since.proofs.Common.{by_request, has_forked, TouchesOnly}
 use Rattle.std.proofs.Common.{eq-eqb}
 use Rattle.std.specs.Prelude.{nat_eq}
@@ -55,6 +55,7 @@ module _ (table : CallTable) (w : World) (process : ℕ) (h : ProcessState) (her
   by_action Lock c decided own = subst (λ d. IsOwn w (change_effect w h d)) (sym decided.1) refl
   by_action Exit c decided own = subst (λ d. IsOwn w (change_effect w h d)) (sym decided) refl
   by_action (Uses sets) c decided own = subst (λ d. IsOwn w (change_effect w h d)) (sym decided.1) refl
+  by_action Comment c decided own = subst (λ d. IsOwn w (change_effect w h d)) (sym decided) refl
   by_action _ c decided own = absurd (false≢true own)
 
   -- by what an effect is answered

@@ -2,7 +2,7 @@
 use Rattle.pua_since.proofs.Common.{◌≡◌, ℕ, Bool, true, false, List, [], ◌∷◌, ◌++◌, length, map, refl, sym, ap, subst, ◌∙◌, Option, Some}
 use Rattle.pua_since.proofs.Common.{None, Result, Ok, Err, if◌then◌else◌, option_map_or, Tree, Spot, Ending, Found, PathFault, PathTrace}
 use Rattle.pua_since.proofs.Common.{trace_of_text, CallTable, ProcessState, perms_kept, working_dir, Call, Asked, World, kept_at, world_after}
-use Rattle.pua_since.proofs.Common.{Action, OnPath, Symlink, Rename, Link, Pledge, Unveil, Lock, Fork, Exit, Uses, Fact, facts_of}
+use Rattle.pua_since.proofs.Common.{Action, OnPath, Symlink, Rename, Link, Pledge, Unveil, Lock, Fork, Exit, Uses, Comment, Fact, facts_of}
 use Rattle.pua_since.proofs.Common.{Fault}
 use Rattle.pua_since.proofs.Common.{AreFactsAt, IsFactAt, fact_line, veil_told, AreWatched, kept_in, Watches}
 use Rattle.std.specs.Prelude.{⊤}
@@ -19,8 +19,9 @@ use Rattle.pua_policy.specs.declared.reason.Covering.{Covering}
 use Rattle.pua_policy.specs.declared.reason.Covering.TheVariants.{InView, NoneOver, By}
 use Rattle.pua_policy.proofs.ForCallers.{coverings_hold}
 use Rattle.pua_script.specs.Decide.{Side, Sole, Old, New}
-use Rattle.pua_why.specs.Facts.{Needs, Follows, Names, Under, needing, facts_promised, facts_found, facts_named, facts_covered}
-use Rattle.pua_why.specs.Facts.{facts_under, call_trace, call_facts, name_trace, names_facts, pair_facts, facts}
+use Rattle.pua_why.specs.Facts.{Opened, Needs, Follows, Names, Under, needing, facts_promised, facts_found, facts_named, facts_covered}
+use Rattle.pua_why.specs.Facts.{facts_under, call_trace, call_facts, name_trace, names_facts, pair_facts, facts, facts_asked, facts_by}
+use Rattle.pua_script.specs.Openings.{Opening, opening_of}
 use Rattle.pua_why.specs.Reasons.{uncovered_fault}
 use Rattle.pua_why.specs.Texts.{veil_since}
 use Rattle.pua_since.specs.Dates.{letters_date}
@@ -49,6 +50,7 @@ cover_kept t h object = by (covering t h object) (coverings_hold t h object).1
 module _ (h : ProcessState) where
   needing_kept : (set : ℕ) (more : List Fact) → AreKept h more → AreKept h (needing set more)
   needing_kept set [] are = (tt, tt)
+  needing_kept set (Opened promise ∷ more) are = (tt, are)
   needing_kept set (Needs other ∷ more) are = (tt, are.1)
   needing_kept set (Follows side spot ∷ more) are = (tt, are)
   needing_kept set (Names side object ∷ more) are = (tt, are)
@@ -89,6 +91,19 @@ module _ (h : ProcessState) where
       (named_kept Sole (call_trace t h call path) (λ object. facts_under Sole t h object (rule_of table call).perms []) λ object. under_kept
       Sole t object (rule_of table call).perms [] tt)
 
+  -- a call that a promise may open
+  under_if : (asks_veils : Bool) (t : Tree) (object : Found) (perms : ℕ) → AreKept h (facts_asked asks_veils (facts_under Sole t h object perms []))
+  under_if true t object perms = under_kept Sole t object perms [] tt
+  under_if false t object perms = tt
+
+  asked_kept : (table : CallTable) (t : Tree) (call : Call) (path : List ℕ) (o : Option Opening) → AreKept h (facts_by table t h call path o)
+  asked_kept table t call path None = call_kept table t call path
+  asked_kept table t call path (Some o) = (
+    tt,
+    named_kept Sole (call_trace t h call path) (λ object. facts_asked o.asks_veils (facts_under Sole t h
+        object (rule_of table call).perms [])) λ object. under_if o.asks_veils t object (rule_of table call).perms,
+  )
+
   pair_kept : (pair : PairRule) (t : Tree) (ending : Ending) (old_path new_path : List ℕ) →
       AreKept h (pair_facts pair t h ending old_path new_path)
   pair_kept pair t ending old_path new_path =
@@ -106,7 +121,7 @@ module _ (h : ProcessState) where
   unveil_kept t path false = named_kept Sole (trace_of_text t (working_dir h) ending.Dot path Followed) (λ object. []) (λ object. tt)
 
   facts_kept : (table : CallTable) (t : Tree) (action : Action) → AreKept h (facts table t h action)
-  facts_kept table t (OnPath call path) = call_kept table t call path
+  facts_kept table t (OnPath call path) = asked_kept table t call path (opening_of table h call path)
   facts_kept table t (Symlink target path) = call_kept table t call.Symlink path
   facts_kept table t (Rename old new) = pair_kept table.rename t ending.Dropped old new
   facts_kept table t (Link old new) = pair_kept table.link t ending.Dot old new
@@ -116,11 +131,14 @@ module _ (h : ProcessState) where
   facts_kept table t (Fork new) = promised_kept (promising h (proc ∷ [])) [] tt
   facts_kept table t Exit = tt
   facts_kept table t (Uses sets) = promised_kept (promising h sets) [] tt
+  facts_kept table t Comment = tt
 
 module _ (table : CallTable) (w : World) (done : List Asked) (s : Watches) (watched : AreWatched table w done [] s) (ask : Asked)
     (h : ProcessState) (made : kept_at (world_after table w done) ask.process ≡ Some h) where
   fact_at : (fact : Fact) (place : Option ℕ) → FactKept h fact → IsFactAt s.watches.items ask.process (length done) (veil_told fact) place →
       fact_line s.watches.items place ≡ veil_since table w done ask fact
+  fact_at (Opened promise) None holds at = refl
+  fact_at (Opened promise) (Some place) holds at = absurd at
   fact_at (Needs set) None holds at = refl
   fact_at (Needs set) (Some place) holds at = absurd at
   fact_at (Follows side spot) None holds at = refl

@@ -9,7 +9,7 @@ use Rattle.pua_script.specs.Worlds.{is_fork}
 use Rattle.pua_script.specs.declared.answer.Answer.{Answer}
 use Rattle.pua_script.specs.declared.answer.Answer.TheVariants.{Okay, Killed}
 use Rattle.pua_script.specs.declared.request.Action.{Action}
-use Rattle.pua_script.specs.declared.request.Action.TheVariants.{OnPath, Uses}
+use Rattle.pua_script.specs.declared.request.Action.TheVariants.{OnPath, Uses, Comment}
 
 -- what changes something where it is done
 abbrev pub does_change : Effect → Bool
@@ -22,6 +22,7 @@ call_changes call = does_change (effect_of call)
 abbrev pub action_changes : Action → Bool
 action_changes (OnPath call path) = call_changes call
 action_changes (Uses sets) = false
+action_changes Comment = false
 action_changes _ = true
 
 -- one that failed changed nothing

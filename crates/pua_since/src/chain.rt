@@ -15,24 +15,22 @@ ghost use Rattle.pua_since.specs.Dates.{AreDatesOf, AreFactsAt, IsFactAt, fact_l
 use crate::reason_line::push_answer;
 use crate::watch::Question;
 use crate::watches::Watches;
-use pua_calls::Rules;
 use pua_policy::{Covering, Place};
 use pua_script::{Answer, Request, World};
 use pua_tree::{FileTree, OutOfMemory};
 use pua_why::{Fact, TreePaths, facts, push_fact};
 use std::alloc::{AllocError, Global};
 
-/// What decides a request after a script: a line for the promises that let it through, for each
-/// link that its paths follow, for what they name and for the veil that covers that, in the order
-/// of the checks and as far as it passes them; and as the last line its answer, with the reason,
-/// since which line that is so, and what opens the path all the same, as
+/// What decides a request after a script: a line for the promises that let it through, or for the
+/// promise that opens it, for each link that its paths follow, for what they name and for the veil
+/// that covers that, in the order of the checks and as far as it passes them; and as the last line
+/// its answer, with the reason and since which line that is so, or with what opened it, as
 /// [`reason_text`](crate::reason_text) would tell it of the script's next line.
 ///
 /// The script's requests were answered so in a world as `before`, which serves them; `after` is the
 /// world that they left, and serves the request. The only error is that a growth was refused.
 pub fn chain_text<T: FileTree>(
     alloc: Global,
-    rules: Rules,
     before: &mut World<T>,
     after: &mut World<T>,
     requests: &[Request],
@@ -42,7 +40,7 @@ pub fn chain_text<T: FileTree>(
     ensures { IfOk result (λ text. answers.now ≡ (run_to before.old requests.now).0 →
         after.old ≡ state_after_all before.old requests.now →
         string_bytes text ≡ flat_map with_end
-        (chain rules before.old.table (world_of before.old) requests.now request.now)) }
+        (chain before.old.table (world_of before.old) requests.now request.now)) }
 {
     let passed = facts(alloc, after, request.process(), request.action())?;
     let passed = passed.as_slice();
@@ -50,7 +48,7 @@ pub fn chain_text<T: FileTree>(
     let Ok(answer) = after.apply(request) else {
         return Err(OutOfMemory);
     };
-    Ok(lines_of(alloc, rules, before, request, passed, answer, &dates)?)
+    Ok(lines_of(alloc, before, request, passed, answer, &dates)?)
 }
 
 /// Since which lines the parts of a chain hold; None where one held from the start.
@@ -178,7 +176,6 @@ fn veil_told(fact: &Fact) -> Option<&Place>
 /// A line for each fact of a request that is asked in a world, and one for its answer.
 fn lines_of<T: FileTree>(
     alloc: Global,
-    rules: Rules,
     world: &World<T>,
     request: &Request,
     passed: &[Fact],
@@ -191,7 +188,7 @@ fn lines_of<T: FileTree>(
         map fact_seen passed.now
         ≡ facts_of s.table (world_after s.table (world_of s) done) request.now →
         AreDatesOf s.table (world_of s) done request.now (map fact_seen passed.now) dates.now →
-        string_bytes text ≡ flat_map with_end (chain rules s.table (world_of s) done request.now)) }
+        string_bytes text ≡ flat_map with_end (chain s.table (world_of s) done request.now)) }
 {
     let mut text = String::new(alloc);
     let Ok(mut paths) = TreePaths::new(alloc, world.tree()) else {
@@ -205,7 +202,6 @@ fn lines_of<T: FileTree>(
     push_answer(
         alloc,
         &mut text,
-        rules,
         world,
         process,
         action,

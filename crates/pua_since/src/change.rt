@@ -33,7 +33,7 @@ fn action_changes(action: &Action) -> bool
 {
     match action {
         Action::OnPath(call, _) => call_changes(*call),
-        Action::Uses(_) => false,
+        Action::Uses(_) | Action::Comment => false,
         _ => true,
     }
 }

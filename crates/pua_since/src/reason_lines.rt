@@ -9,7 +9,7 @@ ghost use Rattle.pua_script.specs.Scripts.{request_by, script_by};
 ghost use Rattle.std.specs.Slice.Iter.{iter_rest};
 ghost use Rattle.pua_script.specs.Worlds.{apply_to, run_to, state_after_all, world_of};
 ghost use Rattle.pua_why.specs.Reasons.{reason};
-ghost use Rattle.pua_why.specs.Texts.{answer_words, date_of, reason_tail, why_lines};
+ghost use Rattle.pua_why.specs.Texts.{answer_words, date_of, line_said, reason_tail, why_lines};
 ghost use Rattle.pua_since.specs.Dates.{AreKnown, ArePlacesOf, IsRequestAt, question_line};
 ghost use Rattle.pua_since.specs.Dates.{places_left};
 ghost use Rattle.pua_since.specs.Watched.{AreWatched, IsKeptThrough};
@@ -20,7 +20,6 @@ use crate::watches::Watches;
 use bstr::ByteSlice;
 use indexmap::IndexMap;
 use itoa::Buffer;
-use pua_calls::Rules;
 use pua_script::{Answer, Request, World};
 use pua_tree::{FileTree, OutOfMemory};
 use std::alloc::{AllocError, Global};
@@ -96,13 +95,12 @@ fn place_of<'a, 'l, T: FileTree>(
     Ok(place)
 }
 
-/// A line for each request, with its number, what it is answered, and if that is not `ok`, why,
-/// since which line, and by which promise a kernel opens it all the same. The world is the one
-/// before them, and serves them; the questions of those that are not answered `ok` stand at these
-/// places.
+/// A line for each request, with the number of its line, what it is answered, and if that is not
+/// `ok`, why and since which line, and else by which promise it was opened, if one opened it. The
+/// world is the one before them, and serves them; the questions of those that are not answered `ok`
+/// stand at these places.
 pub(crate) fn lines_text<T: FileTree>(
     alloc: Global,
-    rules: Rules,
     world: &mut World<T>,
     requests: &[Request],
     answers: &[Answer],
@@ -113,7 +111,7 @@ pub(crate) fn lines_text<T: FileTree>(
         AreWatched world.old.table (world_of world.old) [] requests.now watches.old →
         ArePlacesOf watches.old.watches.items 0 requests.now answers.now places.now →
         string_bytes text ≡ flat_map with_end
-        (why_lines rules world.old.table (world_of world.old) [] 1 requests.now)) }
+        (why_lines world.old.table (world_of world.old) [] 1 requests.now)) }
     ensures watched { OnOk result (answers.now ≡ (run_to world.old requests.now).0 →
         AreWatched world.old.table (world_of world.old) [] requests.now watches.old →
         AreWatched world.old.table (world_of world.old) requests.now [] watches.new) }
@@ -127,9 +125,7 @@ pub(crate) fn lines_text<T: FileTree>(
     for (done, (request, answer)) in requests.iter().zip(answers).enumerate() {
         let line = next_line(watches, *answer, &mut left);
         let number = done + 1;
-        push_line(
-            alloc, &mut text, rules, number, world, request, *answer, line,
-        )?;
+        push_line(alloc, &mut text, number, world, request, *answer, line)?;
         watches.serve(alloc, world, request, *answer, number)?;
     }
     Ok(text)
@@ -147,11 +143,32 @@ fn next_line(watches: &Watches<'_>, answer: Answer, left: &mut Iter<'_, usize>) 
     }
 }
 
-/// Adds the line of the request with this number.
+/// Adds the line of the request with this number, unless nobody asks there.
 fn push_line<T: FileTree>(
     alloc: Global,
     text: &mut String,
-    rules: Rules,
+    number: usize,
+    world: &World<T>,
+    request: &Request,
+    answer: Answer,
+    line: Option<usize>,
+) -> Result<(), AllocError>
+    ensures { OnOk result (answer ≡ (apply_to world.now request.now).0 →
+        string_bytes text.new ≡ string_bytes text.old ++ flat_map with_end (line_said request.now
+        (decimal number ++ 32 ∷ (answer_words world.now.table (world_of world.now) request.now
+        ++ reason_tail world.now.table (world_of world.now) request.now
+        (date_of (reason world.now.table (world_of world.now) request.now) line))))) }
+{
+    if request.says_nothing() {
+        return Ok(());
+    }
+    push_request(alloc, text, number, world, request, answer, line)
+}
+
+/// Adds the line of a request with this number.
+fn push_request<T: FileTree>(
+    alloc: Global,
+    text: &mut String,
     number: usize,
     world: &World<T>,
     request: &Request,
@@ -161,40 +178,39 @@ fn push_line<T: FileTree>(
     ensures { OnOk result (answer ≡ (apply_to world.now request.now).0 →
         string_bytes text.new ≡ string_bytes text.old ++ with_end (decimal number ++ 32 ∷
         (answer_words world.now.table (world_of world.now) request.now
-        ++ reason_tail rules world.now.table (world_of world.now) request.now
+        ++ reason_tail world.now.table (world_of world.now) request.now
         (date_of (reason world.now.table (world_of world.now) request.now) line)))) }
 {
     let mut digits = Buffer::new();
     text.push_str(digits.format(number))?;
     text.push_str(" ")?;
     let (process, action) = (request.process(), request.action());
-    push_answer(alloc, text, rules, world, process, action, answer, line)?;
+    push_answer(alloc, text, world, process, action, answer, line)?;
     text.push_str("\n")
 }
 
 /// The text of a run of a script with reasons: a line for each of its requests, with its number,
-/// what it is answered, and if that is not `ok`, why, since which line the reason holds, unless it
-/// held from the start, and by which promise a kernel opens the path all the same, if one does by
-/// these rules. The script was read from these bytes by these rules, and its requests were answered
-/// so, in a world as this one, which serves them. The only error is that a growth was refused.
+/// what it is answered, and if that is not `ok`, why, and since which line the reason holds, unless
+/// it held from the start; and else by which promise it was opened, if one opened it. The script was
+/// read from these bytes, and its requests were answered so, in a world as this one, which serves
+/// them. The only error is that a growth was refused.
 pub fn reason_text<T: FileTree>(
     alloc: Global,
-    rules: Rules,
     world: &mut World<T>,
     script_bytes: &[u8],
     requests: &[Request],
     answers: &[Answer],
 ) -> Result<String, OutOfMemory>
-    ensures { IfOk result (λ text. script_by rules script_bytes.now ≡ Ok requests.now →
+    ensures { IfOk result (λ text. (rules : Rules) →
+        script_by rules script_bytes.now ≡ Ok requests.now →
         answers.now ≡ (run_to world.old requests.now).0 →
         string_bytes text ≡ flat_map with_end
-        (why_lines rules world.old.table (world_of world.old) [] 1 requests.now)) }
+        (why_lines world.old.table (world_of world.old) [] 1 requests.now)) }
 {
     let mut watches = Watches::new(alloc, requests, answers)?;
     let places = watch_lines(alloc, world, script_bytes, requests, answers, &mut watches)?;
     lines_text(
         alloc,
-        rules,
         world,
         requests,
         answers,

@@ -32,8 +32,8 @@ fn is_own(action: &Action) -> bool
     match action {
         Action::OnPath(call, _) => call_is_own(*call),
         Action::Symlink(..) | Action::Rename(..) | Action::Link(..) | Action::Fork(_) => false,
-        Action::Pledge(..) | Action::Unveil(..) | Action::Lock | Action::Exit | Action::Uses(_) =>
-            true,
+        Action::Pledge(..) | Action::Unveil(..) | Action::Lock | Action::Exit => true,
+        Action::Uses(_) | Action::Comment => true,
     }
 }
 

@@ -2,6 +2,7 @@
 
 ghost use Rattle.std.specs.Prelude.{◌≡◌, ◌++◌, [], List, Ok, IfOk, OnOk, flat_map, map};
 ghost use Rattle.std.specs.Prelude.{string_bytes};
+ghost use Rattle.pua_calls.specs.declared.rules.Rules.{Rules};
 ghost use Rattle.pua_script.specs.AnswerTexts.{with_end};
 ghost use Rattle.pua_script.specs.Requests.{Asked};
 ghost use Rattle.pua_script.specs.Scripts.{script_by};
@@ -13,7 +14,6 @@ ghost use Rattle.pua_since.specs.Dates.{AreVeilsAt, veil_date, veil_seen, veils_
 use crate::reason_lines::{lines_text, watch_lines};
 use crate::watch::Question;
 use crate::watches::Watches;
-use pua_calls::Rules;
 use pua_policy::Place;
 use pua_script::{Answer, Request, World};
 use pua_tree::{FileTree, OutOfMemory};
@@ -60,18 +60,18 @@ fn add_veils<'w>(
 /// where that held from the start. The only error is that a growth was refused.
 pub fn dated_text<T: FileTree>(
     alloc: Global,
-    rules: Rules,
     world: &mut World<T>,
     script_bytes: &[u8],
     requests: &[Request],
     answers: &[Answer],
     veils: &[(u32, &Place)],
 ) -> Result<(String, Vec<Option<usize>>), OutOfMemory>
-    ensures { IfOk result (λ dated. script_by rules script_bytes.now ≡ Ok requests.now →
+    ensures { IfOk result (λ dated. (rules : Rules) →
+        script_by rules script_bytes.now ≡ Ok requests.now →
         answers.now ≡ (run_to world.old requests.now).0 →
         (string_bytes dated.0
         ≡ flat_map with_end
-        (why_lines rules world.old.table (world_of world.old) [] 1 requests.now))
+        (why_lines world.old.table (world_of world.old) [] 1 requests.now))
         × (dated.1.items ≡ map (veil_date world.old.table (world_of world.old) requests.now)
         (map veil_seen veils.now))) }
 {
@@ -80,7 +80,6 @@ pub fn dated_text<T: FileTree>(
     let places = watch_lines(alloc, world, script_bytes, requests, answers, &mut watches)?;
     let text = lines_text(
         alloc,
-        rules,
         world,
         requests,
         answers,

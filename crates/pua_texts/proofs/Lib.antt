@@ -16,6 +16,7 @@ pub mod TogetherList
 pub mod OpeningLines
 pub mod States
 pub mod StateLaw
+pub mod OpeningsPrinted
 pub mod Climbing
 pub mod VeilDates
 pub mod WhyColumns

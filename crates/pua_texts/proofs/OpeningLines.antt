@@ -2,8 +2,8 @@
 use Rattle.pua_texts.proofs.Common.{◌≡◌, ℕ, ◌+◌, ◌<◌, ◌≤◌, List, ◌++◌, map, flat_map, drop, length, sym, ap, ◌∙◌, append_assoc, append-nil}
 use Rattle.pua_texts.proofs.Common.{get_or, drop_more, drop_of_length-le, Bor, ◌∷◌, [], Call, call_name, with_end}
 use Rattle.std.specs.Prelude.{codes}
-use Rattle.pua_why.specs.Seen.{opening_seen}
-use Rattle.pua_why.specs.declared.kernel.Opening.{Opening}
+use Rattle.pua_script.specs.Openings.{opening_seen}
+use Rattle.pua_script.specs.declared.opening.Opening.{Opening}
 use Rattle.pua_texts.specs.Openings.{line_if, opened_by, opening_lines}
 use Rattle.pua_texts.proofs.ObjectLines.{joined}
 

@@ -27,7 +27,7 @@ module _ {A : Type 0} (p : A → Bool) where
       by true passes more (zero, low, is) = ((zero, omega arith, is), ap p (sym is) ∙ passes)
       by true passes more (suc k, low, is) = later (more (k, omega (arith, low), is))
 
-  passing : (xs : List A) (x : A) → Contains xs x → p x ≡ true → Contains (filter p xs) x
+  pub passing : (xs : List A) (x : A) → Contains xs x → p x ≡ true → Contains (filter p xs) x
   passing [] x (k, low, is) passes = absurd (omega (arith, low))
   passing (a ∷ xs) x (zero, low, is) passes =
       subst (λ b. Contains (cond b (a ∷ filter p xs) (filter p xs)) x) (sym (ap p is ∙ passes)) (zero, omega arith, is)

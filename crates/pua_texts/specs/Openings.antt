@@ -3,7 +3,7 @@ use Rattle.std.specs.Prelude.{ℕ, List, [], ◌∷◌, ◌++◌, Bool, codes, f
 use Rattle.pua_tree.specs.Names.{same_bytes}
 use Rattle.pua_calls.specs.Calls.{call_name}
 use Rattle.pua_objects.specs.Objects.{with_commas}
-use Rattle.pua_why.specs.Openings.{Opening, openings}
+use Rattle.pua_script.specs.Openings.{Opening, openings}
 use Rattle.pua_texts.specs.Lines.{with_end}
 
 abbrev pub veils_word : Bool → List ℕ
@@ -13,9 +13,12 @@ veils_word asked = if asked then codes " veils" else []
 abbrev pub opening_text : Opening → List ℕ
 opening_text o = o.path ++ 32 ∷ with_commas (map call_name o.calls) ++ veils_word o.asks_veils
 
+abbrev pub opening_line : Opening → List ℕ
+opening_line o = with_end (codes "opening " ++ opening_text o)
+
 -- its line, if it is that of this promise
 abbrev pub line_if : List ℕ → Opening → List ℕ
-line_if keyword o = if same_bytes o.promise keyword then with_end (codes "opening " ++ opening_text o) else []
+line_if keyword o = if same_bytes o.promise keyword then opening_line o else []
 
 -- a line for each opening of a promise
 abbrev pub opened_by : List ℕ → List ℕ

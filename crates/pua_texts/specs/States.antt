@@ -4,13 +4,16 @@ use Rattle.std.specs.Prelude.{◌↔◌, ◌⊎◌, ◌≡◌, ℕ, Bool, true, 
 use Rattle.std.specs.Prelude.{Some, None, codes, decimal, unwrap_or, bit_or}
 use Rattle.std.specs.List.{Contains}
 use Rattle.pua_tree.specs.Tree.{Tree, is_dir}
-use Rattle.pua_calls.specs.Promises.{holds, unveil, keyword_rows, keywords_of, no_promises, perm_letters}
+use Rattle.pua_calls.specs.Promises.{holds, unveil, keyword_rows, keywords_of, no_promises, perm_letters, promises_of}
 use Rattle.pua_calls.specs.declared.rules.Rules.{Rules}
-use Rattle.pua_calls.specs.Calls.{about_rules}
+use Rattle.pua_calls.specs.Calls.{CallTable, about_rules}
+use Rattle.pua_calls.specs.declared.call.Call.{Call}
 use Rattle.pua_policy.specs.States.{ProcessState, has_veil, held_set, held_for_exec, is_ended, is_locked, pledged_set, veils}
 use Rattle.pua_policy.specs.declared.place.Place.{Place}
 use Rattle.pua_policy.specs.declared.place.Place.TheVariants.{Dir, Slot}
 use Rattle.pua_script.specs.Laws.{IsConfined}
+use Rattle.pua_script.specs.OpeningLaws.{may_open}
+use Rattle.pua_script.specs.Openings.{Opening, holds_named, opening_of, openings, opens_call}
 use Rattle.pua_audit.specs.Reach.{Word, printed_path}
 use Rattle.pua_audit.specs.declared.base.Base.TheVariants.{Root}
 use Rattle.pua_objects.specs.Objects.{with_commas}
@@ -18,10 +21,10 @@ use Rattle.pua_ever.specs.declared.lasting_list.ExecBound.{ExecBound}
 use Rattle.pua_ever.specs.declared.lasting_list.ExecBound.TheVariants.{Never, Bounded, Open}
 use Rattle.pua_why.specs.Texts.{dir_names}
 use Rattle.pua_texts.specs.Lines.{with_end}
-use Rattle.pua_texts.specs.Openings.{opening_lines}
+use Rattle.pua_texts.specs.Openings.{opening_line, opening_lines}
 use Rattle.pua_texts.specs.declared.state.Heading.{Heading}
 use Rattle.pua_texts.specs.declared.state.Time.{Time}
-use Rattle.pua_texts.specs.declared.state.Time.TheVariants.{Now, Ever}
+use Rattle.pua_texts.specs.declared.state.Time.TheVariants.{Now, Before, Ever}
 -- a text, or `=` where it is empty
 pub use Rattle.pua_why.specs.Texts.{or_equals}
 
@@ -46,12 +49,14 @@ exec_line Open = with_end (codes "exec open")
 
 abbrev pub execs_told : Time → List ℕ
 execs_told Now = []
+execs_told (Before line) = []
 execs_told (Ever execs) = exec_line execs
 
 -- the promises by which something is opened: those that were pledged; and at some time each one that can still be, also by
 -- what is started, where the list has what that can touch
 abbrev pub opening_set : Time → ProcessState → ℕ
 opening_set Now h = unwrap_or (pledged_set h) no_promises
+opening_set (Before line) h = unwrap_or (pledged_set h) no_promises
 opening_set (Ever Never) h = held_set h
 opening_set (Ever Bounded) h = bit_or (held_set h) (unwrap_or (held_for_exec h) no_promises)
 opening_set (Ever Open) h = held_set h
@@ -87,11 +92,17 @@ living_veils h = if is_ended h then [] else veils h
 
 abbrev pub title_of : Time → List ℕ
 title_of Now = codes "objects"
+title_of (Before line) = codes "objects"
 title_of (Ever execs) = codes "ever"
 
--- the heading of a list, by what it is a list of and the number of its process
+-- the line of the script before which it was, of a list of what was allowed
+abbrev pub moment_text : Time → List ℕ
+moment_text (Before line) = codes " before " ++ decimal line
+moment_text _ = []
+
+-- the heading of a list, by what it is a list of, the number of its process, and when it was, unless that is now or ever
 abbrev pub heading_line : Heading → List ℕ
-heading_line head = with_end (title_of head.time ++ 32 ∷ decimal head.number)
+heading_line head = (title_of head.time ++ 32 ∷ decimal head.number) ++ with_end (moment_text head.time)
 
 -- the names of a directory and of those above it, up to the root
 abbrev pub names_over : Tree → ℕ → Word
@@ -154,6 +165,23 @@ pub record TellsState (head : Heading) (h : ProcessState) (text : List ℕ) : Ty
 -- so do the lines that are printed of a process that has not ended
 abbrev pub StateIsPrinted : Type 0
 StateIsPrinted = (head : Heading) (h : ProcessState) → is_ended h ≡ false → TellsState head h (own_lines head h)
+
+-- the line of an opening stands among lines
+abbrev pub HasOpening : List ℕ → Opening → Type 0
+HasOpening lines o = (before : List ℕ) × (after : List ℕ) × (lines ≡ before ++ opening_line o ++ after)
+
+-- by rules that know of openings, of a process that has not ended: each opening of a promise by which something is opened at such a time
+-- has its line; so what is opened to the process has its line in what a list says of it now, and whatever a promise that it holds opens
+-- has one in a list for ever
+pub record OpeningsArePrinted : Type 0 where
+  pub each : (head : Heading) (h : ProcessState) (o : Opening) → is_ended h ≡ false → (about_rules head.rules).has_openings ≡ true →
+      Contains openings o → holds_named (opening_set head.time h) (promises_of o.promise) ≡ true → HasOpening (own_lines head h) o
+  pub now : (head : Heading) (table : CallTable) (h : ProcessState) (call : Call) (text : List ℕ) (o : Opening) →
+      table.whose ≡ head.rules → head.time ≡ Now → opening_of table h call text ≡ Some o →
+      (opens_call call text o ≡ true) × HasOpening (own_lines head h) o
+  pub ever : (head : Heading) (execs : ExecBound) (h : ProcessState) (call : Call) (text : List ℕ) → is_ended h ≡ false →
+      head.time ≡ Ever execs → (about_rules head.rules).has_openings ≡ true → may_open h call text ≡ true →
+      (o : Opening) × (opens_call call text o ≡ true) × HasOpening (own_lines head h) o
 
 -- each veil that such a process keeps has its line, with where its place stands and its letters
 abbrev pub VeilsArePrinted : Type 0

@@ -1,6 +1,7 @@
 //! A law on what a list says of a state, the contract of a function that does nothing.
 
-ghost use Rattle.pua_texts.specs.States.{ConfinedIsPrinted, StateIsPrinted, VeilsArePrinted};
+ghost use Rattle.pua_texts.specs.States.{ConfinedIsPrinted, OpeningsArePrinted, StateIsPrinted};
+ghost use Rattle.pua_texts.specs.States.{VeilsArePrinted};
 
 /// The state of a process that has not ended has four lines, the line `rules openbsd` by those
 /// rules and then one for each opening of its promises, and one for each of its veils or `no
@@ -8,10 +9,12 @@ ghost use Rattle.pua_texts.specs.States.{ConfinedIsPrinted, StateIsPrinted, Veil
 /// no other keyword, or `-` where none were ever given; so has `execpromises` of those for an exec.
 /// A process that is locked or doesn't hold `unveil`, and so can put no veil any more, has the line
 /// `unveil locked` or `unveil given-up`, and only such a process has one of them. Each veil has its
-/// line.
-#[tactic(auto, using(crate::proofs::States::confined_is_printed, crate::proofs::StateLaw::state_is_printed, crate::proofs::StateLaw::veils_are_printed))]
+/// line. By OpenBSD's rules so has each opening: what is opened to the process now in a list of the
+/// present, and what a promise opens that it holds in a list for ever.
+#[tactic(auto, using(crate::proofs::States::confined_is_printed, crate::proofs::StateLaw::state_is_printed, crate::proofs::StateLaw::veils_are_printed, crate::proofs::OpeningsPrinted::openings_are_printed))]
 pub fn state_law()
     ensures confined { ConfinedIsPrinted }
     ensures state { StateIsPrinted }
     ensures veils { VeilsArePrinted }
+    ensures openings { OpeningsArePrinted }
 {}

@@ -39,7 +39,7 @@ pub use fault::TextFault;
 pub use laws::state_law;
 pub use lists::write_lists;
 pub use members::{Joined, Member};
-pub use object_lists::begin_objects;
+pub use object_lists::{begin_image, begin_objects};
 pub use process_list::ProcessList;
 pub use together_list::begin_together;
 pub use why_lists::begin_reasons;

@@ -17,13 +17,13 @@ use pua_tree::{FileTree, OutOfMemory};
 use std::alloc::Global;
 use std::collections::VecDeque;
 
-/// Writes the front of a text, and then these lists, one after another. `OutOfMemory` where a
-/// growth was refused, before anything is written. `Write` only where a put failed in this call,
+/// Writes the bytes of a text's front, and then these lists, one after another. `OutOfMemory` where
+/// a growth was refused, before anything is written. `Write` only where a put failed in this call,
 /// after a front of the text.
 pub fn write_lists<'t, T: FileTree, S: Sink>(
     alloc: Global,
     tree: &'t T,
-    front: &str,
+    front: &[u8],
     mut lists: VecDeque<ProcessList<'t>>,
     sink: &mut S,
 ) -> Result<(), TextFault>
@@ -62,7 +62,7 @@ pub(crate) fn alone<'t>(
 /// Adds the front of a text to a block, and then lists, one after another.
 fn add_lists<'t, T: FileTree, S: Sink>(
     block: &mut Block,
-    front: &str,
+    front: &[u8],
     lists: &mut VecDeque<ProcessList<'t>>,
     places: &mut VeilPaths<'t, T>,
     lines: &mut NamedLines<'t>,
@@ -73,7 +73,7 @@ fn add_lists<'t, T: FileTree, S: Sink>(
         (front.now ++ lists_text places.old.tree lists.old.items)
         result block.old block.new sink.old sink.new }
 {
-    block.add_text(front.as_bytes(), sink)?;
+    block.add_text(front, sink)?;
     while let Some(list) = lists.pop_front() {
         list.add_to(block, places, lines, texts, sink)?;
     }

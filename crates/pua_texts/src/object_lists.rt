@@ -3,9 +3,10 @@
 ghost use Rattle.std.specs.Prelude.{◌≡◌, IfOk};
 ghost use Rattle.pua_script.specs.Worlds.{world_of};
 ghost use Rattle.pua_texts.specs.ListLines.{list_text, lists_text};
-ghost use Rattle.pua_texts.specs.ObjectLines.{lists_of, process_list};
+ghost use Rattle.pua_texts.specs.ObjectLines.{image_list_of, lists_of, process_list};
 
 use crate::endings::Endings;
+use crate::lists::alone;
 use crate::object_lines::object_lines;
 use crate::process_head::ProcessHead;
 use crate::process_list::ProcessList;
@@ -44,6 +45,30 @@ pub fn begin_objects<'t, T: FileTree>(
         lists.push_back(list)?;
     }
     Ok(lists)
+}
+
+/// The list of a process as it is before the line of a script with this number: it alone, or none
+/// where it was never made. The only error is that a growth was refused.
+pub fn begin_image<'t, T: FileTree>(
+    alloc: Global,
+    world: &'t World<T>,
+    rules: Rules,
+    number: u32,
+    line: usize,
+) -> Result<VecDeque<ProcessList<'t>>, OutOfMemory>
+    ensures { IfOk result (λ lists. lists_text world.now.tree lists.items
+        ≡ image_list_of line rules world.now.table (world_of world.now) number) }
+{
+    let Some(process) = world.process(number) else {
+        return Ok(VecDeque::new(alloc));
+    };
+    let heading = Heading {
+        time: Time::Before(line),
+        rules,
+        number,
+    };
+    let list = begin_list(alloc, world.tree(), world.table(), heading, process)?;
+    alone(alloc, list)
 }
 
 /// The list of a process with this heading. The only error is that a growth was refused.

@@ -1,17 +1,16 @@
 //! What promises open by themselves, by the rules of OpenBSD's kernel, as lines.
 
-ghost use Rattle.std.specs.Prelude.{◌≡◌, ◌++◌, ◌∷◌, [], codes, if◌then◌else◌, map, OnOk};
+ghost use Rattle.std.specs.Prelude.{◌≡◌, ◌++◌, ◌∷◌, [], if◌then◌else◌, map, OnOk};
 ghost use Rattle.std.specs.Prelude.{string_bytes};
 ghost use Rattle.pua_calls.specs.Calls.{call_name};
 ghost use Rattle.pua_calls.specs.Promises.{keywords_of};
 ghost use Rattle.pua_objects.specs.Objects.{with_commas};
-ghost use Rattle.pua_why.specs.Seen.{opening_seen};
-ghost use Rattle.pua_texts.specs.Lines.{with_end};
-ghost use Rattle.pua_texts.specs.Openings.{line_if, opened_by, opening_lines, opening_text};
+ghost use Rattle.pua_script.specs.Openings.{opening_seen};
+ghost use Rattle.pua_texts.specs.Openings.{line_if, opened_by, opening_line, opening_lines};
 ghost use Rattle.pua_texts.specs.Openings.{veils_word};
 
 use pua_calls::{Call, Promises};
-use pua_why::{Opening, openings};
+use pua_script::{Opening, openings};
 use std::alloc::{AllocError, Global};
 use std::fmt::Write;
 
@@ -66,7 +65,7 @@ fn push_if(text: &mut String, row: &Opening, keyword: &str) -> Result<(), AllocE
 /// Adds the line of an opening.
 fn push_row(text: &mut String, row: &Opening) -> Result<(), AllocError>
     ensures { OnOk result (string_bytes text.new ≡ string_bytes text.old
-        ++ with_end (codes "opening " ++ opening_text (opening_seen row.now))) }
+        ++ opening_line (opening_seen row.now)) }
 {
     write!(text, "opening {} ", row.path)?;
     push_calls(text, row.calls)?;

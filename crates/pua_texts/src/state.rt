@@ -2,7 +2,7 @@
 
 ghost use Rattle.std.specs.Prelude.{◌≡◌, ◌++◌, IfOk, OnOk, string_bytes};
 ghost use Rattle.pua_texts.specs.States.{bound_lines, execs_told, heading_line, held_lines};
-ghost use Rattle.pua_texts.specs.States.{living_lines, opening_set};
+ghost use Rattle.pua_texts.specs.States.{living_lines, moment_text, opening_set};
 ghost use Rattle.pua_texts.specs.States.{openings_told, own_lines, pledged_text, rules_line, title_of};
 ghost use Rattle.pua_texts.specs.States.{unveil_word, unveiled_line};
 ghost use Rattle.pua_texts.specs.Lines.{with_end};
@@ -20,6 +20,8 @@ use std::fmt::Write;
 pub(crate) enum Time {
     /// What is allowed now.
     Now,
+    /// What was allowed before the line of a script with this number.
+    Before(usize),
     /// What can ever be, and what becomes of the list at an exec.
     Ever(ExecBound),
 }
@@ -54,15 +56,27 @@ fn heading_text(alloc: Global, heading: Heading) -> Result<String, AllocError>
 {
     let title = title(heading.time);
     let mut text = String::new(alloc);
-    writeln!(text, "{title} {}", heading.number)?;
+    write!(text, "{title} {}", heading.number)?;
+    push_moment(&mut text, heading.time)?;
     Ok(text)
+}
+
+/// Adds the line before which it was, if it is a list of what was allowed, and the heading's end.
+fn push_moment(text: &mut String, time: Time) -> Result<(), AllocError>
+    ensures { OnOk result (string_bytes text.new
+        ≡ string_bytes text.old ++ with_end (moment_text time)) }
+{
+    match time {
+        Time::Before(line) => writeln!(text, " before {line}"),
+        Time::Now | Time::Ever(_) => text.push_str("\n"),
+    }
 }
 
 fn title(time: Time) -> &'static str
     ensures { result.now ≡ title_of time }
 {
     match time {
-        Time::Now => "objects",
+        Time::Now | Time::Before(_) => "objects",
         Time::Ever(_execs) => "ever",
     }
 }
@@ -150,7 +164,7 @@ fn push_execs(text: &mut String, time: Time) -> Result<(), AllocError>
     ensures { OnOk result (string_bytes text.new ≡ string_bytes text.old ++ execs_told time) }
 {
     match time {
-        Time::Now | Time::Ever(ExecBound::Never) => Ok(()),
+        Time::Now | Time::Before(_) | Time::Ever(ExecBound::Never) => Ok(()),
         Time::Ever(ExecBound::Bounded) => push_line(text, "exec ", "bounded"),
         Time::Ever(ExecBound::Open) => push_line(text, "exec ", "open"),
     }
@@ -180,7 +194,7 @@ fn opening_promises(time: Time, process: &Process) -> Promises
     ensures { result ≡ opening_set time process.now }
 {
     match time {
-        Time::Now => process.promises().unwrap_or(Promises::NONE),
+        Time::Now | Time::Before(_) => process.promises().unwrap_or(Promises::NONE),
         Time::Ever(ExecBound::Never | ExecBound::Open) => process.held(),
         Time::Ever(ExecBound::Bounded) => {
             let given = process.execpromises().unwrap_or(Promises::NONE);

@@ -55,21 +55,28 @@ module _ (t : Tree) (l m s : ProcessState) (c : Covered t l m s) where
   abbrev fault : ProcessState → Found → ℕ → Option Errno
   fault z x perms = cover_fault (cover t z x) perms
 
-  passes : (x : Found) (perms : ℕ) → fault m x perms ≡ None → fault s x perms ≡ None
+  pub passes : (x : Found) (perms : ℕ) → fault m x perms ≡ None → fault s x perms ≡ None
   passes x = fault_within (cover_within c.later.veils t x)
 
-  pub object_agrees : (table : CallTable) (call : Call) (path : List ℕ) (f : Found → Change) →
-      Agree (object_by refusals table t (asker_of l) call path (λ x. Ok (f x))) (object_by refusals table t (asker_of m) call path (λ x. Ok (f x)))
-      (object_by refusals table t (asker_of s) call path (λ x. Ok (f x)))
-  object_agrees table call path f = at_path table.whose (ending_of call) path (last_of call) (checked l) (checked m) (checked s)
-      (λ x. misses_or (fault l x perms) (fault m x perms) (fault s x perms) (option_map (refusals.misfit Sole x) (misfit table.whose t call (object_of t x)))
-      (c.misses x perms) (passes x perms) (Ok (f x)))
-    where
-      perms : ℕ
-      perms = (rule_of table call).perms
+  module _ (table : CallTable) (call : Call) (path : List ℕ) (f : Found → Change) where
+    -- what is checked behind a path, by what is wrong with the object's cover
+    abbrev checked : (Found → Option Errno) → Found → Decision
+    checked fails x = check (or_fault (fails x) (option_map (refusals.misfit Sole x) (misfit table.whose t call (object_of t x)))) (Ok (f x))
 
-      checked : ProcessState → Found → Decision
-      checked z x = check (or_fault (fault z x perms) (option_map (refusals.misfit Sole x) (misfit table.whose t call (object_of t x)))) (Ok (f x))
+    abbrev named : ProcessState → (Found → Option Errno) → Decision
+    named z fails = on_named refusals.failed (path_named table.whose t z.dir (ending_of call) path (last_of call)) (checked fails)
+
+    pub named_agrees : (i j k : Found → Option Errno) → ((x : Found) → Misses (i x) (j x) (k x)) → ((x : Found) → j x ≡ None → k x ≡ None) →
+        Agree (named l i) (named m j) (named s k)
+    named_agrees i j k misses fine = at_path table.whose (ending_of call) path (last_of call) (checked i) (checked j) (checked k)
+        (λ x. misses_or (i x) (j x) (k x) (option_map (refusals.misfit Sole x) (misfit table.whose t call (object_of t x))) (misses x) (fine x) (Ok (f x)))
+
+    pub object_agrees : Agree (object_by refusals table t (asker_of l) call path (λ x. Ok (f x)))
+        (object_by refusals table t (asker_of m) call path (λ x. Ok (f x))) (object_by refusals table t (asker_of s) call path (λ x. Ok (f x)))
+    object_agrees = named_agrees (λ x. fault l x perms) (λ x. fault m x perms) (λ x. fault s x perms) (λ x. c.misses x perms) (λ x. passes x perms)
+      where
+        perms : ℕ
+        perms = (rule_of table call).perms
 
   pub pair_agrees : (whose : Rules) (pair : PairRule) (end : Ending) (old new : List ℕ) (f : Found → Found → Decision) →
       Agree (objects_by refusals whose pair t (asker_of l) end old new f) (objects_by refusals whose pair t (asker_of m) end old new f)

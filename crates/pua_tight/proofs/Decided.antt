@@ -30,14 +30,16 @@ use Rattle.pua_policy.specs.declared.answer.UnveilFault.TheVariants.{NotPermitte
 use Rattle.pua_script.specs.Decide.{Change, AddEvent, Decision, Requester, Side, Sole, Old, New, refusals, asker_of, decide, decide_by, call_by}
 use Rattle.pua_script.specs.Decide.{object_by, symlink_by, pair_by, objects_by, covers_by, rename_by, asks_directory, link_by, veil_by, veiling_by}
 use Rattle.pua_script.specs.Decide.{pledge_by, pledging_by, unless_refused, unless_failed, on_named, change_by, adding, link_node, fault_if}
-use Rattle.pua_script.specs.Decide.{is_unknown, given_set, unveil_errno, path_named}
+use Rattle.pua_script.specs.Decide.{is_unknown, given_set, unveil_errno, path_named, asker_for, asker_past, past_promises, cover_past}
+use Rattle.pua_script.specs.Openings.{Opening, opening_of}
 use Rattle.pua_script.specs.declared.request.Given.{Given}
 use Rattle.pua_script.specs.declared.request.Action.{Action}
-use Rattle.pua_script.specs.declared.request.Action.TheVariants.{OnPath, Symlink, Rename, Link, Pledge, Unveil, Lock, Fork, Exit, Uses}
+use Rattle.pua_script.specs.declared.request.Action.TheVariants.{OnPath, Symlink, Rename, Link, Pledge, Unveil, Lock, Fork, Exit, Uses, Comment}
 use Rattle.pua_tight.specs.Narrower.{SetWithin, unset, within, StateWithin, GivenWithin, given_none, given_less, given_unknown}
 use Rattle.pua_tight.specs.Narrower.{ActionWithin, as_given, less_pledged, less_unveiled}
 use Rattle.pua_policy.proofs.ForCallers.{holds_through}
 use Rattle.pua_tight.proofs.Sets.{or_more, and_more, two_bools, asked_within}
+use Rattle.pua_tight.proofs.Openers.{opened_more}
 use Rattle.pua_tight.proofs.Within.{held_within, kept_within, as_many, cover_within, fault_within, may_within}
 
 -- each check that the first passes the second passes, and paths name the same to both
@@ -159,6 +161,7 @@ module _ (table : CallTable) (t : Tree) (a b : Requester) (easier : Easier a b) 
   granted_more (Fork new) = past_refused c (a.promises (proc ∷ [])) (b.promises (proc ∷ [])) _ _ (easier.promises (proc ∷ [])) (λ e. e)
   granted_more Exit = λ e. e
   granted_more (Uses sets) = past_refused c (a.promises sets) (b.promises sets) _ _ (easier.promises sets) (λ e. e)
+  granted_more Comment = λ e. e
 
 -- one that passes every check, in a directory
 abbrev pub free : ℕ → Requester
@@ -171,20 +174,31 @@ free dir = record {
   place = λ place perms. None;
 }
 
-freer : (h : ProcessState) → Easier (asker_of h) (free (working_dir h))
-freer h = record {
+-- whatever one checks whose paths name what they name there
+freer : (a : Requester) (dir : ℕ) → ((whose : Rules) (side : Side) (t : Tree) (end : Ending) (text : List ℕ) (last : Last) →
+    a.path whose side t end text last ≡ path_named whose t dir end text last) → Easier a (free dir)
+freer a dir paths = record {
   promises = λ sets e. refl;
-  path = λ whose side t end text last. refl;
+  path = paths;
   cover = λ side t object perms e. refl;
   beyond = λ whose p e is. refl;
   locked = λ e. refl;
   place = λ place perms e. refl;
 }
 
+freer_past : (h : ProcessState) (o : Option Opening) → Easier (asker_past o (asker_of h)) (free (working_dir h))
+freer_past h None = freer (asker_of h) (working_dir h) (λ whose side t end text last. refl)
+freer_past h (Some o) = freer (past_promises o.asks_veils (asker_of h)) (working_dir h) (λ whose side t end text last. refl)
+
+freer_for : (table : CallTable) (h : ProcessState) (action : Action) → Easier (asker_for table h action (asker_of h)) (free (working_dir h))
+freer_for table h (OnPath call path) = freer_past h (opening_of table h call path)
+freer_for table h _ = freer_past h None
+
 -- what is granted is what it would be without checks
 pub freely : (table : CallTable) (t : Tree) (h : ProcessState) (action : Action) (c : Change) → decide table t h action ≡ Ok c →
     decide_by refusals table t (free (working_dir h)) action ≡ Ok c
-freely table t h action c = granted_more table t (asker_of h) (free (working_dir h)) (freer h) c action
+freely table t h action c =
+    granted_more table t (asker_for table h action (asker_of h)) (free (working_dir h)) (freer_for table h action) c action
 
 may_from : (m : May) → refusal_of m ≡ None → m ≡ may.Yes
 may_from may.Yes e = refl
@@ -204,6 +218,37 @@ placed (within {a = a} {b = b} less) n m perms same e =
     held : (x : Bool) → unveil_errno (cond x None (Some NotPermitted)) ≡ None → x ≡ true
     held true e = refl
     held false e = cc
+
+-- past openings, of which the second one has each that the first one has
+module _ (a b : Requester) (less : Easier a b) where
+  past_cover : (veils : Bool) (side : Side) (t : Tree) (object : Found) (perms : ℕ) → a.cover side t object perms ≡ None →
+      cover_past veils b.cover side t object perms ≡ None
+  past_cover true = less.cover
+  past_cover false = λ side t object perms e. refl
+
+  both_past : (veils : Bool) (side : Side) (t : Tree) (object : Found) (perms : ℕ) → cover_past veils a.cover side t object perms ≡ None →
+      cover_past veils b.cover side t object perms ≡ None
+  both_past true = less.cover
+  both_past false = λ side t object perms e. refl
+
+  easier_past : (p q : Option Opening) → ((o : Opening) → p ≡ Some o → q ≡ Some o) → Easier (asker_past p a) (asker_past q b)
+  easier_past None None more = less
+  easier_past None (Some o) more = record {
+    promises = λ sets e. refl;
+    path = less.path;
+    cover = past_cover o.asks_veils;
+    beyond = less.beyond;
+    locked = less.locked;
+    place = less.place;
+  }
+  easier_past (Some o) q more = subst (λ q. Easier (past_promises o.asks_veils a) (asker_past q b)) (sym (more o refl)) (record {
+    promises = λ sets e. refl;
+    path = less.path;
+    cover = both_past o.asks_veils;
+    beyond = less.beyond;
+    locked = less.locked;
+    place = less.place;
+  })
 
 module _ (h k : ProcessState) (w : StateWithin h k) where
   abbrev pub may_give : Rules → ProcessState → Option ℕ → Option ℕ → Bool
@@ -237,6 +282,13 @@ module _ (h k : ProcessState) (w : StateWithin h k) where
     locked = λ e. ap (λ x. fault_if x EPERM) (sym w.locked) ∙ e;
     place = place_less;
   }
+
+  -- also of what promises open: the second one has each opening of the first
+  pub easier_for : (table : CallTable) (action : Action) →
+      Easier (asker_for table h action (asker_of h)) (asker_for table k action (asker_of k))
+  easier_for table (OnPath call path) = easier_past (asker_of h) (asker_of k) easier (opening_of table h call path) (opening_of table k call path)
+      (opened_more h k w table call path)
+  easier_for table _ = easier
 
 -- one change, or events of which the first gives fewer words
 pub data ChangeWithin : Change → Change → Type 0 where

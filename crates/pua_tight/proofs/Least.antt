@@ -3,7 +3,7 @@ use Rattle.std.proofs.Common.{◌≡◌, ◌≢◌, ℕ, List, [], ◌∷◌, �
 use Rattle.std.proofs.lemmas.Bool.{false≢true, eqb-true, eq-eqb}
 use Rattle.std.proofs.lemmas.Nat.Bits.{bit_at_and, bit_at-lt, bit_at-zero, same_from_bits}
 use Rattle.std.specs.Int.{bit_at}
-use Rattle.std.specs.Prelude.{Some, None, IsTrue, bit_and, ◌==◌}
+use Rattle.std.specs.Prelude.{Some, None, IsTrue, bit_and, bit_or, ◌==◌}
 use Rattle.pua_calls.specs.Promises.{holds, lacking, error}
 use Rattle.pua_calls.specs.Calls.{CallTable}
 use Rattle.pua_script.specs.Requests.{Asked}
@@ -20,8 +20,10 @@ use Rattle.pua_tight.specs.Narrower.{GivenWithin, given_none, given_less, given_
 use Rattle.pua_tight.specs.Narrower.{AsksWithin, no_asks, asks}
 use Rattle.pua_tight.specs.Tight.{Piece, InPromises, InExecpromises, InVeil, given_without, action_without, without, Line, asks_of, same_answers}
 use Rattle.pua_tight.specs.Tight.{try_piece, thin_line, thin}
-use Rattle.pua_tight.specs.Laws.{IsPieceOf, AreOkay, without_all, LeavesOut, RestsOnOne, RestOnOne, bit_of, AreSpareable, TightIsLeast}
-use Rattle.pua_tight.proofs.Sets.{holds_self}
+use Rattle.pua_tight.specs.Laws.{IsPieceOf, AreOkay, without_all, LeavesOut, RestOnOne, opener_of, openers, promise_left, Stay, TightIsLeast}
+use Rattle.pua_policy.proofs.ForCallers.{holds_through}
+use Rattle.pua_tight.proofs.Sets.{holds_self, has_first, has_second}
+use Rattle.pua_tight.proofs.MiddleWorldAnswers.{Rests}
 use Rattle.pua_tight.proofs.Tightened.{given_self, without_within, action_twice, world_self, tried_same, line_within, thin_within, thin_same}
 use Rattle.pua_tight.proofs.WithoutPiece.{lack_at, ask_mono, is_without, lacks_down, lacks_left, okay_less}
 use Rattle.pua_tight.proofs.Worlds.{heads, tails}
@@ -30,64 +32,63 @@ use Rattle.pua_tight.proofs.ThreeProcesses.{last_two, state_three}
 use Rattle.pua_tight.proofs.ThreeWorlds.{ProcessesThree, three_nobody, three_somebody, WorldThree, GivenThree, null_three, unknown_three, good_three}
 use Rattle.pua_tight.proofs.ThreeWorlds.{ActionThree, same_three, pledge_three, unveil_three, step_three, agree_three}
 
--- `error` in the arguments of a request
-abbrev given_error : Given → Bool
-given_error (Good set) = holds set error
-given_error _ = false
+-- what the arguments of a pledge have of these promises
+abbrev given_kept : ℕ → Given → ℕ
+given_kept kept (Good set) = bit_and set kept
+given_kept kept _ = 0
 
-abbrev errors : Action → Bool × Bool
-errors (Pledge p e) = (given_error p, given_error e)
-errors (Unveil path (Some perms)) = (holds perms error, false)
-errors _ = (false, false)
+abbrev kept_in : ℕ → Action → ℕ × ℕ
+kept_in kept (Pledge p e) = (given_kept kept p, given_kept kept e)
+kept_in kept _ = (0, 0)
 
 apart_bit : (s t e : ℕ) → s < 2 → t < 2 → e < 2 → min t e ≡ 0 → min ((s + min s t) % 2) e ≡ min s e
 apart_bit s t e p q r f = omega arith
 
-error_stays : (bit set : ℕ) → bit_and bit error ≡ 0 → holds (lacking bit set) error ≡ holds set error
-error_stays bit set apart = ap (λ n. n == error) (same_from_bits _ _ (λ i.
-    let at : min (bit_at bit i) (bit_at error i) ≡ 0 = sym (bit_at_and bit error i) ∙ ap (λ n. bit_at n i) apart ∙ bit_at-zero i in
-    bit_at_and (lacking bit set) error i ∙ ap (λ x. min x (bit_at error i)) (lack_at bit set i)
-    ∙ apart_bit (bit_at set i) (bit_at bit i) (bit_at error i) (bit_at-lt set i) (bit_at-lt bit i) (bit_at-lt error i) at
-    ∙ sym (bit_at_and set error i)))
+set_stays : (kept bit set : ℕ) → bit_and bit kept ≡ 0 → bit_and (lacking bit set) kept ≡ bit_and set kept
+set_stays kept bit set apart = same_from_bits _ _ (λ i.
+    let at : min (bit_at bit i) (bit_at kept i) ≡ 0 = sym (bit_at_and bit kept i) ∙ ap (λ n. bit_at n i) apart ∙ bit_at-zero i in
+    bit_at_and (lacking bit set) kept i ∙ ap (λ x. min x (bit_at kept i)) (lack_at bit set i)
+    ∙ apart_bit (bit_at set i) (bit_at bit i) (bit_at kept i) (bit_at-lt set i) (bit_at-lt bit i) (bit_at-lt kept i) at
+    ∙ sym (bit_at_and set kept i))
 
-given_stays : (bit : ℕ) (g : Given) → bit_and bit error ≡ 0 → given_error (given_without bit g) ≡ given_error g
-given_stays bit Null apart = refl
-given_stays bit (Good set) apart = error_stays bit set apart
-given_stays bit Unknown apart = refl
+given_stays : (kept bit : ℕ) (g : Given) → bit_and bit kept ≡ 0 → given_kept kept (given_without bit g) ≡ given_kept kept g
+given_stays kept bit Null apart = refl
+given_stays kept bit (Good set) apart = set_stays kept bit set apart
+given_stays kept bit Unknown apart = refl
 
-errors_stay : (piece : Piece) (a : Action) → bit_and (bit_of piece) error ≡ 0 → errors (action_without piece a) ≡ errors a
-errors_stay (InPromises bit) (Pledge p e) apart = ap (λ x. (x, given_error e)) (given_stays bit p apart)
-errors_stay (InExecpromises bit) (Pledge p e) apart = ap (λ x. (given_error p, x)) (given_stays bit e apart)
-errors_stay (InVeil bit) (Pledge p e) apart = refl
-errors_stay (InVeil bit) (Unveil path (Some perms)) apart = ap (λ x. (x, false)) (error_stays bit perms apart)
-errors_stay (InVeil bit) (Unveil path None) apart = refl
-errors_stay (InPromises bit) _ apart = refl
-errors_stay (InExecpromises bit) _ apart = refl
-errors_stay (InVeil bit) _ apart = refl
+kept_stay : (kept : ℕ) (piece : Piece) (a : Action) → bit_and (promise_left piece) kept ≡ 0 → kept_in kept (action_without piece a) ≡ kept_in kept a
+kept_stay kept (InPromises bit) (Pledge p e) apart = ap (λ x. (x, given_kept kept e)) (given_stays kept bit p apart)
+kept_stay kept (InExecpromises bit) (Pledge p e) apart = ap (λ x. (given_kept kept p, x)) (given_stays kept bit e apart)
+kept_stay kept (InVeil bit) (Pledge p e) apart = refl
+kept_stay kept (InVeil bit) (Unveil path (Some perms)) apart = refl
+kept_stay kept (InVeil bit) (Unveil path None) apart = refl
+kept_stay kept (InPromises bit) _ apart = refl
+kept_stay kept (InExecpromises bit) _ apart = refl
+kept_stay kept (InVeil bit) _ apart = refl
 
--- a request that has less, and `error` where the other has it
-record AskLess (y x : Asked) : Type 0 where
+-- a request that has less, and of these promises what the other has
+record AskLess (kept : ℕ) (y x : Asked) : Type 0 where
   process : y.process ≡ x.process
   action : ActionWithin y.action x.action
-  errs : errors y.action ≡ errors x.action
+  alike : kept_in kept y.action ≡ kept_in kept x.action
 
-data AsksLess : List Asked → List Asked → Type 0 where
-  less_none : AsksLess [] []
-  less_more : {y x : Asked} {ys xs : List Asked} → AskLess y x → AsksLess ys xs → AsksLess (y ∷ ys) (x ∷ xs)
+data AsksLess : ℕ → List Asked → List Asked → Type 0 where
+  less_none : {kept : ℕ} → AsksLess kept [] []
+  less_more : {kept : ℕ} {y x : Asked} {ys xs : List Asked} → AskLess kept y x → AsksLess kept ys xs → AsksLess kept (y ∷ ys) (x ∷ xs)
 
-forget : {ys xs : List Asked} → AsksLess ys xs → AsksWithin ys xs
+forget : {kept : ℕ} {ys xs : List Asked} → AsksLess kept ys xs → AsksWithin ys xs
 forget less_none = no_asks
 forget (less_more one rest) = asks (record { process = one.process; action = one.action }) (forget rest)
 
-all_without : (pieces : List Piece) (x : Asked) → ((piece : Piece) → IsPieceOf pieces piece → bit_and (bit_of piece) error ≡ 0) →
-    AskLess (without_all pieces x) x
-all_without [] x apart = record { process = refl; action = as_given; errs = refl }
-all_without (piece ∷ pieces) x apart =
-    let rest = all_without pieces (without piece x) (λ p among. apart p (inr among)) in
+all_without : (kept : ℕ) (pieces : List Piece) (x : Asked) → ((piece : Piece) → IsPieceOf pieces piece → bit_and (promise_left piece) kept ≡ 0) →
+    AskLess kept (without_all pieces x) x
+all_without kept [] x apart = record { process = refl; action = as_given; alike = refl }
+all_without kept (piece ∷ pieces) x apart =
+    let rest = all_without kept pieces (without piece x) (λ p among. apart p (inr among)) in
     record {
       process = rest.process;
       action = action_twice rest.action (without_within piece x.action);
-      errs = rest.errs ∙ errors_stay piece x.action (apart piece (inl refl));
+      alike = rest.alike ∙ kept_stay kept piece x.action (apart piece (inl refl));
     }
 
 -- a piece that was left out is out
@@ -171,8 +172,8 @@ left_has bit a c out = eq-eqb _ _ (same_from_bits _ _ (λ i.
     ∙ left_bit (bit_at a i) (bit_at c i) (bit_at bit i) (bit_at-lt a i) (bit_at-lt c i) (bit_at-lt bit i) at ∙ sym (bit_at_and c a i)))
 
 -- of one line: what the other script has of it, what is tried, and what it was before
-given_tried : (bit : ℕ) {p q r : Given} → GivenWithin p r → GivenWithin q r → given_error p ≡ given_error q → given_without bit p ≡ p →
-    GivenThree p (given_without bit q) q
+given_tried : {kept : ℕ} (bit : ℕ) {p q r : Given} → GivenWithin p r → GivenWithin q r → given_kept kept p ≡ given_kept kept q →
+    given_without bit p ≡ p → GivenThree kept p (given_without bit q) q
 given_tried bit given_none given_none e out = null_three
 given_tried bit given_unknown given_unknown e out = unknown_three
 given_tried bit (given_less {a = a} less) (given_less {a = c} other) e out =
@@ -182,23 +183,23 @@ given_tried bit (given_less {a = a} less) (given_less {a = c} other) e out =
     set_in (Good s) = s
     set_in _ = 0
 
-given_beside : {p q r : Given} → GivenWithin p r → GivenWithin q r → given_error p ≡ given_error q → GivenThree p q q
+given_beside : {kept : ℕ} {p q r : Given} → GivenWithin p r → GivenWithin q r → given_kept kept p ≡ given_kept kept q → GivenThree kept p q q
 given_beside given_none given_none e = null_three
 given_beside given_unknown given_unknown e = unknown_three
 given_beside (given_less {a = a} less) (given_less {a = c} other) e = good_three (last_two a c) e
 
 -- kinds of three requests
-front_three : {y x : Action} → ActionWithin y x → errors y ≡ errors x → ActionThree y x x
+front_three : {kept : ℕ} {y x : Action} → ActionWithin y x → kept_in kept y ≡ kept_in kept x → ActionThree kept y x x
 front_three as_given e = same_three
 front_three (less_pledged {q = q} {f = f} first second) e =
     pledge_three (given_beside first (given_self q) (ap (λ z. z.0) e)) (given_beside second (given_self f) (ap (λ z. z.1) e))
-front_three (less_unveiled {a = a} {b = b} less) e = unveil_three (last_two a b) (ap (λ z. z.0) e)
+front_three (less_unveiled {a = a} {b = b} less) e = unveil_three (last_two a b)
 
-back_three : {y x : Action} → ActionWithin y x → errors y ≡ errors x → ActionThree x y y
+back_three : {kept : ℕ} {y x : Action} → ActionWithin y x → kept_in kept y ≡ kept_in kept x → ActionThree kept x y y
 back_three as_given e = same_three
 back_three (less_pledged {q = q} {f = f} first second) e =
     pledge_three (given_beside (given_self q) first (ap (λ z. z.0) (sym e))) (given_beside (given_self f) second (ap (λ z. z.1) (sym e)))
-back_three (less_unveiled {a = a} {b = b} less) e = unveil_three (last_two b a) (ap (λ z. z.0) (sym e))
+back_three (less_unveiled {a = a} {b = b} less) e = unveil_three (last_two b a)
 
 -- a request within a pledge is a pledge, and one within an unveil of letters such an unveil
 record IsPledge (y : Action) (q f : Given) : Type 0 where
@@ -226,120 +227,123 @@ wanted (as_given {action = action}) = wanted_self action
 wanted (less_pledged {p = p} {e = e} first second) = record { p = p; e = e; is = refl; first = first; second = second }
 wanted (less_unveiled {a = a} less) = (a, refl, less)
 
-pledge_tried : (piece : Piece) {p q r e f g : Given} → GivenWithin p r → GivenWithin q r → GivenWithin e g → GivenWithin f g →
-    errors (Pledge p e) ≡ errors (Pledge q f) → action_without piece (Pledge p e) ≡ Pledge p e →
-    ActionThree (Pledge p e) (action_without piece (Pledge q f)) (Pledge q f)
+pledge_tried : {kept : ℕ} (piece : Piece) {p q r e f g : Given} → GivenWithin p r → GivenWithin q r → GivenWithin e g → GivenWithin f g →
+    kept_in kept (Pledge p e) ≡ kept_in kept (Pledge q f) → action_without piece (Pledge p e) ≡ Pledge p e →
+    ActionThree kept (Pledge p e) (action_without piece (Pledge q f)) (Pledge q f)
 pledge_tried (InPromises bit) a b c d same out =
     pledge_three (given_tried bit a b (ap (λ z. z.0) same) (ap first_in out)) (given_beside c d (ap (λ z. z.1) same))
 pledge_tried (InExecpromises bit) a b c d same out =
     pledge_three (given_beside a b (ap (λ z. z.0) same)) (given_tried bit c d (ap (λ z. z.1) same) (ap second_in out))
 pledge_tried (InVeil bit) a b c d same out = pledge_three (given_beside a b (ap (λ z. z.0) same)) (given_beside c d (ap (λ z. z.1) same))
 
-veil_tried : (piece : Piece) (path : List ℕ) (a c : ℕ) → holds a error ≡ holds c error →
-    action_without piece (Unveil path (Some a)) ≡ Unveil path (Some a) →
-    ActionThree (Unveil path (Some a)) (action_without piece (Unveil path (Some c))) (Unveil path (Some c))
-veil_tried (InVeil bit) path a c same out = unveil_three (left_has bit a c (ap letters_in out)) same
-veil_tried (InPromises bit) path a c same out = unveil_three (last_two a c) same
-veil_tried (InExecpromises bit) path a c same out = unveil_three (last_two a c) same
+veil_tried : {kept : ℕ} (piece : Piece) (path : List ℕ) (a c : ℕ) → action_without piece (Unveil path (Some a)) ≡ Unveil path (Some a) →
+    ActionThree kept (Unveil path (Some a)) (action_without piece (Unveil path (Some c))) (Unveil path (Some c))
+veil_tried (InVeil bit) path a c out = unveil_three (left_has bit a c (ap letters_in out))
+veil_tried (InPromises bit) path a c out = unveil_three (last_two a c)
+veil_tried (InExecpromises bit) path a c out = unveil_three (last_two a c)
 
 -- any other request has no pieces
-unchanged : (piece : Piece) (x y z : Action) → ((bit : ℕ) → action_without (InPromises bit) x ≡ x) →
+unchanged : {kept : ℕ} (piece : Piece) (x y z : Action) → ((bit : ℕ) → action_without (InPromises bit) x ≡ x) →
     ((bit : ℕ) → action_without (InExecpromises bit) x ≡ x) → ((bit : ℕ) → action_without (InVeil bit) x ≡ x) → y ≡ x → z ≡ x →
-    ActionThree y (action_without piece z) z
-unchanged piece x y z a b c is it = subst (λ v. ActionThree v (action_without piece z) z) (sym is)
-    (subst (λ v. ActionThree x (action_without piece v) v) (sym it) (subst (λ v. ActionThree x v x) (sym (plain piece)) same_three))
+    ActionThree kept y (action_without piece z) z
+unchanged {kept = kept} piece x y z a b c is it = subst (λ v. ActionThree kept v (action_without piece z) z) (sym is)
+    (subst (λ v. ActionThree kept x (action_without piece v) v) (sym it) (subst (λ v. ActionThree kept x v x) (sym (plain piece)) same_three))
   where
     plain : (p : Piece) → action_without p x ≡ x
     plain (InPromises bit) = a bit
     plain (InExecpromises bit) = b bit
     plain (InVeil bit) = c bit
 
-tried : (piece : Piece) (y z x : Action) → ActionWithin y x → ActionWithin z x → errors y ≡ errors z → action_without piece y ≡ y →
-    ActionThree y (action_without piece z) z
+tried : (kept : ℕ) (piece : Piece) (y z x : Action) → ActionWithin y x → ActionWithin z x → kept_in kept y ≡ kept_in kept z →
+    action_without piece y ≡ y → ActionThree kept y (action_without piece z) z
 unfolding Wanted
-tried piece y z (Pledge q f) ly lz same out =
+tried kept piece y z (Pledge q f) ly lz same out =
     let a = wanted ly in
     let b = wanted lz in
-    subst (λ v. ActionThree v (action_without piece z) z) (sym a.is)
-    (subst (λ v. ActionThree (Pledge a.p a.e) (action_without piece v) v) (sym b.is)
-    (pledge_tried piece a.first b.first a.second b.second (ap errors (sym a.is) ∙ same ∙ ap errors b.is)
+    subst (λ v. ActionThree kept v (action_without piece z) z) (sym a.is)
+    (subst (λ v. ActionThree kept (Pledge a.p a.e) (action_without piece v) v) (sym b.is)
+    (pledge_tried piece a.first b.first a.second b.second (ap (kept_in kept) (sym a.is) ∙ same ∙ ap (kept_in kept) b.is)
     (subst (λ v. action_without piece v ≡ v) a.is out)))
-tried piece y z (Unveil path (Some s)) ly lz same out =
+tried kept piece y z (Unveil path (Some s)) ly lz same out =
     let a = wanted ly in
     let b = wanted lz in
-    subst (λ v. ActionThree v (action_without piece z) z) (sym a.1)
-    (subst (λ v. ActionThree (Unveil path (Some a.0)) (action_without piece v) v) (sym b.1)
-    (veil_tried piece path a.0 b.0 (ap (λ v. (errors v).0) (sym a.1) ∙ ap (λ z. z.0) same ∙ ap (λ v. (errors v).0) b.1)
+    subst (λ v. ActionThree kept v (action_without piece z) z) (sym a.1)
+    (subst (λ v. ActionThree kept (Unveil path (Some a.0)) (action_without piece v) v) (sym b.1)
+    (veil_tried piece path a.0 b.0
     (subst (λ v. action_without piece v ≡ v) a.1 out)))
-tried piece y z (Unveil path None) ly lz same out =
+tried kept piece y z (Unveil path None) ly lz same out =
     unchanged piece (Unveil path None) y z (λ bit. refl) (λ bit. refl) (λ bit. refl) (wanted ly) (wanted lz)
-tried piece y z x ly lz same out = unchanged piece x y z (λ bit. refl) (λ bit. refl) (λ bit. refl) (wanted ly) (wanted lz)
+tried kept piece y z x ly lz same out = unchanged piece x y z (λ bit. refl) (λ bit. refl) (λ bit. refl) (wanted ly) (wanted lz)
 
 -- what pledges and unveils lack makes no difference to what a script rests on
-still_one : (table : CallTable) {y x : Action} → ActionWithin y x → RestsOnOne table x → RestsOnOne table y
-still_one table as_given one = one
-still_one table (less_pledged p e) one = tt
-still_one table (less_unveiled less) one = tt
+still_one : (kept : ℕ) (table : CallTable) {y x : Action} → ActionWithin y x → Rests kept table x → Rests kept table y
+still_one kept table as_given one = one
+still_one kept table (less_pledged p e) one = (tt, one.1)
+still_one kept table (less_unveiled less) one = (tt, one.1)
 
-still_all : (table : CallTable) {ys xs : List Asked} → AsksWithin ys xs → RestOnOne table xs → RestOnOne table ys
-still_all table no_asks one = tt
-still_all table (asks first rest) one = (still_one table first.action one.0, still_all table rest one.1)
+abbrev AllRest : ℕ → CallTable → List Asked → Type 0
+AllRest kept table [] = Unit {0}
+AllRest kept table (ask ∷ more) = Rests kept table ask.action × AllRest kept table more
+
+still_all : (kept : ℕ) (table : CallTable) {ys xs : List Asked} → AsksWithin ys xs → AllRest kept table xs → AllRest kept table ys
+still_all kept table no_asks one = tt
+still_all kept table (asks first rest) one = (still_one kept table first.action one.0, still_all kept table rest one.1)
 
 -- a script that has less
-all_agree : (table : CallTable) (a b c : World) → WorldThree a b c → {ys xs : List Asked} → RestOnOne table ys → AsksLess ys xs →
+all_agree : (kept : ℕ) (table : CallTable) (a b c : World) → WorldThree kept a b c → {ys xs : List Asked} → AllRest kept table ys → AsksLess kept ys xs →
     answers_to table a xs ≡ answers_to table c ys → answers_to table b ys ≡ answers_to table c ys
-all_agree table a b c w one less_none e = refl
-all_agree table a b c w one (less_more {y = y} {x = x} {ys = ys} {xs = xs} less rest) e =
+all_agree kept table a b c w one less_none e = refl
+all_agree kept table a b c w one (less_more {y = y} {x = x} {ys = ys} {xs = xs} less rest) e =
     let outer : (apply table a x).0 ≡ (apply table c y).0 = heads _ _ _ _ e in
-    let inner : (apply table b y).0 ≡ (apply table c y).0 = agree_three table a b c w x y one.0 less.process less.action outer in
-    let next : WorldThree (apply table a x).1 (apply table b y).1 (apply table c y).1 =
-    step_three table a b c w x y y less.process less.process (back_three less.action less.errs) as_given (outer ∙ sym inner) inner in
+    let inner : (apply table b y).0 ≡ (apply table c y).0 = agree_three kept table a b c w x y one.0 less.process less.action outer in
+    let next : WorldThree kept (apply table a x).1 (apply table b y).1 (apply table c y).1 =
+    step_three kept table a b c w x y y less.process less.process (back_three less.action less.alike) as_given (outer ∙ sym inner) inner in
     ap (λ v. v ∷ answers_to table (apply table b y).1 ys) inner
-    ∙ ap (λ v. (apply table c y).0 ∷ v) (all_agree table (apply table a x).1 (apply table b y).1 (apply table c y).1 next one.1 rest (tails _ _ _ _ e))
+    ∙ ap (λ v. (apply table c y).0 ∷ v) (all_agree kept table (apply table a x).1 (apply table b y).1 (apply table c y).1 next one.1 rest (tails _ _ _ _ e))
 
-processes_three : (hs : List (ℕ × ProcessState)) → ProcessesThree hs hs hs
-processes_three [] = three_nobody
-processes_three (one ∷ hs) = three_somebody (state_three one.1) (processes_three hs)
+processes_three : {kept : ℕ} → holds kept error ≡ true → (hs : List (ℕ × ProcessState)) → ProcessesThree kept hs hs hs
+processes_three erring [] = three_nobody
+processes_three erring (one ∷ hs) = three_somebody (state_three erring one.1) (processes_three erring hs)
 
-module _ (table : CallTable) (w : World) (want : List Answer) where
+module _ (kept : ℕ) (table : CallTable) (w : World) (want : List Answer) where
   module _ (before after : List Asked) where
-    line_errors : (ask : Asked) (pieces : List Piece) → ((piece : Piece) → IsPieceOf pieces piece → bit_and (bit_of piece) error ≡ 0) →
-        errors (thin_line table w want before after ask pieces).action ≡ errors ask.action
-    line_errors ask [] apart = refl
-    line_errors ask (piece ∷ pieces) apart =
-        line_errors (try_piece table w want before after ask (without piece ask)) pieces (λ p among. apart p (inr among))
+    line_kept : (ask : Asked) (pieces : List Piece) → ((piece : Piece) → IsPieceOf pieces piece → bit_and (promise_left piece) kept ≡ 0) →
+        kept_in kept (thin_line table w want before after ask pieces).action ≡ kept_in kept ask.action
+    line_kept ask [] apart = refl
+    line_kept ask (piece ∷ pieces) apart =
+        line_kept (try_piece table w want before after ask (without piece ask)) pieces (λ p among. apart p (inr among))
         ∙ by (same_answers (answers_to table w (before ++ without piece ask ∷ after)) want)
       where
-        by : (b : Bool) → errors (cond {A = Asked} b (without piece ask) ask).action ≡ errors ask.action
-        by true = errors_stay piece ask.action (apart piece (inl refl))
+        by : (b : Bool) → kept_in kept (cond {A = Asked} b (without piece ask) ask).action ≡ kept_in kept ask.action
+        by true = kept_stay kept piece ask.action (apart piece (inl refl))
         by false = refl
 
     -- when a piece that is left was tried
     record Tried (start : Asked) (piece : Piece) (x : Asked) : Type 0 where
       ask : Asked
-      below : AskLess ask start
+      below : AskLess kept ask start
       good : answers_to table w (before ++ ask ∷ after) ≡ want
       bad : same_answers (answers_to table w (before ++ without piece ask ∷ after)) want ≡ false
 
     abbrev ends : Asked → List Piece → Asked
     ends ask pieces = thin_line table w want before after ask pieces
 
-    try_less : (ask : Asked) (piece : Piece) → bit_and (bit_of piece) error ≡ 0 →
-        AskLess (try_piece table w want before after ask (without piece ask)) ask
+    try_less : (ask : Asked) (piece : Piece) → bit_and (promise_left piece) kept ≡ 0 →
+        AskLess kept (try_piece table w want before after ask (without piece ask)) ask
     try_less ask piece apart = by (same_answers (answers_to table w (before ++ without piece ask ∷ after)) want)
       where
-        by : (b : Bool) → AskLess (cond b (without piece ask) ask) ask
-        by true = record { process = refl; action = without_within piece ask.action; errs = errors_stay piece ask.action apart }
-        by false = record { process = refl; action = as_given; errs = refl }
+        by : (b : Bool) → AskLess kept (cond b (without piece ask) ask) ask
+        by true = record { process = refl; action = without_within piece ask.action; alike = kept_stay kept piece ask.action apart }
+        by false = record { process = refl; action = as_given; alike = refl }
 
-    search_trial : (start ask : Asked) (pieces : List Piece) (piece : Piece) → AskLess ask start → IsPieceOf pieces piece →
-        answers_to table w (before ++ ask ∷ after) ≡ want → ((p : Piece) → IsPieceOf pieces p → bit_and (bit_of p) error ≡ 0) →
+    search_trial : (start ask : Asked) (pieces : List Piece) (piece : Piece) → AskLess kept ask start → IsPieceOf pieces piece →
+        answers_to table w (before ++ ask ∷ after) ≡ want → ((p : Piece) → IsPieceOf pieces p → bit_and (promise_left p) kept ≡ 0) →
         without piece (ends ask pieces) ≢ ends ask pieces → Tried start piece (ends ask pieces)
     search_trial start ask [] piece below among good apart left = absurd among
     search_trial start ask (other ∷ pieces) piece below (inr among) good apart left =
-        let less : AskLess (try_piece table w want before after ask (without other ask)) ask = try_less ask other (apart other (inl refl)) in
+        let less : AskLess kept (try_piece table w want before after ask (without other ask)) ask = try_less ask other (apart other (inl refl)) in
         search_trial start (try_piece table w want before after ask (without other ask)) pieces piece
-        (record { process = less.process ∙ below.process; action = action_twice less.action below.action; errs = less.errs ∙ below.errs }) among
+        (record { process = less.process ∙ below.process; action = action_twice less.action below.action; alike = less.alike ∙ below.alike }) among
         (tried_same table w want before after ask other good) (λ p a. apart p (inr a)) left
     search_trial start ask (other ∷ pieces) piece below (inl is) good apart left =
         subst (λ p. without p (ends ask (other ∷ pieces)) ≢ ends ask (other ∷ pieces) → Tried start p (ends ask (other ∷ pieces))) is
@@ -356,28 +360,28 @@ module _ (table : CallTable) (w : World) (want : List Answer) where
     over = world_after table w before
 
     -- what the other script left out of a line is left out of it
-    refute : (a : World) (line : Line) (y : Asked) (ys : List Asked) → WorldThree a over over → answers_to table w (before ++ line.ask ∷ after) ≡ want →
-        AskLess y line.ask → (piece : Piece) → IsPieceOf line.pieces piece → action_without piece y.action ≡ y.action →
-        ((p : Piece) → IsPieceOf line.pieces p → bit_and (bit_of p) error ≡ 0) → (apply table over line.ask).0 ≡ answer.Okay →
-        (apply table a y).0 ≡ (apply table over line.ask).0 → RestOnOne table after → AsksLess after ys →
+    refute : (a : World) (line : Line) (y : Asked) (ys : List Asked) → WorldThree kept a over over → answers_to table w (before ++ line.ask ∷ after) ≡ want →
+        AskLess kept y line.ask → (piece : Piece) → IsPieceOf line.pieces piece → action_without piece y.action ≡ y.action →
+        ((p : Piece) → IsPieceOf line.pieces p → bit_and (promise_left p) kept ≡ 0) → (apply table over line.ask).0 ≡ answer.Okay →
+        (apply table a y).0 ≡ (apply table over line.ask).0 → AllRest kept table after → AsksLess kept after ys →
         answers_to table (apply table a y).1 ys ≡ answers_to table (apply table over line.ask).1 after →
         without piece (ends line.ask line.pieces) ≢ ends line.ask line.pieces → ⊥
     refute a line y ys three start less piece among out apart okay head one rest tail left =
         let found : Tried line.ask piece (ends line.ask line.pieces) = search_trial line.ask line.ask line.pieces piece
-        (record { process = refl; action = as_given; errs = refl }) among start apart left in
+        (record { process = refl; action = as_given; alike = refl }) among start apart left in
         let ask : Asked = found.ask in
         let alike = prefix table (asks_self before) w w (world_self w) (ask ∷ after) (line.ask ∷ after) (found.good ∙ sym start) in
         let okay_ask : (apply table over ask).0 ≡ answer.Okay = heads _ _ _ _ alike.1 ∙ okay in
         let okay_mid : (apply table over (without piece ask)).0 ≡ answer.Okay = okay_less table over (without piece ask) ask
         (record { process = refl; action = without_within piece ask.action }) okay_ask in
         let same_process : ask.process ≡ y.process = found.below.process ∙ sym less.process in
-        let worlds : WorldThree (apply table a y).1 (apply table over (without piece ask)).1 (apply table over ask).1 =
-        step_three table a over over three y (without piece ask) ask same_process same_process
-        (tried piece y.action ask.action line.ask.action less.action found.below.action (less.errs ∙ sym found.below.errs) out)
+        let worlds : WorldThree kept (apply table a y).1 (apply table over (without piece ask)).1 (apply table over ask).1 =
+        step_three kept table a over over three y (without piece ask) ask same_process same_process
+        (tried kept piece y.action ask.action line.ask.action less.action found.below.action (less.alike ∙ sym found.below.alike) out)
         (without_within piece ask.action)
         (head ∙ okay ∙ sym okay_mid) (okay_mid ∙ sym okay_ask) in
         let both : answers_to table (apply table over (without piece ask)).1 after ≡ answers_to table (apply table over ask).1 after =
-        all_agree table (apply table a y).1 (apply table over (without piece ask)).1 (apply table over ask).1 worlds one rest
+        all_agree kept table (apply table a y).1 (apply table over (without piece ask)).1 (apply table over ask).1 worlds one rest
         (tail ∙ sym (tails _ _ _ _ alike.1)) in
         let from_line : answers_to table over (without piece ask ∷ after) ≡ answers_to table over (ask ∷ after) =
         ap (λ v. v ∷ answers_to table (apply table over (without piece ask)).1 after) (okay_mid ∙ sym okay_ask)
@@ -388,9 +392,9 @@ module _ (table : CallTable) (w : World) (want : List Answer) where
         false≢true (sym found.bad ∙ ap (λ v. same_answers v want) whole ∙ same_self want)
 
   least_from : (before : List Asked) (a : World) (lines : List Line) (less : List Asked) →
-      WorldThree a (world_after table w before) (world_after table w before) → RestOnOne table (asks_of lines) →
-      answers_to table w (before ++ asks_of lines) ≡ want → LeavesOut less lines → AreSpareable lines → AreOkay table (world_after table w before) lines →
-      answers_to table a less ≡ answers_to table (world_after table w before) (asks_of lines) → AsksLess (thin table w want before lines) less
+      WorldThree kept a (world_after table w before) (world_after table w before) → AllRest kept table (asks_of lines) →
+      answers_to table w (before ++ asks_of lines) ≡ want → LeavesOut less lines → Stay kept lines → AreOkay table (world_after table w before) lines →
+      answers_to table a less ≡ answers_to table (world_after table w before) (asks_of lines) → AsksLess kept (thin table w want before lines) less
   least_from before a [] [] three one good out spare okay e = less_none
   least_from before a [] (y ∷ ys) three one good out spare okay e = absurd out
   least_from before a (line ∷ lines) [] three one good out spare okay e = absurd out
@@ -398,14 +402,14 @@ module _ (table : CallTable) (w : World) (want : List Answer) where
       let base : World = world_after table w before in
       let after : List Asked = thin table w want (before ++ line.ask ∷ []) lines in
       let pieces : List Piece = out.0.0 in
-      let less : AskLess y line.ask = subst (λ v. AskLess v line.ask) (sym out.0.2)
-      (all_without pieces line.ask (λ p among. spare.0 p (out.0.1 p among))) in
+      let less : AskLess kept y line.ask = subst (λ v. AskLess kept v line.ask) (sym out.0.2)
+      (all_without kept pieces line.ask (λ p among. spare.0 p (out.0.1 p among))) in
       let head : (apply table a y).0 ≡ (apply table base line.ask).0 = heads _ _ _ _ e in
-      let next : WorldThree (apply table a y).1 (apply table base line.ask).1 (apply table base line.ask).1 =
-      step_three table a base base three y line.ask line.ask (sym less.process) (sym less.process) (front_three less.action less.errs) as_given head refl in
+      let next : WorldThree kept (apply table a y).1 (apply table base line.ask).1 (apply table base line.ask).1 =
+      step_three kept table a base base three y line.ask line.ask (sym less.process) (sym less.process) (front_three less.action less.alike) as_given head refl in
       let is : world_after table w (before ++ line.ask ∷ []) ≡ (apply table base line.ask).1 = one_request_more table w before line.ask in
-      let rest : AsksLess after ys = least_from (before ++ line.ask ∷ []) (apply table a y).1 lines ys
-      (subst (λ u. WorldThree (apply table a y).1 u u) (sym is) next) one.1
+      let rest : AsksLess kept after ys = least_from (before ++ line.ask ∷ []) (apply table a y).1 lines ys
+      (subst (λ u. WorldThree kept (apply table a y).1 u u) (sym is) next) one.1
       (ap (answers_to table w) (append_assoc before (line.ask ∷ []) (asks_of lines)) ∙ good) out.1 spare.1
       (subst (λ u. AreOkay table u lines) (sym is) okay.1) (tails _ _ _ _ e ∙ ap (λ u. answers_to table u (asks_of lines)) (sym is)) in
       let start : answers_to table w (before ++ line.ask ∷ after) ≡ want =
@@ -420,12 +424,12 @@ module _ (table : CallTable) (w : World) (want : List Answer) where
       let lack : (p : Piece) → IsPieceOf pieces p → without p x ≡ x = λ p among. lacks p x (decide_action p x.action)
       (refute before after a line y ys three start less p (out.0.1 p among)
       (subst (λ v. action_without p v.action ≡ v.action) (sym out.0.2) (stays_out p pieces line.ask among)) spare.0
-      (okay.0 p (out.0.1 p among)) head (still_all table (thin_within table w want (before ++ line.ask ∷ []) lines) one.1) rest tail) in
+      (okay.0 p (out.0.1 p among)) head (still_all kept table (thin_within table w want (before ++ line.ask ∷ []) lines) one.1) rest tail) in
       let in_less : AskWithin x y = subst (AskWithin x) (sym out.0.2) (within_left pieces x line.ask in_line lack) in
       less_more (record {
         process = in_less.process;
         action = in_less.action;
-        errs = line_errors before after line.ask line.pieces spare.0 ∙ sym less.errs;
+        alike = line_kept before after line.ask line.pieces spare.0 ∙ sym less.alike;
       }) rest
     where
       lacks : (p : Piece) (x : Asked) → (action_without p x.action ≡ x.action) ⊎ (action_without p x.action ≢ x.action) →
@@ -433,7 +437,19 @@ module _ (table : CallTable) (w : World) (want : List Answer) where
       lacks p x (inl is) never = ap (λ a. record { process = x.process; action = a }) is
       lacks p x (inr other) never = absurd (never (λ same. other (ap (λ v. v.action) same)))
 
+-- what opens one of the requests is among what opens some
+all_rest : (kept : ℕ) (table : CallTable) (more : List Asked) → RestOnOne table more → holds kept (openers table more) ≡ true → AllRest kept table more
+all_rest kept table [] one lies = tt
+all_rest kept table (ask ∷ more) one lies =
+    let here : ℕ = opener_of table ask.action in
+    let rest : ℕ = openers table more in (
+      (one.0, holds_through kept (bit_or here rest) here lies (has_first here rest)),
+      all_rest kept table more one.1 (holds_through kept (bit_or here rest) rest lies (has_second here rest)),
+    )
+
 pub tight_is_least : TightIsLeast
-tight_is_least table w lines less one okay spare out e =
-    forget (least_from table w (answers_to table w (asks_of lines)) [] w lines less
-    (record { later = world_self w; shared = record { tree = refl; processes = processes_three w.processes } }) one refl out spare okay e)
+tight_is_least table w lines less one okay stay out e =
+    let opened : ℕ = openers table (asks_of lines) in
+    forget (least_from (bit_or error opened) table w (answers_to table w (asks_of lines)) [] w lines less
+    (record { later = world_self w; shared = record { tree = refl; processes = processes_three (has_first error opened) w.processes } })
+    (all_rest (bit_or error opened) table (asks_of lines) one (has_second error opened)) refl out stay okay e)

@@ -18,6 +18,10 @@ refused (Err r) = Some r
 abbrev pub Agree : Decision → Decision → Decision → Type 0
 Agree f m l = refused f ≡ refused l → m ≡ l
 
+-- by equal decisions
+pub agree_by : {f g m n l k : Decision} → f ≡ g → m ≡ n → l ≡ k → Agree g n k → Agree f m l
+agree_by p q r rest e = q ∙ rest (ap refused (sym p) ∙ e ∙ ap refused r) ∙ sym r
+
 abbrev pub Refused : Refusal → Decision
 Refused r = Err r
 

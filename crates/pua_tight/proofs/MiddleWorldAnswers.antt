@@ -2,7 +2,7 @@
 -- as far as what is asked for rests on one set of promises.
 use Rattle.std.proofs.Common.{◌≡◌, ◌≤◌, ℕ, List, [], ◌∷◌, refl, sym, ap, ◌∙◌, Bool, true, false, cond, ◌||◌, ◌&&◌, length}
 use Rattle.std.proofs.lemmas.Bool.{true≢false, false≢true, and_parts, and_from}
-use Rattle.std.specs.Prelude.{Option, Some, None, Ok, nat_le}
+use Rattle.std.specs.Prelude.{Option, Some, None, Ok, nat_le, IsTrue}
 use Rattle.pua_tree.specs.Tree.{Tree}
 use Rattle.pua_path.specs.Paths.{path_fault}
 use Rattle.pua_path.specs.Fits.{node_named}
@@ -13,6 +13,7 @@ use Rattle.pua_path.specs.declared.found.Last.TheVariants.{Followed}
 use Rattle.pua_path.specs.declared.text.Ending.TheVariants as ending
 use Rattle.pua_calls.specs.Calls.{CallTable, rule_of}
 use Rattle.pua_calls.specs.Promises.{holds, proc, unveil, error}
+use Rattle.pua_calls.specs.declared.call.Call.{Call}
 use Rattle.pua_calls.specs.declared.call.Call.TheVariants as call
 use Rattle.std.specs.List.{list_any}
 use Rattle.pua_policy.specs.States.{ProcessState, Unveiled, Pledged, Locked, Ended, may_any, place_fault, has_error}
@@ -25,26 +26,28 @@ use Rattle.pua_policy.specs.declared.answer.Refusal.{Refusal}
 use Rattle.pua_policy.specs.declared.answer.UnveilFault.TheVariants.{NotPermitted, TooManyPlaces}
 use Rattle.pua_script.specs.Decide.{NoChange, Change, AddEvent, CopyAs, Decision, refusals, asker_of, decide, object_by}
 use Rattle.pua_script.specs.Decide.{objects_by, rename_by, asks_directory, link_by, veil_by, unless_refused, change_by, adding}
-use Rattle.pua_script.specs.Decide.{link_node, fault_if, is_unknown, given_set, unveil_errno}
+use Rattle.pua_script.specs.Decide.{link_node, fault_if, is_unknown, given_set, unveil_errno, decide_by, asker_past, past_promises}
+use Rattle.pua_script.specs.Openings.{Opening, opening_of}
 use Rattle.pua_script.specs.declared.request.Given.{Given}
 use Rattle.pua_script.specs.declared.request.Action.{Action}
-use Rattle.pua_script.specs.declared.request.Action.TheVariants.{OnPath, Symlink, Rename, Link, Pledge, Unveil, Lock, Fork, Exit, Uses}
+use Rattle.pua_script.specs.declared.request.Action.TheVariants.{OnPath, Symlink, Rename, Link, Pledge, Unveil, Lock, Fork, Exit, Uses, Comment}
 use Rattle.pua_tight.specs.Narrower.{StateWithin}
 use Rattle.pua_policy.proofs.ForCallers.{holds_through}
 use Rattle.pua_tight.proofs.Within.{held_within, as_many}
 use Rattle.pua_tight.proofs.Decided.{easier}
+use Rattle.pua_tight.proofs.Openers.{opened_alike}
 use Rattle.pua_tight.proofs.RareRefusals.{rare, checked_plain, path_plain, locked_plain, object_plain, objects_plain}
 use Rattle.pua_tight.proofs.RareRefusals.{rename_plain, link_plain, veiling_plain}
 use Rattle.std.proofs.Common.{inl, inr, ◌⊎◌, arith}
 use Rattle.pua_tight.specs.Narrower.{GivenWithin, given_none, given_unknown, given_less, ActionWithin, as_given, less_pledged, less_unveiled}
-use Rattle.pua_tight.specs.Laws.{RestsOnOne}
+use Rattle.pua_tight.specs.Laws.{HasOneSet, RestsOnOne, opener_of}
 use Rattle.pua_tight.proofs.Sets.{three_bools, holds_self}
 use Rattle.pua_tight.proofs.Tightened.{given_self}
-use Rattle.pua_tight.proofs.MiddleDecision.{Agree, Misses, Refused, refused, refused_is, some_is, none_some, check, last_check, same_check}
+use Rattle.pua_tight.proofs.MiddleDecision.{Agree, agree_by, Misses, Refused, refused, refused_is, some_is, none_some, check, last_check, same_check}
 use Rattle.pua_tight.proofs.MiddleDecision.{misses_by}
 use Rattle.pua_tight.proofs.MiddleWorldDecides.{valued_by, value, value_is, value_rare}
-use Rattle.pua_tight.proofs.Covered.{Covered, at_path, object_agrees, pair_agrees}
-use Rattle.pua_tight.proofs.ThreeProcesses.{SetThree, three_unset, three_some, StateThree, CoverThree, three_all, three_nothing, three_only}
+use Rattle.pua_tight.proofs.Covered.{Covered, at_path, named_agrees, object_agrees, pair_agrees}
+use Rattle.pua_tight.proofs.ThreeProcesses.{SetThree, LettersThree, three_unset, three_some, StateThree, CoverThree, three_all, three_nothing, three_only}
 use Rattle.pua_tight.proofs.ThreeProcesses.{held_three, error_outer, kept_three, cover_three, has_both, same_truth}
 
 cover_misses : {c d e : Cover} → CoverThree c d e → (perms : ℕ) → Misses (cover_fault c perms) (cover_fault d perms) (cover_fault e perms)
@@ -62,7 +65,7 @@ cover_outer (three_only {a = a} has) perms u e f = by (holds a perms) e
     by true e = none_some u (sym e)
     by false e = sym (some_is EACCES u e)
 
-within_three : {p q : Given} → GivenWithin p q → {a b c : Option ℕ} → SetThree a b c → is_within (given_set p) c ≡ true →
+within_three : {p q : Given} → GivenWithin p q → {kept : ℕ} {a b c : Option ℕ} → SetThree kept a b c → is_within (given_set p) c ≡ true →
     is_within (given_set q) a ≡ true → is_within (given_set p) b ≡ true
 within_three given_none s e f = refl
 within_three given_unknown s e f = refl
@@ -101,7 +104,11 @@ over : (h : ProcessState) (sets : List ℕ) → h.ended ≡ true → refusal_of 
 over h sets e = ap (λ x. refusal_of (cond x may.Death (cond (list_any (holds (held_set h)) sets) may.Yes (cond (has_error h) may.Enosys may.Death)))) e
     ∙ ap (λ x. Some (valued_by x (has_error h))) (sym e)
 
-module _ (table : CallTable) (t : Tree) (l m s : ProcessState) (w : StateThree l m s) (later : StateWithin m s) where
+-- what is asked for rests on one set of promises, and all promises that open it by themselves are among these
+abbrev pub Rests : ℕ → CallTable → Action → Type 0
+Rests kept table action = RestsOnOne table action × IsTrue (holds kept (opener_of table action))
+
+module _ (kept : ℕ) (table : CallTable) (t : Tree) (l m s : ProcessState) (w : StateThree kept l m s) (later : StateWithin m s) where
   abbrev lacks : ProcessState → List ℕ → Option Refusal
   lacks x sets = refusal_of (may_any x sets)
 
@@ -190,7 +197,7 @@ module _ (table : CallTable) (t : Tree) (l m s : ProcessState) (w : StateThree l
       (λ e. inl e) (placed (kept_three w.veils place) (length l.veils) (length m.veils) (length s.veils) (as_many later.veils))
       l.locked m.locked s.locked w.locked later.locked
     where
-      placed : {p q r : Option ℕ} → SetThree p q r → (x y z : ℕ) → y ≡ z → unveil_errno (place_fault q y a) ≡ Some v →
+      placed : {p q r : Option ℕ} → LettersThree p q r → (x y z : ℕ) → y ≡ z → unveil_errno (place_fault q y a) ≡ Some v →
           (unveil_errno (place_fault r z a) ≡ Some v) ⊎ (unveil_errno (place_fault p x b) ≡ Some v)
       placed three_unset x y z same e =
           inl (ap (λ n. unveil_errno (cond (nat_le most_places n) (Some TooManyPlaces) None)) (sym same) ∙ e)
@@ -279,13 +286,32 @@ module _ (table : CallTable) (t : Tree) (l m s : ProcessState) (w : StateThree l
   granted_agree : (c : Change) → Agree (Ok c) (Ok c) (Ok c)
   granted_agree c e = refl
 
-  same_agrees : (action : Action) → RestsOnOne table action → Agree (decide table t l action) (decide table t m action) (decide table t s action)
-  same_agrees (OnPath call path) one = promises (rule_of table call).alternatives one (at l) (at m) (at s)
-      (object_agrees t l m s covered table call path (change_by table call)) (plain_late (at m) (at s) (object_plain table t s call path (change_by table call)))
-    where
-      at : ProcessState → Decision
-      at z = object_by refusals table t (asker_of z) call path (λ x. Ok (change_by table call x))
-  same_agrees (Symlink target path) one = promises (rule_of table call.Symlink).alternatives one (linked l) (linked m) (linked s)
+  -- a call that one of them has opened by a promise all have
+  module _ (call : Call) (path : List ℕ) where
+    abbrev decided : Option Opening → ProcessState → Decision
+    decided o z = decide_by refusals table t (asker_past o (asker_of z)) (OnPath call path)
+
+    abbrev at : ProcessState → Decision
+    at z = object_by refusals table t (asker_of z) call path (λ x. Ok (change_by table call x))
+
+    opened_agrees : (veils : Bool) → Agree (object_by refusals table t (past_promises veils (asker_of l)) call path (λ x. Ok (change_by table call x)))
+        (object_by refusals table t (past_promises veils (asker_of m)) call path (λ x. Ok (change_by table call x)))
+        (object_by refusals table t (past_promises veils (asker_of s)) call path (λ x. Ok (change_by table call x)))
+    opened_agrees true = object_agrees t l m s covered table call path (change_by table call)
+    opened_agrees false = named_agrees t l m s covered table call path (change_by table call) (λ x. None) (λ x. None) (λ x. None)
+        (λ x v e. inl e) (λ x e. e)
+
+    call_agrees : HasOneSet (rule_of table call) → (o : Option Opening) → Agree (decided o l) (decided o m) (decided o s)
+    call_agrees one None = promises (rule_of table call).alternatives one (at l) (at m) (at s)
+        (object_agrees t l m s covered table call path (change_by table call)) (plain_late (at m) (at s) (object_plain table t s call path (change_by table call)))
+    call_agrees one (Some o) = opened_agrees o.asks_veils
+
+  same_agrees : (action : Action) → Rests kept table action → Agree (decide table t l action) (decide table t m action) (decide table t s action)
+  same_agrees (OnPath call path) one =
+      let alike = opened_alike l m s w later table call path one.1 in
+      agree_by (ap (λ o. decided call path o l) alike.0) (ap (λ o. decided call path o m) alike.1) refl
+      (call_agrees call path one.0 (opening_of table s call path))
+  same_agrees (Symlink target path) one = promises (rule_of table call.Symlink).alternatives one.0 (linked l) (linked m) (linked s)
       (same_check (path_fault target) (path_fault target) (path_fault target) refl refl (at l) (at m) (at s)
       (object_agrees t l m s covered table call.Symlink path (adding (link_node target))))
       (plain_late (linked m) (linked s) (checked_plain (path_fault target) (at s) (path_plain target)
@@ -296,14 +322,14 @@ module _ (table : CallTable) (t : Tree) (l m s : ProcessState) (w : StateThree l
 
       linked : ProcessState → Decision
       linked z = check (path_fault target) (at z)
-  same_agrees (Rename old new) one = two_promises table.rename.old.needs.alternatives table.rename.new.needs.alternatives one.0 one.1
+  same_agrees (Rename old new) one = two_promises table.rename.old.needs.alternatives table.rename.new.needs.alternatives one.0.0 one.0.1
       (at l) (at m) (at s) (pair_agrees t l m s covered table.whose table.rename ending.Dropped old new (λ x y. rename_by refusals t (asks_directory table.whose old new) x y (node_named x)))
       (objects_plain table.whose table.rename t s ending.Dropped old new (λ x y. rename_by refusals t (asks_directory table.whose old new) x y (node_named x))
       (λ x y. rename_plain t (asks_directory table.whose old new) x y (node_named x)))
     where
       at : ProcessState → Decision
       at z = objects_by refusals table.whose table.rename t (asker_of z) ending.Dropped old new (λ x y. rename_by refusals t (asks_directory table.whose old new) x y (node_named x))
-  same_agrees (Link old new) one = two_promises table.link.old.needs.alternatives table.link.new.needs.alternatives one.0 one.1
+  same_agrees (Link old new) one = two_promises table.link.old.needs.alternatives table.link.new.needs.alternatives one.0.0 one.0.1
       (at l) (at m) (at s) (pair_agrees t l m s covered table.whose table.link ending.Dot old new (λ x y. link_by refusals x y (node_named x)))
       (objects_plain table.whose table.link t s ending.Dot old new (λ x y. link_by refusals x y (node_named x)) (λ x y. link_plain x y (node_named x)))
     where
@@ -317,11 +343,12 @@ module _ (table : CallTable) (t : Tree) (l m s : ProcessState) (w : StateThree l
   same_agrees (Fork new) one = promises (proc ∷ []) (omega arith) (Ok (CopyAs new)) (Ok (CopyAs new)) (Ok (CopyAs new))
       (granted_agree (CopyAs new)) (plain_late (Ok (CopyAs new)) (Ok (CopyAs new)) refl)
   same_agrees Exit one = granted_agree (AddEvent Ended)
-  same_agrees (Uses sets) one = promises sets one (Ok NoChange) (Ok NoChange) (Ok NoChange) (granted_agree NoChange)
+  same_agrees (Uses sets) one = promises sets one.0 (Ok NoChange) (Ok NoChange) (Ok NoChange) (granted_agree NoChange)
       (plain_late (Ok NoChange) (Ok NoChange) refl)
+  same_agrees Comment one = granted_agree NoChange
 
   -- the first one asks for no less
-  pub agrees : {y x : Action} → ActionWithin y x → RestsOnOne table y → Agree (decide table t l x) (decide table t m y) (decide table t s y)
+  pub agrees : {y x : Action} → ActionWithin y x → Rests kept table y → Agree (decide table t l x) (decide table t m y) (decide table t s y)
   agrees (as_given {action = action}) one = same_agrees action one
   agrees (less_pledged p e) one = pledge_agrees p e
   agrees (less_unveiled {path = path} {a = a} {b = b} less) one = unveil_agrees path a b less

@@ -1,5 +1,5 @@
 -- Of three worlds, each within the next, the middle one decides a request as the outer two do, where these decide it alike.
-use Rattle.std.proofs.Common.{◌≡◌, ℕ, List, [], ◌∷◌, refl, sym, ap, ◌∙◌, Bool, true, false, cond, ◌||◌, length, inr}
+use Rattle.std.proofs.Common.{◌≡◌, ℕ, List, [], ◌∷◌, refl, sym, ap, ◌∙◌, Bool, true, false, cond, subst, ◌||◌, length, inr}
 use Rattle.std.proofs.lemmas.Bool.{true≢false, false≢true}
 use Rattle.std.specs.Prelude.{Option, Some, None, Ok, Err, nat_le}
 use Rattle.pua_tree.specs.Tree.{Tree}
@@ -12,6 +12,7 @@ use Rattle.pua_path.specs.declared.found.Last.TheVariants.{Followed}
 use Rattle.pua_path.specs.declared.text.Ending.TheVariants as ending
 use Rattle.pua_calls.specs.Calls.{CallTable, rule_of}
 use Rattle.pua_calls.specs.Promises.{holds, proc, unveil, error}
+use Rattle.pua_calls.specs.declared.call.Call.{Call}
 use Rattle.pua_calls.specs.declared.call.Call.TheVariants as call
 use Rattle.std.specs.List.{list_any}
 use Rattle.pua_policy.specs.States.{ProcessState, Unveiled, Pledged, Locked, may_any, place_fault, has_error}
@@ -25,19 +26,21 @@ use Rattle.pua_policy.specs.declared.answer.Refusal.TheVariants.{Failed, Killed}
 use Rattle.pua_policy.specs.declared.answer.UnveilFault.TheVariants.{NotPermitted, TooManyPlaces}
 use Rattle.pua_script.specs.Decide.{NoChange, AddEvent, CopyAs, Decision, refusals, asker_of, decide, object_by}
 use Rattle.pua_script.specs.Decide.{objects_by, rename_by, asks_directory, link_by, veil_by, unless_refused, unless_failed, change_by, adding}
-use Rattle.pua_script.specs.Decide.{link_node, fault_if, is_unknown, given_set, unveil_errno}
+use Rattle.pua_script.specs.Decide.{link_node, fault_if, is_unknown, given_set, unveil_errno, Sole, decide_by, asker_past, past_promises, cover_past}
+use Rattle.pua_script.specs.Openings.{Opening, opening_of}
 use Rattle.pua_script.specs.declared.request.Action.{Action}
-use Rattle.pua_script.specs.declared.request.Action.TheVariants.{OnPath, Symlink, Rename, Link, Pledge, Unveil, Lock, Fork, Exit, Uses}
+use Rattle.pua_script.specs.declared.request.Action.TheVariants.{OnPath, Symlink, Rename, Link, Pledge, Unveil, Lock, Fork, Exit, Uses, Comment}
 use Rattle.pua_tight.specs.Narrower.{SetWithin, unset, within, StateWithin}
 use Rattle.pua_policy.proofs.ForCallers.{holds_through}
 use Rattle.pua_tight.proofs.Sets.{two_bools}
 use Rattle.pua_tight.proofs.Within.{held_within, kept_within, as_many, CoverWithin}
 use Rattle.pua_tight.proofs.Within.{all, nothing, only, cover_within}
 use Rattle.pua_tight.proofs.Decided.{easier, gives_more}
-use Rattle.pua_tight.proofs.MiddleDecision.{Agree, Refused, refused, refused_is, some_is, none_some, last_check, same_check}
+use Rattle.pua_tight.proofs.MiddleDecision.{Agree, Misses, Refused, refused, refused_is, some_is, none_some, last_check, same_check}
 use Rattle.pua_tight.proofs.MiddleDecision.{back_by}
-use Rattle.pua_tight.proofs.Covered.{Covered, at_path, object_agrees, pair_agrees, cover_back, cover_lack}
-use Rattle.pua_tight.proofs.RareRefusals.{rare, checked_plain, path_plain, locked_plain, object_plain, objects_plain}
+use Rattle.pua_tight.proofs.Covered.{Covered, at_path, named_agrees, object_agrees, pair_agrees, passes, cover_back, cover_lack}
+use Rattle.pua_tight.proofs.Openers.{opened_more}
+use Rattle.pua_tight.proofs.RareRefusals.{rare, checked_plain, path_plain, locked_plain, object_plain, opened_plain, objects_plain}
 use Rattle.pua_tight.proofs.RareRefusals.{rename_plain, link_plain, veiling_plain}
 
 -- the refusal of one that lacks a promise
@@ -163,12 +166,68 @@ module _ (table : CallTable) (t : Tree) (g h k : ProcessState) (v : StateWithin 
   beyond_back : (p e : Option ℕ) (s : Errno) → pledge_fault table.whose h p e ≡ Some s → pledge_fault table.whose g p e ≡ Some s
   beyond_back p e = back_by (λ x. cond x None (Some EPERM)) refl _ _ (gives_more g h v table.whose p e)
 
+  -- a call on a path: the promises and the veils are asked, unless a promise opens it, and then the veils as the opening has it
+  module _ (call : Call) (path : List ℕ) where
+    abbrev alternatives : List ℕ
+    alternatives = (rule_of table call).alternatives
+
+    abbrev perms : ℕ
+    perms = (rule_of table call).perms
+
+    abbrev uncovered : Bool → ProcessState → Found → Option Errno
+    uncovered asks z x = cover_past asks (asker_of z).cover Sole t x perms
+
+    abbrev object_at : Bool → ProcessState → Decision
+    object_at asks z = object_by refusals table t (past_promises asks (asker_of z)) call path (λ x. Ok (change_by table call x))
+
+    abbrev decided : Option Opening → ProcessState → Decision
+    decided o z = decide_by refusals table t (asker_past o (asker_of z)) (OnPath call path)
+
+    cover_back_past : (x y z : Bool) → (y ≡ true → x ≡ true) → (object : Found) →
+        Misses (uncovered x g object) (uncovered y h object) (uncovered z k object)
+    cover_back_past x false z asked object s e = none_some s (sym e)
+    cover_back_past true true z asked object s e = inr (cover_back (cover_within v.veils t object) perms s e)
+    cover_back_past false true z asked object s e = absurd (false≢true (asked refl))
+
+    passes_past : (y z : Bool) → (z ≡ true → y ≡ true) → (object : Found) → uncovered y h object ≡ None → uncovered z k object ≡ None
+    passes_past y false asked object e = refl
+    passes_past true true asked object e = passes t g h k covered object perms e
+    passes_past false true asked object e = absurd (false≢true (asked refl))
+
+    -- where the veils are asked of one that has less, and of no other
+    object_between : (x y z : Bool) → (y ≡ true → x ≡ true) → (z ≡ true → y ≡ true) → Agree (object_at x g) (object_at y h) (object_at z k)
+    object_between x y z first second = named_agrees t g h k covered table call path (change_by table call)
+        (uncovered x g) (uncovered y h) (uncovered z k) (cover_back_past x y z first) (passes_past y z second)
+
+    plain_at : (asks : Bool) → rare (object_at asks k) ≡ false
+    plain_at asks = opened_plain table t k asks call path (change_by table call)
+
+    -- promises that the last one isn't asked for
+    not_last : (m l : Decision) → (lacks g alternatives ≡ None → Agree (object_at true g) m l) → rare l ≡ false →
+        Agree (unless_refused (lacks g alternatives) (object_at true g)) m l
+    not_last m l rest plain = by (lacks g alternatives) refl
+      where
+        by : (a : Option Refusal) → lacks g alternatives ≡ a → Agree (unless_refused a (object_at true g)) m l
+        by None is e = rest is e
+        by (Some x) is e = (plain_late {m = m} {l = l} plain (sym e ∙ ap (λ z. Some z) (value_is g alternatives x is))).0
+
+    called : (p q r : Option Opening) → ((o : Opening) → p ≡ Some o → q ≡ Some o) → ((o : Opening) → q ≡ Some o → r ≡ Some o) →
+        Agree (decided p g) (decided q h) (decided r k)
+    called None None None first second = promised_one alternatives (object_at true g) (object_at true h) (object_at true k)
+        (object_between true true true (λ e. e) (λ e. e)) (plain_late (plain_at true))
+    called None None (Some o) first second = not_last (decided None h) (object_at o.asks_veils k)
+        (λ none e. ap (λ z. unless_refused z (object_at true h)) ((easier g h v).promises alternatives none)
+        ∙ object_between true true o.asks_veils (λ e. e) (λ e. refl) e) (plain_at o.asks_veils)
+    called None (Some o) r first second = subst (λ r. Agree (decided None g) (decided (Some o) h) (decided r k)) (sym (second o refl))
+        (not_last (object_at o.asks_veils h) (object_at o.asks_veils k)
+        (λ none. object_between true o.asks_veils o.asks_veils (λ e. refl) (λ e. e)) (plain_at o.asks_veils))
+    called (Some o) q r first second = subst (λ q. Agree (decided (Some o) g) (decided q h) (decided r k)) (sym (first o refl))
+        (subst (λ r. Agree (decided (Some o) g) (decided (Some o) h) (decided r k)) (sym (second o (first o refl)))
+        (object_between o.asks_veils o.asks_veils o.asks_veils (λ e. e) (λ e. e)))
+
   pub between : (action : Action) → Agree (decide table t g action) (decide table t h action) (decide table t k action)
-  between (OnPath call path) = promised_one (rule_of table call).alternatives
-      (object_by refusals table t (asker_of g) call path (λ x. Ok (change_by table call x)))
-      (object_by refusals table t (asker_of h) call path (λ x. Ok (change_by table call x)))
-      (object_by refusals table t (asker_of k) call path (λ x. Ok (change_by table call x)))
-      (object_agrees t g h k covered table call path (change_by table call)) (plain_late (object_plain table t k call path (change_by table call)))
+  between (OnPath call path) = called call path (opening_of table g call path) (opening_of table h call path) (opening_of table k call path)
+      (opened_more g h v table call path) (opened_more h k w table call path)
   between (Symlink target path) = promised_one (rule_of table call.Symlink).alternatives (linked g) (linked h) (linked k)
       (same_check (path_fault target) (path_fault target) (path_fault target) refl refl (object_at g) (object_at h) (object_at k)
       (object_agrees t g h k covered table call.Symlink path (adding (link_node target))))
@@ -221,3 +280,4 @@ module _ (table : CallTable) (t : Tree) (g h k : ProcessState) (v : StateWithin 
       (λ e. refl) (plain_late refl)
   between Exit = λ e. refl
   between (Uses sets) = promised_one sets (Ok NoChange) (Ok NoChange) (Ok NoChange) (λ e. refl) (plain_late refl)
+  between Comment = λ e. refl

@@ -25,17 +25,18 @@ use Rattle.pua_script.specs.Requests.{Asked}
 use Rattle.pua_script.specs.Family.{is_okay}
 use Rattle.pua_script.specs.Decide.{Change, NoChange, AddNode, CutRow, ShiftRow, TieRow, BeginProgram, AddEvent, CopyAs, Decision, decide}
 use Rattle.pua_script.specs.Decide.{refusals, unless_refused, unless_failed, change_by, adding, link_node, rename_by, asks_directory}
-use Rattle.pua_script.specs.Decide.{link_by, fault_if, is_unknown}
+use Rattle.pua_script.specs.Decide.{link_by, fault_if, is_unknown, asker_of, asker_past, decide_by}
+use Rattle.pua_script.specs.Openings.{Opening, opening_of}
 use Rattle.pua_script.specs.Replay.{World, kept_at, Fails, Copies, edit_effect, edited_tree, change_effect, refusal_effect}
 use Rattle.pua_script.specs.Replay.{come_of, answer_to, do_decided, answer_and_world, apply, answers_to, world_after}
 use Rattle.pua_script.specs.declared.answer.Answer.{Answer}
 use Rattle.pua_script.specs.declared.answer.Answer.TheVariants as answer
 use Rattle.pua_script.specs.declared.request.Action.{Action}
-use Rattle.pua_script.specs.declared.request.Action.TheVariants.{OnPath, Symlink, Rename, Link, Pledge, Unveil, Lock, Fork, Exit, Uses}
+use Rattle.pua_script.specs.declared.request.Action.TheVariants.{OnPath, Symlink, Rename, Link, Pledge, Unveil, Lock, Fork, Exit, Uses, Comment}
 use Rattle.pua_tight.specs.Narrower.{StateWithin, ProcessesWithin, WorldWithin, AskWithin, AsksWithin, no_asks, asks}
 use Rattle.pua_tight.proofs.Sets.{three_bools}
-use Rattle.pua_tight.proofs.Decided.{easier, granted_more}
-use Rattle.pua_tight.proofs.RareRefusals.{is_rare, rare, checked_plain, path_plain, locked_plain, unknown_plain, object_plain, objects_plain}
+use Rattle.pua_tight.proofs.Decided.{easier_for, granted_more}
+use Rattle.pua_tight.proofs.RareRefusals.{is_rare, rare, checked_plain, path_plain, locked_plain, unknown_plain, object_plain, opened_plain, objects_plain}
 use Rattle.pua_tight.proofs.RareRefusals.{rename_plain, link_plain, veiling_plain}
 use Rattle.pua_tight.proofs.MiddleDecision.{refused}
 use Rattle.pua_tight.proofs.MiddleWorldDecides.{between}
@@ -82,8 +83,11 @@ beyond_plain false c = refl
 
 -- no refusal is want of room
 pub decide_full : (table : CallTable) (t : Tree) (h : ProcessState) (action : Action) → full (decide table t h action) ≡ false
-decide_full table t h (OnPath c path) = promise_full (may_any h (rule_of table c).alternatives) _
-    (not_full _ (object_plain table t h c path (change_by table c)))
+decide_full table t h (OnPath c path) = by (opening_of table h c path)
+  where
+    by : (o : Option Opening) → full (decide_by refusals table t (asker_past o (asker_of h)) (OnPath c path)) ≡ false
+    by None = promise_full (may_any h (rule_of table c).alternatives) _ (not_full _ (object_plain table t h c path (change_by table c)))
+    by (Some o) = not_full _ (opened_plain table t h o.asks_veils c path (change_by table c))
 decide_full table t h (Symlink target path) = promise_full (may_any h (rule_of table call.Symlink).alternatives) _
     (not_full _ (checked_plain (path_fault target) _ (path_plain target) (object_plain table t h call.Symlink path (adding (link_node target)))))
 decide_full table t h (Rename old new) = promise_full (may_any h table.rename.old.needs.alternatives) _
@@ -101,6 +105,7 @@ decide_full table t h Lock = promise_full (may_any h (unveil ∷ [])) _ refl
 decide_full table t h (Fork new) = promise_full (may_any h (proc ∷ [])) _ refl
 decide_full table t h Exit = refl
 decide_full table t h (Uses sets) = promise_full (may_any h sets) _ refl
+decide_full table t h Comment = refl
 
 okay_not : {A : Type 0} (r : Refusal) → answer.Okay ≡ answer_to (refusal_effect r) → A
 okay_not r e = not_okay r (ap is_okay (sym e))
@@ -157,7 +162,7 @@ module _ (table : CallTable) (t : Tree) (hs ms ks : List (ℕ × ProcessState)) 
         by : (d f : Decision) → decide table t g action ≡ d → decide table t k action ≡ f →
             answer_to (come_of lo g d) ≡ answer_to (come_of hi k f) →
             answer_to (come_of mid h (decide table t h action)) ≡ answer_to (come_of lo g d)
-        by (Ok c) f p q e = ap (λ d. answer_to (come_of mid h d)) (granted_more table t _ _ (easier g h v) c action p)
+        by (Ok c) f p q e = ap (λ d. answer_to (come_of mid h d)) (granted_more table t _ _ (easier_for g h v table action) c action p)
             ∙ sym (answered_alike (alike_within t hs ms low g h v c))
         by (Err r) (Ok c) p q e =
             absurd (true≢false (sym (change_full hi k r c (sym e)) ∙ ap full (sym p) ∙ decide_full table t g action))

@@ -39,7 +39,7 @@ use Rattle.pua_policy.specs.declared.answer.UnveilFault.TheVariants as unveil_fa
 use Rattle.pua_policy.specs.declared.answer.Refusal.TheVariants.{Failed, Killed}
 use Rattle.pua_script.specs.Decide.{Change, NoChange, Decision, asker_of, refusals, unless_failed, on_named, object_by, objects_by, veil_by}
 use Rattle.pua_script.specs.Decide.{dots_fault, top_fault, kinds_fault, inside_fault, ways_fault, fault_if, is_whole, rename_by, link_by, shifting}
-use Rattle.pua_script.specs.Decide.{unveil_errno, before_long, errno_behind, front_errno, named_in, path_named}
+use Rattle.pua_script.specs.Decide.{Sole, past_promises, cover_past, unveil_errno, before_long, errno_behind, front_errno, named_in, path_named}
 use Rattle.pua_calls.specs.declared.rules.Rules.{Rules}
 use Rattle.pua_calls.specs.declared.rules.Rules.TheVariants.{Standard, Openbsd}
 
@@ -226,16 +226,27 @@ locked_plain b = if_plain b EPERM refl
 pub unknown_plain : (b : Bool) → rare_fault (fault_if b EINVAL) ≡ false
 unknown_plain b = if_plain b EINVAL refl
 
-pub object_plain : (table : CallTable) (t : Tree) (h : ProcessState) (c : Call) (path : List ℕ) (f : Found → Change) →
-    rare (object_by refusals table t (asker_of h) c path (λ x. Ok (f x))) ≡ false
-object_plain table t h c path f = named_plain (path_named table.whose t (working_dir h) (ending_of c) path (last_of c))
-    (λ x. unless_failed refusals.failed (or_fault (cover_fault (cover t h x) (rule_of table c).perms)
+past_cover_plain : (veils : Bool) (t : Tree) (h : ProcessState) (x : Found) (perms : ℕ) →
+    rare_fault (cover_past veils (asker_of h).cover Sole t x perms) ≡ false
+past_cover_plain true t h x perms = cover_plain (cover t h x) perms
+past_cover_plain false t h x perms = refl
+
+-- so of a call that a promise opens
+pub opened_plain : (table : CallTable) (t : Tree) (h : ProcessState) (veils : Bool) (c : Call) (path : List ℕ) (f : Found → Change) →
+    rare (object_by refusals table t (past_promises veils (asker_of h)) c path (λ x. Ok (f x))) ≡ false
+opened_plain table t h veils c path f = named_plain (path_named table.whose t (working_dir h) (ending_of c) path (last_of c))
+    (λ x. unless_failed refusals.failed (or_fault (cover_past veils (asker_of h).cover Sole t x (rule_of table c).perms)
     (option_map misfit_errno (misfit table.whose t c (object_of t x)))) (Ok (f x)))
     (named_any table.whose t (working_dir h) (ending_of c) path (last_of c))
-    (λ x. checked_plain (or_fault (cover_fault (cover t h x) (rule_of table c).perms) (option_map misfit_errno (misfit table.whose t c (object_of t x))))
-    (Ok (f x))
-    (or_plain (cover_fault (cover t h x) (rule_of table c).perms) (option_map misfit_errno (misfit table.whose t c (object_of t x)))
-    (cover_plain (cover t h x) (rule_of table c).perms) (misfit_plain (misfit table.whose t c (object_of t x)))) refl)
+    (λ x. checked_plain (or_fault (cover_past veils (asker_of h).cover Sole t x (rule_of table c).perms)
+    (option_map misfit_errno (misfit table.whose t c (object_of t x)))) (Ok (f x))
+    (or_plain (cover_past veils (asker_of h).cover Sole t x (rule_of table c).perms)
+    (option_map misfit_errno (misfit table.whose t c (object_of t x)))
+    (past_cover_plain veils t h x (rule_of table c).perms) (misfit_plain (misfit table.whose t c (object_of t x)))) refl)
+
+pub object_plain : (table : CallTable) (t : Tree) (h : ProcessState) (c : Call) (path : List ℕ) (f : Found → Change) →
+    rare (object_by refusals table t (asker_of h) c path (λ x. Ok (f x))) ≡ false
+object_plain table t h c path f = opened_plain table t h true c path f
 
 pub objects_plain : (whose : Rules) (pair : PairRule) (t : Tree) (h : ProcessState) (end : Ending) (old new : List ℕ) (f : Found → Found → Decision) →
     ((x y : Found) → rare (f x y) ≡ false) → rare (objects_by refusals whose pair t (asker_of h) end old new f) ≡ false

@@ -1,10 +1,13 @@
 -- Sets within sets, and tests that are passed where others are.
-use Rattle.std.proofs.Common.{◌≡◌, ℕ, List, [], ◌∷◌, refl, sym, ap, ◌∙◌, true, false, Bool, cond, ◌||◌, ◌&&◌, subst}
+use Rattle.std.proofs.Common.{◌≡◌, ℕ, List, [], ◌∷◌, refl, sym, ap, ◌∙◌, true, false, Bool, cond, ◌||◌, ◌&&◌, subst, min, max, arith}
 use Rattle.std.proofs.lemmas.Bool.{true≢false, false≢true, eqb-true, eq-eqb, and_parts, and_from, or_right}
 use Rattle.std.specs.List.{list_any, list_all}
-use Rattle.std.proofs.lemmas.Nat.{and_assoc, and_comm}
-use Rattle.std.specs.Int.Bits.{and_self}
-use Rattle.std.specs.Prelude.{bit_and, Option, Some, None, unwrap_or}
+use Rattle.std.proofs.lemmas.Nat.{and_assoc, and_comm, or_comm}
+use Rattle.std.specs.Int.Bits.{and_self, and_zero_r}
+use Rattle.std.proofs.lemmas.Nat.{and_or_self}
+use Rattle.std.proofs.lemmas.Nat.Bits.{bit_at_and, bit_at_or, bit_at-zero, same_from_bits}
+use Rattle.std.specs.Int.{bit_at}
+use Rattle.std.specs.Prelude.{bit_and, bit_or, Option, Some, None, unwrap_or}
 use Rattle.pua_calls.specs.Promises.{holds}
 use Rattle.pua_policy.specs.States.{is_within, narrowed_set}
 use Rattle.pua_policy.proofs.ForCallers.{holds_through}
@@ -50,6 +53,28 @@ holds_both a b c d first second =
     eq-eqb _ _ (and_assoc (bit_and a c) b d
     ∙ ap (bit_and b) (sym (and_assoc c d a) ∙ ap (λ x. bit_and x c) (and_comm d a) ∙ and_assoc c a d ∙ ap (bit_and a) it)
     ∙ sym (and_assoc c b a) ∙ ap (λ x. bit_and x c) is)
+
+-- a union has both of its sets
+pub has_second : (a b : ℕ) → holds (bit_or a b) b ≡ true
+has_second a b = eq-eqb _ _ (and_or_self b a)
+
+pub has_first : (a b : ℕ) → holds (bit_or a b) a ≡ true
+has_first a b = ap (λ n. holds n a) (or_comm a b) ∙ has_second b a
+
+-- sets that have nothing in common
+pub apart_down : (a b c : ℕ) → holds a b ≡ true → bit_and a c ≡ 0 → bit_and b c ≡ 0
+apart_down a b c lies apart =
+    let is : bit_and a b ≡ b = eqb-true _ _ lies in
+    ap (λ n. bit_and n c) (sym is ∙ and_comm a b) ∙ and_assoc c b a ∙ ap (bit_and b) apart ∙ and_zero_r b
+
+pub apart_or : (set a b : ℕ) → bit_and set a ≡ 0 → bit_and set b ≡ 0 → bit_and set (bit_or a b) ≡ 0
+apart_or set a b p q = same_from_bits _ _ (λ i.
+    bit_at_and set (bit_or a b) i ∙ ap (min (bit_at set i)) (bit_at_or a b i)
+    ∙ of_neither (bit_at set i) (bit_at a i) (bit_at b i) (sym (bit_at_and set a i) ∙ ap (λ n. bit_at n i) p ∙ bit_at-zero i)
+    (sym (bit_at_and set b i) ∙ ap (λ n. bit_at n i) q ∙ bit_at-zero i) ∙ sym (bit_at-zero i))
+  where
+    of_neither : (s x y : ℕ) → min s x ≡ 0 → min s y ≡ 0 → min s (max x y) ≡ 0
+    of_neither s x y p q = omega arith
 
 pub set_self : (p : Option ℕ) → SetWithin p p
 set_self None = unset

@@ -1,14 +1,14 @@
 -- A line whose argument is spelled with fewer words is read as the request that has less.
 use Rattle.std.proofs.Common.{◌≡◌, ◌≢◌, ℕ, List, [], ◌∷◌, refl, sym, ap, ◌∙◌, subst, true, false, ◌&&◌, map, length, arith}
-use Rattle.std.proofs.lemmas.Bool.{true≢false, and_parts, and_from, lt-ltb}
+use Rattle.std.proofs.lemmas.Bool.{true≢false, and_parts, and_from, lt-ltb, or_parts}
 use Rattle.std.specs.List.{list_all, list_any, join_with_byte}
-use Rattle.std.specs.Prelude.{Option, Some, None, Ok, codes, decimal, filter, nat_lt, ◌==◌}
-use Rattle.pua_tree.proofs.ForCallers.{Err≢Ok, same_Ok, fields_cons, fields_one, is_visible}
+use Rattle.std.specs.Prelude.{Option, Some, None, Ok, codes, decimal, filter, nat_lt, ◌==◌, ◌||◌}
+use Rattle.pua_tree.proofs.ForCallers.{Err≢Ok, same_Ok, fields_cons, fields_joined, fields_one, is_visible}
 use Rattle.pua_tree.specs.Spelling.{fields, is_field}
 use Rattle.pua_path.specs.declared.errno.Errno.TheVariants.{EINVAL}
 use Rattle.pua_calls.specs.Promises.{holds, promise_of, promises_of, letter_of, union_of}
 use Rattle.pua_script.specs.Requests.{Asked}
-use Rattle.pua_script.specs.Scripts.{has_empty_word}
+use Rattle.pua_script.specs.Scripts.{before_comment, has_empty_word}
 use Rattle.pua_calls.specs.declared.rules.Rules.{Rules}
 use Rattle.pua_script.specs.ScriptGrammar.{SpellsGiven, nothing, known, SpellsPerms, no_letter, letters}
 use Rattle.pua_script.specs.ScriptGrammar.{SpellsAction, on_path, symlink, rename, link, pledge, unveil, lock, fork, exit, uses, SpellsRequest}
@@ -18,6 +18,7 @@ use Rattle.pua_script.specs.declared.request.Action.{Action}
 use Rattle.pua_script.specs.declared.request.Action.TheVariants.{Pledge, Unveil}
 use Rattle.pua_tight.specs.Texts.{stays_in, or_equals, given_text, perms_text, fields_text, line_text}
 use Rattle.pua_tight.specs.Narrower.{GivenWithin, given_none, given_unknown, given_less, ActionWithin, as_given, less_pledged, less_unveiled}
+use Rattle.pua_tight.proofs.Comments.{hashed, ends_shown, neither, joined_clean, clean_joined, joined_ends, given_unhashed, perms_unhashed}
 use Rattle.pua_tight.proofs.Sets.{holds_self}
 use Rattle.pua_tight.proofs.Tightened.{given_self}
 use Rattle.pua_tight.proofs.KeptWords.{promise_single, letter_single, left_named, left_within, none_within, all_left, none_left, cut, free}
@@ -120,9 +121,17 @@ perms_field (Some set) field e =
     or_field (filter (λ c. stays_in set (letter_of c)) field)
     (all_left (λ c. stays_in set (letter_of c)) is_visible field (field_bytes field e))
 
+-- nor do the words of a list that is left begin with `#`, where the list doesn't
+given_clean : {p q : Given} (field : List ℕ) → GivenWithin p q → SpellsGiven field q → hashed field ≡ false → hashed (given_text p field) ≡ false
+given_clean field given_none spells clean = clean
+given_clean field given_unknown spells clean = clean
+given_clean field (given_less {a = a} less) spells clean =
+    given_unhashed (given_text (Good a) field) a (thin_given field (given_less less) spells)
+
 -- the fields of a line that has less
 pub record ThinFields (rules : Rules) (action : Action) (process : List ℕ) (more : List (List ℕ)) : Type 0 where
   pub after : List (List ℕ)
+  pub clean : list_any hashed (process ∷ more) ≡ false → list_any hashed (process ∷ after) ≡ false
   pub are : fields_text action (process ∷ more) ≡ process ∷ after
   pub visible : list_all is_field (process ∷ after) ≡ true
   pub spells : SpellsAction rules after action
@@ -130,7 +139,7 @@ pub record ThinFields (rules : Rules) (action : Action) (process : List ℕ) (mo
 module _ {rules : Rules} (process : List ℕ) where
   as_they_are : {action : Action} (more : List (List ℕ)) → fields_text action (process ∷ more) ≡ process ∷ more →
       list_all is_field (process ∷ more) ≡ true → SpellsAction rules more action → ThinFields rules action process more
-  as_they_are more are visible spells = record { after = more; are = are; visible = visible; spells = spells }
+  as_they_are more are visible spells = record { after = more; clean = λ e. e; are = are; visible = visible; spells = spells }
 
   pledge_fields : (word a b : List ℕ) {p q e f : Given} → GivenWithin p q → GivenWithin e f → word ≡ codes "pledge" →
       list_all is_field (process ∷ word ∷ a ∷ b ∷ []) ≡ true → SpellsGiven a q → SpellsGiven b f →
@@ -142,6 +151,14 @@ module _ {rules : Rules} (process : List ℕ) where
       let four = and_parts (is_field b) true three.1 in
       record {
         after = word ∷ given_text p a ∷ given_text e b ∷ [];
+        clean = λ none.
+            let of_process = or_parts (hashed process) (hashed word || (hashed a || (hashed b || false))) none in
+            let of_word = or_parts (hashed word) (hashed a || (hashed b || false)) of_process.1 in
+            let of_a = or_parts (hashed a) (hashed b || false) of_word.1 in
+            let of_b = or_parts (hashed b) false of_a.1 in
+            neither (hashed process) _ of_process.0 (neither (hashed word) _ of_word.0
+            (neither (hashed (given_text p a)) _ (given_clean a first x of_a.0)
+            (neither (hashed (given_text e b)) false (given_clean b second y of_b.0) refl)));
         are = refl;
         visible = and_from (is_field process) _ one.0 (and_from (is_field word) _ two.0 (and_from (is_field (given_text p a)) _
             (given_field p a three.0) (and_from (is_field (given_text e b)) true (given_field e b four.0) refl)));
@@ -159,6 +176,13 @@ module _ {rules : Rules} (process : List ℕ) where
       let thinner : SpellsPerms (perms_text (Some s) b) (Some s) = thin_perms s t b less second in
       record {
         after = word ∷ a ∷ perms_text (Some s) b ∷ [];
+        clean = λ none.
+            let of_process = or_parts (hashed process) (hashed word || (hashed a || (hashed b || false))) none in
+            let of_word = or_parts (hashed word) (hashed a || (hashed b || false)) of_process.1 in
+            let of_a = or_parts (hashed a) (hashed b || false) of_word.1 in
+            neither (hashed process) _ of_process.0 (neither (hashed word) _ of_word.0
+            (neither (hashed a) _ of_a.0
+            (neither (hashed (perms_text (Some s) b)) false (perms_unhashed (perms_text (Some s) b) s thinner) refl)));
         are = refl;
         visible = and_from (is_field process) _ one.0 (and_from (is_field word) _ two.0 (and_from (is_field a) _ three.0
             (and_from (is_field (perms_text (Some s) b)) true (perms_field (Some s) b four.0) refl)));
@@ -196,8 +220,14 @@ fields_of_joined w (v ∷ ws) e =
 abbrev pub with_action : Asked → Action → Asked
 with_action ask action = record { process = ask.process; action = action }
 
+-- what is left of a line's text is read as the request that has less; no comment begins in it, and it ends in no blank
+pub record IsThin (rules : Rules) (line : List ℕ) (ask : Asked) (less : Action) : Type 0 where
+  pub spells : SpellsRequest rules (line_text less line) (with_action ask less)
+  pub clean : before_comment true line ≡ None → before_comment true (line_text less line) ≡ None
+  pub shown : ends_shown (line_text less line) ≡ true
+
 pub thin_line_read : {rules : Rules} (line : List ℕ) (ask : Asked) (less : Action) → SpellsRequest rules line ask →
-    ActionWithin less ask.action → SpellsRequest rules (line_text less line) (with_action ask less)
+    ActionWithin less ask.action → IsThin rules line ask less
 thin_line_read {rules = rules} line ask less spells within =
     let thin : ThinFields rules less (decimal ask.process) spells.more =
     thin_fields (decimal ask.process) spells.more within (ap (list_all is_field) (sym spells.split) ∙ spells.visible) spells.spells in
@@ -205,11 +235,21 @@ thin_line_read {rules = rules} line ask less spells within =
     ap (λ fs. join_with_byte 32 (fields_text less fs)) spells.split ∙ ap (join_with_byte 32) thin.are in
     let split : fields (line_text less line) ≡ decimal ask.process ∷ thin.after =
     ap fields text ∙ fields_of_joined (decimal ask.process) thin.after thin.visible in
+    let given : list_all is_field (decimal ask.process ∷ spells.more) ≡ true = ap (list_all is_field) (sym spells.split) ∙ spells.visible in
+    let line_is : line ≡ join_with_byte 32 (decimal ask.process ∷ spells.more) =
+    sym (fields_joined line) ∙ ap (join_with_byte 32) spells.split in
     record {
-      visible = ap (list_all is_field) split ∙ thin.visible;
-      more = thin.after;
-      split = split;
-      low = spells.low;
-      high = spells.high;
-      spells = thin.spells;
+      spells = record {
+        visible = ap (list_all is_field) split ∙ thin.visible;
+        more = thin.after;
+        split = split;
+        low = spells.low;
+        high = spells.high;
+        spells = thin.spells;
+      };
+      clean = λ none.
+          ap (before_comment true) text
+          ∙ joined_clean (decimal ask.process) thin.after thin.visible
+          (thin.clean (clean_joined (decimal ask.process) spells.more given (ap (before_comment true) (sym line_is) ∙ none)));
+      shown = ap ends_shown text ∙ joined_ends (decimal ask.process) thin.after thin.visible;
     }

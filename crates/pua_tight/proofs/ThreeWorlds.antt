@@ -11,7 +11,7 @@ use Rattle.pua_path.specs.declared.errno.Errno.TheVariants.{EAGAIN}
 use Rattle.pua_path.specs.declared.found.Found.{Found}
 use Rattle.pua_path.specs.declared.found.Last.TheVariants.{Followed}
 use Rattle.pua_path.specs.declared.text.Ending.TheVariants as ending
-use Rattle.pua_calls.specs.Promises.{holds, error}
+use Rattle.pua_calls.specs.Promises.{holds}
 use Rattle.pua_calls.specs.Calls.{CallTable}
 use Rattle.pua_policy.specs.States.{ProcessState, Pledged, Unveiled, Ended}
 use Rattle.pua_policy.specs.Verdict.{place_of}
@@ -29,47 +29,46 @@ use Rattle.pua_script.specs.declared.request.Action.{Action}
 use Rattle.pua_script.specs.declared.request.Action.TheVariants.{Pledge, Unveil}
 use Rattle.pua_script.specs.declared.answer.Answer.{Answer}
 use Rattle.pua_tight.specs.Narrower.{StateWithin, ProcessesWithin, WorldWithin, ActionWithin}
-use Rattle.pua_tight.specs.Laws.{RestsOnOne}
 use Rattle.pua_tight.proofs.Sets.{three_bools}
 use Rattle.pua_tight.proofs.Decided.{free, freely}
 use Rattle.pua_tight.proofs.Worlds.{FoundWithin, never, made, found_within, answered_alike, alike_within, not_okay, request_keeps, gone_or}
 use Rattle.pua_tight.proofs.Minimal.{full, decide_full, change_full, same_refusal}
 use Rattle.pua_tight.proofs.ThreeProcesses.{SetThree, three_unset, three_some, StateThree, pledged_three, unveiled_three, after_three, exec_three}
 use Rattle.pua_tight.proofs.MiddleDecision.{refused}
-use Rattle.pua_tight.proofs.MiddleWorldAnswers.{agrees}
+use Rattle.pua_tight.proofs.MiddleWorldAnswers.{Rests, agrees}
 
-pub data ProcessesThree : List (ℕ × ProcessState) → List (ℕ × ProcessState) → List (ℕ × ProcessState) → Type 0 where
-  three_nobody : ProcessesThree [] [] []
-  three_somebody : {process : ℕ} {l m s : ProcessState} {ls ms ss : List (ℕ × ProcessState)} → StateThree l m s → ProcessesThree ls ms ss →
-      ProcessesThree ((process, l) ∷ ls) ((process, m) ∷ ms) ((process, s) ∷ ss)
+pub data ProcessesThree : ℕ → List (ℕ × ProcessState) → List (ℕ × ProcessState) → List (ℕ × ProcessState) → Type 0 where
+  three_nobody : {kept : ℕ} → ProcessesThree kept [] [] []
+  three_somebody : {kept process : ℕ} {l m s : ProcessState} {ls ms ss : List (ℕ × ProcessState)} → StateThree kept l m s →
+      ProcessesThree kept ls ms ss → ProcessesThree kept ((process, l) ∷ ls) ((process, m) ∷ ms) ((process, s) ∷ ss)
 
 -- one tree in the first two, and such processes of the same numbers in one order
-pub record HasShared (a b c : World) : Type 0 where
+pub record HasShared (kept : ℕ) (a b c : World) : Type 0 where
   pub tree : a.tree ≡ b.tree
-  pub processes : ProcessesThree a.processes b.processes c.processes
+  pub processes : ProcessesThree kept a.processes b.processes c.processes
 
-pub record WorldThree (a b c : World) : Type 0 where
+pub record WorldThree (kept : ℕ) (a b c : World) : Type 0 where
   pub later : WorldWithin b c
-  pub shared : HasShared a b c
+  pub shared : HasShared kept a b c
 
 -- requests of the same kind
-pub data GivenThree : Given → Given → Given → Type 0 where
-  null_three : GivenThree Null Null Null
-  unknown_three : GivenThree Unknown Unknown Unknown
-  good_three : {a b c : ℕ} → IsTrue (holds b (bit_and c a)) → holds a error ≡ holds c error → GivenThree (Good a) (Good b) (Good c)
+pub data GivenThree : ℕ → Given → Given → Given → Type 0 where
+  null_three : {kept : ℕ} → GivenThree kept Null Null Null
+  unknown_three : {kept : ℕ} → GivenThree kept Unknown Unknown Unknown
+  good_three : {kept a b c : ℕ} → IsTrue (holds b (bit_and c a)) → bit_and a kept ≡ bit_and c kept → GivenThree kept (Good a) (Good b) (Good c)
 
-pub data ActionThree : Action → Action → Action → Type 0 where
-  same_three : {a : Action} → ActionThree a a a
-  pledge_three : {p q r e f g : Given} → GivenThree p q r → GivenThree e f g → ActionThree (Pledge p e) (Pledge q f) (Pledge r g)
-  unveil_three : {path : List ℕ} {a b c : ℕ} → IsTrue (holds b (bit_and c a)) → holds a error ≡ holds c error →
-      ActionThree (Unveil path (Some a)) (Unveil path (Some b)) (Unveil path (Some c))
+pub data ActionThree : ℕ → Action → Action → Action → Type 0 where
+  same_three : {kept : ℕ} {a : Action} → ActionThree kept a a a
+  pledge_three : {kept : ℕ} {p q r e f g : Given} → GivenThree kept p q r → GivenThree kept e f g →
+      ActionThree kept (Pledge p e) (Pledge q f) (Pledge r g)
+  unveil_three : {kept : ℕ} {path : List ℕ} {a b c : ℕ} → IsTrue (holds b (bit_and c a)) → ActionThree kept (Unveil path (Some a)) (Unveil path (Some b)) (Unveil path (Some c))
 
-data ChangeThree : Change → Change → Change → Type 0 where
-  alike_three : {c : Change} → ChangeThree c c c
-  pledges_three : {p q r e f g : Option ℕ} → SetThree p q r → SetThree e f g →
-      ChangeThree (AddEvent (Pledged p e)) (AddEvent (Pledged q f)) (AddEvent (Pledged r g))
-  unveils_three : {place : Place} {a b c : ℕ} → IsTrue (holds b (bit_and c a)) → holds a error ≡ holds c error →
-      ChangeThree (AddEvent (Unveiled place a)) (AddEvent (Unveiled place b)) (AddEvent (Unveiled place c))
+data ChangeThree : ℕ → Change → Change → Change → Type 0 where
+  alike_three : {kept : ℕ} {c : Change} → ChangeThree kept c c c
+  pledges_three : {kept : ℕ} {p q r e f g : Option ℕ} → SetThree kept p q r → SetThree kept e f g →
+      ChangeThree kept (AddEvent (Pledged p e)) (AddEvent (Pledged q f)) (AddEvent (Pledged r g))
+  unveils_three : {kept : ℕ} {place : Place} {a b c : ℕ} → IsTrue (holds b (bit_and c a)) →
+      ChangeThree kept (AddEvent (Unveiled place a)) (AddEvent (Unveiled place b)) (AddEvent (Unveiled place c))
 
 abbrev Granted : Change → Decision
 Granted c = Ok c
@@ -77,92 +76,93 @@ Granted c = Ok c
 is_ok : (c d : Change) → Granted c ≡ Granted d → c ≡ d
 is_ok c d e = cc
 
-by_ok : (x y z c d e : Change) → ChangeThree x y z → Granted x ≡ Granted c → Granted y ≡ Granted d → Granted z ≡ Granted e → ChangeThree c d e
-by_ok x y z c d e w p q r = subst (λ v. ChangeThree v d e) (is_ok x c p)
-    (subst (λ v. ChangeThree x v e) (is_ok y d q) (subst (ChangeThree x y) (is_ok z e r) w))
+by_ok : (kept : ℕ) (x y z c d e : Change) → ChangeThree kept x y z → Granted x ≡ Granted c → Granted y ≡ Granted d → Granted z ≡ Granted e →
+    ChangeThree kept c d e
+by_ok kept x y z c d e w p q r = subst (λ v. ChangeThree kept v d e) (is_ok x c p)
+    (subst (λ v. ChangeThree kept x v e) (is_ok y d q) (subst (ChangeThree kept x y) (is_ok z e r) w))
 
-module _ (table : CallTable) (t : Tree) (l m s : ProcessState) (w : StateThree l m s) (later : StateWithin m s) (c d e : Change) where
+module _ (kept : ℕ) (table : CallTable) (t : Tree) (l m s : ProcessState) (w : StateThree kept l m s) (later : StateWithin m s) (c d e : Change) where
   same_change : (action : Action) → decide table t l action ≡ Ok c → decide table t m action ≡ Ok d → decide table t s action ≡ Ok e →
-      ChangeThree c d e
+      ChangeThree kept c d e
   same_change action p q r =
       let done : ℕ → Decision = λ dir. decide_by refusals table t (free dir) action in
       let one : done l.dir ≡ Ok c = freely table t l action c p in
       let two : done m.dir ≡ Ok d = freely table t m action d q in
       let three : done s.dir ≡ Ok e = freely table t s action e r in
-      by_ok c c c c d e alike_three refl (sym one ∙ ap done w.dir ∙ two) (sym one ∙ ap done (w.dir ∙ later.dir) ∙ three)
+      by_ok kept c c c c d e alike_three refl (sym one ∙ ap done w.dir ∙ two) (sym one ∙ ap done (w.dir ∙ later.dir) ∙ three)
 
-  veil_change : (a b g : ℕ) → holds b (bit_and g a) ≡ true → holds a error ≡ holds g error → (r : Result Found Errno) →
+  veil_change : (a b g : ℕ) → holds b (bit_and g a) ≡ true → (r : Result Found Errno) →
       on_named refusals.failed r (λ object. Granted (AddEvent (Unveiled (place_of object) a))) ≡ Ok c →
       on_named refusals.failed r (λ object. Granted (AddEvent (Unveiled (place_of object) b))) ≡ Ok d →
-      on_named refusals.failed r (λ object. Granted (AddEvent (Unveiled (place_of object) g))) ≡ Ok e → ChangeThree c d e
-  veil_change a b g has same (Ok object) p q r = by_ok (AddEvent (Unveiled (place_of object) a)) (AddEvent (Unveiled (place_of object) b))
-      (AddEvent (Unveiled (place_of object) g)) c d e (unveils_three has same) p q r
-  veil_change a b g has same (Err v) p q r = cc
+      on_named refusals.failed r (λ object. Granted (AddEvent (Unveiled (place_of object) g))) ≡ Ok e → ChangeThree kept c d e
+  veil_change a b g has (Ok object) p q r = by_ok kept (AddEvent (Unveiled (place_of object) a)) (AddEvent (Unveiled (place_of object) b))
+      (AddEvent (Unveiled (place_of object) g)) c d e (unveils_three has) p q r
+  veil_change a b g has (Err v) p q r = cc
 
-  pledge_change : {p q r x y z : Given} → GivenThree p q r → GivenThree x y z →
+  pledge_change : {p q r x y z : Given} → GivenThree kept p q r → GivenThree kept x y z →
       decide_by refusals table t (free l.dir) (Pledge p x) ≡ Ok c → decide_by refusals table t (free m.dir) (Pledge q y) ≡ Ok d →
-      decide_by refusals table t (free s.dir) (Pledge r z) ≡ Ok e → ChangeThree c d e
-  pledge_change null_three null_three i j k = by_ok _ _ _ c d e (pledges_three three_unset three_unset) i j k
-  pledge_change null_three (good_three a b) i j k = by_ok _ _ _ c d e (pledges_three three_unset (three_some a b)) i j k
-  pledge_change (good_three a b) null_three i j k = by_ok _ _ _ c d e (pledges_three (three_some a b) three_unset) i j k
-  pledge_change (good_three a b) (good_three g h) i j k = by_ok _ _ _ c d e (pledges_three (three_some a b) (three_some g h)) i j k
+      decide_by refusals table t (free s.dir) (Pledge r z) ≡ Ok e → ChangeThree kept c d e
+  pledge_change null_three null_three i j k = by_ok kept _ _ _ c d e (pledges_three three_unset three_unset) i j k
+  pledge_change null_three (good_three a b) i j k = by_ok kept _ _ _ c d e (pledges_three three_unset (three_some a b)) i j k
+  pledge_change (good_three a b) null_three i j k = by_ok kept _ _ _ c d e (pledges_three (three_some a b) three_unset) i j k
+  pledge_change (good_three a b) (good_three g h) i j k = by_ok kept _ _ _ c d e (pledges_three (three_some a b) (three_some g h)) i j k
   pledge_change unknown_three other i j k = cc
   pledge_change null_three unknown_three i j k = cc
   pledge_change (good_three a b) unknown_three i j k = cc
 
-  change_three : {x y z : Action} → ActionThree x y z → decide table t l x ≡ Ok c → decide table t m y ≡ Ok d → decide table t s z ≡ Ok e →
-      ChangeThree c d e
+  change_three : {x y z : Action} → ActionThree kept x y z → decide table t l x ≡ Ok c → decide table t m y ≡ Ok d → decide table t s z ≡ Ok e →
+      ChangeThree kept c d e
   change_three (same_three {a = action}) p q r = same_change action p q r
   change_three (pledge_three {p = a} {q = b} {r = g} {e = x} {f = y} {g = z} first second) p q r =
       pledge_change first second (freely table t l (Pledge a x) c p) (freely table t m (Pledge b y) d q) (freely table t s (Pledge g z) e r)
-  change_three (unveil_three {path = path} {a = a} {b = b} {c = g} has same) p q r =
+  change_three (unveil_three {path = path} {a = a} {b = b} {c = g} has) p q r =
       let done : ℕ → ℕ → Decision = λ n dir. on_named refusals.failed (path_named table.whose t dir ending.Dot path Followed)
       (λ object. Granted (AddEvent (Unveiled (place_of object) n))) in
-      veil_change a b g has same (path_named table.whose t s.dir ending.Dot path Followed)
+      veil_change a b g has (path_named table.whose t s.dir ending.Dot path Followed)
       (ap (done a) (sym (w.dir ∙ later.dir)) ∙ freely table t l (Unveil path (Some a)) c p)
       (ap (done b) (sym later.dir) ∙ freely table t m (Unveil path (Some b)) d q) (freely table t s (Unveil path (Some g)) e r)
 
-data EffectThree : Effect → Effect → Effect → Type 0 where
-  fails3 : {v : Errno} → EffectThree (Fails v) (Fails v) (Fails v)
-  leaves3 : {t : Tree} {l m s : ProcessState} → StateThree l m s → EffectThree (Leaves t l) (Leaves t m) (Leaves t s)
-  copies3 : {new : ℕ} → EffectThree (Copies new) (Copies new) (Copies new)
+data EffectThree : ℕ → Effect → Effect → Effect → Type 0 where
+  fails3 : {kept : ℕ} {v : Errno} → EffectThree kept (Fails v) (Fails v) (Fails v)
+  leaves3 : {kept : ℕ} {t : Tree} {l m s : ProcessState} → StateThree kept l m s → EffectThree kept (Leaves t l) (Leaves t m) (Leaves t s)
+  copies3 : {kept : ℕ} {new : ℕ} → EffectThree kept (Copies new) (Copies new) (Copies new)
 
-data FoundThree : Option ProcessState → Option ProcessState → Option ProcessState → Type 0 where
-  never3 : FoundThree None None None
-  made3 : {l m s : ProcessState} → StateThree l m s → FoundThree (Some l) (Some m) (Some s)
+data FoundThree : ℕ → Option ProcessState → Option ProcessState → Option ProcessState → Type 0 where
+  never3 : {kept : ℕ} → FoundThree kept None None None
+  made3 : {kept : ℕ} {l m s : ProcessState} → StateThree kept l m s → FoundThree kept (Some l) (Some m) (Some s)
 
-found_three : {ls ms ss : List (ℕ × ProcessState)} → ProcessesThree ls ms ss → (n : ℕ) →
-    FoundThree (lookup (nat_eq n) ls) (lookup (nat_eq n) ms) (lookup (nat_eq n) ss)
+found_three : {kept : ℕ} {ls ms ss : List (ℕ × ProcessState)} → ProcessesThree kept ls ms ss → (n : ℕ) →
+    FoundThree kept (lookup (nat_eq n) ls) (lookup (nat_eq n) ms) (lookup (nat_eq n) ss)
 found_three three_nobody n = never3
-found_three (three_somebody {process = process} {l = l} {m = m} {s = s} {ls = ls} {ms = ms} {ss = ss} w rest) n =
+found_three {kept = kept} (three_somebody {process = process} {l = l} {m = m} {s = s} {ls = ls} {ms = ms} {ss = ss} w rest) n =
     by (nat_eq n process) (found_three rest n)
   where
-    by : (b : Bool) → FoundThree (lookup (nat_eq n) ls) (lookup (nat_eq n) ms) (lookup (nat_eq n) ss) →
-        FoundThree (cond b (Some l) (lookup (nat_eq n) ls)) (cond b (Some m) (lookup (nat_eq n) ms)) (cond b (Some s) (lookup (nat_eq n) ss))
+    by : (b : Bool) → FoundThree kept (lookup (nat_eq n) ls) (lookup (nat_eq n) ms) (lookup (nat_eq n) ss) →
+        FoundThree kept (cond b (Some l) (lookup (nat_eq n) ls)) (cond b (Some m) (lookup (nat_eq n) ms)) (cond b (Some s) (lookup (nat_eq n) ss))
     by true further = made3 w
     by false further = further
 
-made_three : {o p q : Option ProcessState} → FoundThree o p q → (is_some o ≡ is_some p) × (is_some p ≡ is_some q)
+made_three : {kept : ℕ} {o p q : Option ProcessState} → FoundThree kept o p q → (is_some o ≡ is_some p) × (is_some p ≡ is_some q)
 made_three never3 = (refl, refl)
 made_three (made3 w) = (refl, refl)
 
-many_three : {ls ms ss : List (ℕ × ProcessState)} → ProcessesThree ls ms ss → (length ls ≡ length ms) × (length ms ≡ length ss)
+many_three : {kept : ℕ} {ls ms ss : List (ℕ × ProcessState)} → ProcessesThree kept ls ms ss → (length ls ≡ length ms) × (length ms ≡ length ss)
 many_three three_nobody = (refl, refl)
 many_three (three_somebody w rest) = (ap suc (many_three rest).0, ap suc (many_three rest).1)
 
-put_three : (n : ℕ) {l m s : ProcessState} → StateThree l m s → {ls ms ss : List (ℕ × ProcessState)} → ProcessesThree ls ms ss →
-    ProcessesThree (put_at n l ls) (put_at n m ms) (put_at n s ss)
+put_three : (n : ℕ) {kept : ℕ} {l m s : ProcessState} → StateThree kept l m s → {ls ms ss : List (ℕ × ProcessState)} →
+    ProcessesThree kept ls ms ss → ProcessesThree kept (put_at n l ls) (put_at n m ms) (put_at n s ss)
 put_three n w three_nobody = three_somebody w three_nobody
-put_three n {l = l} {m = m} {s = s} w (three_somebody {process = process} {l = a} {m = b} {s = c} {ls = ls} {ms = ms} {ss = ss} first rest) =
+put_three n {kept = kept} {l = l} {m = m} {s = s} w (three_somebody {process = process} {l = a} {m = b} {s = c} {ls = ls} {ms = ms} {ss = ss} first rest) =
     by (nat_eq n process) (put_three n w rest)
   where
-    by : (x : Bool) → ProcessesThree (put_at n l ls) (put_at n m ms) (put_at n s ss) →
-        ProcessesThree (cond x ((process, l) ∷ ls) ((process, a) ∷ put_at n l ls)) (cond x ((process, m) ∷ ms) ((process, b) ∷ put_at n m ms))
+    by : (x : Bool) → ProcessesThree kept (put_at n l ls) (put_at n m ms) (put_at n s ss) →
+        ProcessesThree kept (cond x ((process, l) ∷ ls) ((process, a) ∷ put_at n l ls)) (cond x ((process, m) ∷ ms) ((process, b) ∷ put_at n m ms))
         (cond x ((process, s) ∷ ss) ((process, c) ∷ put_at n s ss))
     by true further = three_somebody w rest
     by false further = three_somebody first further
 
-module _ (t : Tree) (ls ms ss : List (ℕ × ProcessState)) (all : ProcessesThree ls ms ss) (laters : ProcessesWithin ms ss) where
+module _ (kept : ℕ) (t : Tree) (ls ms ss : List (ℕ × ProcessState)) (all : ProcessesThree kept ls ms ss) (laters : ProcessesWithin ms ss) where
   abbrev wl : World
   wl = record { tree = t; processes = ls }
 
@@ -172,19 +172,19 @@ module _ (t : Tree) (ls ms ss : List (ℕ × ProcessState)) (all : ProcessesThre
   abbrev ws : World
   ws = record { tree = t; processes = ss }
 
-  same_worlds : HasShared wl wm ws
+  same_worlds : HasShared kept wl wm ws
   same_worlds = record { tree = refl; processes = all }
 
-  module _ (l m s : ProcessState) (w : StateThree l m s) (later : StateWithin m s) where
-    edited : (r : Result (ℕ × Tree) TreeFault) → EffectThree (edit_effect l r) (edit_effect m r) (edit_effect s r)
+  module _ (l m s : ProcessState) (w : StateThree kept l m s) (later : StateWithin m s) where
+    edited : (r : Result (ℕ × Tree) TreeFault) → EffectThree kept (edit_effect l r) (edit_effect m r) (edit_effect s r)
     edited (Ok result) = leaves3 w
     edited (Err fault) = fails3
 
-    retied : (r : Result Tree TreeFault) → EffectThree (edited_tree l r) (edited_tree m r) (edited_tree s r)
+    retied : (r : Result Tree TreeFault) → EffectThree kept (edited_tree l r) (edited_tree m r) (edited_tree s r)
     retied (Ok u) = leaves3 w
     retied (Err fault) = fails3
 
-    alike_effect : (c : Change) → EffectThree (change_effect wl l c) (change_effect wm m c) (change_effect ws s c)
+    alike_effect : (c : Change) → EffectThree kept (change_effect wl l c) (change_effect wm m c) (change_effect ws s c)
     alike_effect NoChange = leaves3 w
     alike_effect (AddNode spot node) = edited (add t spot.0 spot.1 node)
     alike_effect (CutRow spot) = edited (cut t spot.0 spot.1)
@@ -196,21 +196,21 @@ module _ (t : Tree) (ls ms ss : List (ℕ × ProcessState)) (all : ProcessesThre
         let found = made_three (found_three all new) in
         let many = many_three all in
         three_bools
-        (λ a b c. EffectThree (cond a (Fails EAGAIN) (Copies new)) (cond b (Fails EAGAIN) (Copies new)) (cond c (Fails EAGAIN) (Copies new)))
+        (λ a b c. EffectThree kept (cond a (Fails EAGAIN) (Copies new)) (cond b (Fails EAGAIN) (Copies new)) (cond c (Fails EAGAIN) (Copies new)))
         fails3 copies3 _ _ _ (λ i. found.0 i || nat_le most_processes (many.0 i)) (λ i. found.1 i || nat_le most_processes (many.1 i))
 
-    effect_three : {c d e : Change} → ChangeThree c d e → EffectThree (change_effect wl l c) (change_effect wm m d) (change_effect ws s e)
+    effect_three : {c d e : Change} → ChangeThree kept c d e → EffectThree kept (change_effect wl l c) (change_effect wm m d) (change_effect ws s e)
     effect_three (alike_three {c = c}) = alike_effect c
     effect_three (pledges_three p e) = leaves3 (pledged_three p e w)
-    effect_three (unveils_three {place = place} {a = a} {b = b} {c = c} has same) = leaves3 (unveiled_three place a b c has same w)
+    effect_three (unveils_three {place = place} {a = a} {b = b} {c = c} has) = leaves3 (unveiled_three place a b c has w)
 
-    left_three : (n : ℕ) {e f g : Effect} → EffectThree e f g → HasShared (left_by wl n l e) (left_by wm n m f) (left_by ws n s g)
+    left_three : (n : ℕ) {e f g : Effect} → EffectThree kept e f g → HasShared kept (left_by wl n l e) (left_by wm n m f) (left_by ws n s g)
     left_three n fails3 = same_worlds
     left_three n (leaves3 v) = record { tree = refl; processes = put_three n v all }
     left_three n (copies3 {new = new}) = record { tree = refl; processes = put_three new w all }
 
-    left_alike : (n : ℕ) (e f g : Effect) → answer_to e ≡ answer_to f → answer_to f ≡ answer_to g → (is_okay (answer_to e) ≡ true → EffectThree e f g) →
-        HasShared (left_by wl n l e) (left_by wm n m f) (left_by ws n s g)
+    left_alike : (n : ℕ) (e f g : Effect) → answer_to e ≡ answer_to f → answer_to f ≡ answer_to g → (is_okay (answer_to e) ≡ true → EffectThree kept e f g) →
+        HasShared kept (left_by wl n l e) (left_by wm n m f) (left_by ws n s g)
     left_alike n (Fails x) (Fails y) (Fails z) p q okay = same_worlds
     left_alike n (Fails x) (Fails y) Kills p q okay = cc
     left_alike n (Fails x) (Fails y) (Leaves u h) p q okay = cc
@@ -229,18 +229,18 @@ module _ (t : Tree) (ls ms ss : List (ℕ × ProcessState)) (all : ProcessesThre
     left_alike n (Leaves v h) f g p q okay = left_three n (okay refl)
     left_alike n (Copies new) f g p q okay = left_three n (okay refl)
 
-    module _ (table : CallTable) (x y z : Action) (kind : ActionThree x y z) where
+    module _ (table : CallTable) (x y z : Action) (kind : ActionThree kept x y z) where
       decided : (n : ℕ) → answer_to (come_of wl l (decide table t l x)) ≡ answer_to (come_of wm m (decide table t m y)) →
           answer_to (come_of wm m (decide table t m y)) ≡ answer_to (come_of ws s (decide table t s z)) →
-          HasShared (left_by wl n l (come_of wl l (decide table t l x))) (left_by wm n m (come_of wm m (decide table t m y)))
+          HasShared kept (left_by wl n l (come_of wl l (decide table t l x))) (left_by wm n m (come_of wm m (decide table t m y)))
           (left_by ws n s (come_of ws s (decide table t s z)))
       decided n = by (decide table t l x) (decide table t m y) (decide table t s z) refl refl refl
         where
           by : (d f g : Decision) → decide table t l x ≡ d → decide table t m y ≡ f → decide table t s z ≡ g →
               answer_to (come_of wl l d) ≡ answer_to (come_of wm m f) → answer_to (come_of wm m f) ≡ answer_to (come_of ws s g) →
-              HasShared (left_by wl n l (come_of wl l d)) (left_by wm n m (come_of wm m f)) (left_by ws n s (come_of ws s g))
+              HasShared kept (left_by wl n l (come_of wl l d)) (left_by wm n m (come_of wm m f)) (left_by ws n s (come_of ws s g))
           by (Ok c) (Ok d) (Ok e) i j k p q = left_alike n (change_effect wl l c) (change_effect wm m d) (change_effect ws s e) p q
-              (λ okay. effect_three (change_three table t l m s w later c d e kind i j k))
+              (λ okay. effect_three (change_three kept table t l m s w later c d e kind i j k))
           by (Ok c) (Ok d) (Err r) i j k p q = left_alike n (change_effect wl l c) (change_effect wm m d) (refusal_effect r) p q
               (λ okay. not_okay r (ap is_okay (sym (p ∙ q)) ∙ okay))
           by (Ok c) (Err r) g i j k p q = left_alike n (change_effect wl l c) (refusal_effect r) (come_of ws s g) p q
@@ -248,36 +248,36 @@ module _ (t : Tree) (ls ms ss : List (ℕ × ProcessState)) (all : ProcessesThre
           by (Err r) f g i j k p q = left_alike n (refusal_effect r) (come_of wm m f) (come_of ws s g) p q (λ okay. not_okay r okay)
 
     -- the middle one answers as the last one does, where the first one, which asks for no less, does
-    module _ (table : CallTable) (x y : Action) (one : RestsOnOne table y) (less : ActionWithin y x) where
+    module _ (table : CallTable) (x y : Action) (one : Rests kept table y) (less : ActionWithin y x) where
       agreed : answer_to (come_of wl l (decide table t l x)) ≡ answer_to (come_of ws s (decide table t s y)) →
           answer_to (come_of wm m (decide table t m y)) ≡ answer_to (come_of ws s (decide table t s y))
       agreed = by (decide table t l x) (decide table t s y) refl refl
         where
           by : (d f : Decision) → decide table t l x ≡ d → decide table t s y ≡ f → answer_to (come_of wl l d) ≡ answer_to (come_of ws s f) →
               answer_to (come_of wm m (decide table t m y)) ≡ answer_to (come_of ws s f)
-          by (Ok c) (Ok d) p q e = ap (λ z. answer_to (come_of wm m z)) (agrees table t l m s w later less one (ap refused p ∙ sym (ap refused q)) ∙ q)
+          by (Ok c) (Ok d) p q e = ap (λ z. answer_to (come_of wm m z)) (agrees kept table t l m s w later less one (ap refused p ∙ sym (ap refused q)) ∙ q)
               ∙ answered_alike (alike_within t ms ss laters m s later d)
           by (Ok c) (Err r) p q e = absurd (true≢false (sym (change_full wl l r c e) ∙ ap full (sym q) ∙ decide_full table t s y))
           by (Err r) (Ok d) p q e = absurd (true≢false (sym (change_full ws s r d (sym e)) ∙ ap full (sym p) ∙ decide_full table t l x))
           by (Err r) (Err v) p q e = ap (λ z. answer_to (come_of wm m z))
-              (agrees table t l m s w later less one (ap refused p ∙ ap (λ z. Some z) (same_refusal r v e) ∙ sym (ap refused q)) ∙ q)
+              (agrees kept table t l m s w later less one (ap refused p ∙ ap (λ z. Some z) (same_refusal r v e) ∙ sym (ap refused q)) ∙ q)
 
-  kept : (table : CallTable) (n : ℕ) (x y z : Action) → ActionThree x y z → {o p q : Option ProcessState} → FoundThree o p q → FoundWithin p q →
+  left : (table : CallTable) (n : ℕ) (x y z : Action) → ActionThree kept x y z → {o p q : Option ProcessState} → FoundThree kept o p q → FoundWithin p q →
       (answer_and_world table wl (record { process = n; action = x }) o).0 ≡ (answer_and_world table wm (record { process = n; action = y }) p).0 →
       (answer_and_world table wm (record { process = n; action = y }) p).0 ≡ (answer_and_world table ws (record { process = n; action = z }) q).0 →
-      HasShared (answer_and_world table wl (record { process = n; action = x }) o).1
+      HasShared kept (answer_and_world table wl (record { process = n; action = x }) o).1
       (answer_and_world table wm (record { process = n; action = y }) p).1 (answer_and_world table ws (record { process = n; action = z }) q).1
-  kept table n x y z kind never3 never e f = same_worlds
-  kept table n x y z kind (made3 {l = l} {m = m} {s = s} w) (made later) e f =
+  left table n x y z kind never3 never e f = same_worlds
+  left table n x y z kind (made3 {l = l} {m = m} {s = s} w) (made later) e f =
       three_bools (λ a b c. (gone_or a wl (done l wl x)).0 ≡ (gone_or b wm (done m wm y)).0 →
       (gone_or b wm (done m wm y)).0 ≡ (gone_or c ws (done s ws z)).0 →
-      HasShared (gone_or a wl (done l wl x)).1 (gone_or b wm (done m wm y)).1 (gone_or c ws (done s ws z)).1)
+      HasShared kept (gone_or a wl (done l wl x)).1 (gone_or b wm (done m wm y)).1 (gone_or c ws (done s ws z)).1)
       (λ _ _. same_worlds) (decided l m s w later table x y z kind n) l.ended m.ended s.ended w.ended later.ended e f
     where
       done : ProcessState → World → Action → Answer × World
       done h v action = do_decided v n h (decide table t h action)
 
-  told : (table : CallTable) (n : ℕ) (x y : Action) → RestsOnOne table y → ActionWithin y x → {o p q : Option ProcessState} → FoundThree o p q → FoundWithin p q →
+  told : (table : CallTable) (n : ℕ) (x y : Action) → Rests kept table y → ActionWithin y x → {o p q : Option ProcessState} → FoundThree kept o p q → FoundWithin p q →
       (answer_and_world table wl (record { process = n; action = x }) o).0 ≡ (answer_and_world table ws (record { process = n; action = y }) q).0 →
       (answer_and_world table wm (record { process = n; action = y }) p).0 ≡ (answer_and_world table ws (record { process = n; action = y }) q).0
   told table n x y one less never3 never e = refl
@@ -290,10 +290,10 @@ module _ (t : Tree) (ls ms ss : List (ℕ × ProcessState)) (all : ProcessesThre
       done h v action = do_decided v n h (decide table t h action)
 
 -- three requests of one process
-pub step_three : (table : CallTable) (a b c : World) → WorldThree a b c → (x y z : Asked) → y.process ≡ x.process → z.process ≡ x.process →
-    ActionThree x.action y.action z.action → ActionWithin y.action z.action → (apply table a x).0 ≡ (apply table b y).0 →
-    (apply table b y).0 ≡ (apply table c z).0 → WorldThree (apply table a x).1 (apply table b y).1 (apply table c z).1
-step_three table a b c w x y z py pz kind less e f = record {
+pub step_three : (kept : ℕ) (table : CallTable) (a b c : World) → WorldThree kept a b c → (x y z : Asked) → y.process ≡ x.process →
+    z.process ≡ x.process → ActionThree kept x.action y.action z.action → ActionWithin y.action z.action → (apply table a x).0 ≡ (apply table b y).0 →
+    (apply table b y).0 ≡ (apply table c z).0 → WorldThree kept (apply table a x).1 (apply table b y).1 (apply table c z).1
+step_three kept table a b c w x y z py pz kind less e f = record {
   later = request_keeps table b c y z w.later (record { process = py ∙ sym pz; action = less }) f;
   shared = subst (λ n. Goal b c (record { process = n; action = y.action }) z) (sym py)
       (subst (λ n. Goal b c (record { process = x.process; action = y.action }) (record { process = n; action = z.action })) (sym pz)
@@ -301,22 +301,22 @@ step_three table a b c w x y z py pz kind less e f = record {
       (record { process = x.process; action = z.action })) w.shared.tree
       (subst (λ u. Goal (record { tree = a.tree; processes = b.processes }) (record { tree = u; processes = c.processes })
       (record { process = x.process; action = y.action }) (record { process = x.process; action = z.action })) (w.shared.tree ∙ w.later.tree)
-      (kept a.tree a.processes b.processes c.processes w.shared.processes w.later.processes table x.process x.action y.action z.action kind
+      (left kept a.tree a.processes b.processes c.processes w.shared.processes w.later.processes table x.process x.action y.action z.action kind
       (found_three w.shared.processes x.process) (found_within w.later.processes x.process))))) e f;
 }
   where
     Goal : World → World → Asked → Asked → Type 0
     Goal v u p q = (apply table a x).0 ≡ (apply table v p).0 → (apply table v p).0 ≡ (apply table u q).0 →
-        HasShared (apply table a x).1 (apply table v p).1 (apply table u q).1
+        HasShared kept (apply table a x).1 (apply table v p).1 (apply table u q).1
 
-pub agree_three : (table : CallTable) (a b c : World) → WorldThree a b c → (x y : Asked) → RestsOnOne table y.action →
+pub agree_three : (kept : ℕ) (table : CallTable) (a b c : World) → WorldThree kept a b c → (x y : Asked) → Rests kept table y.action →
     y.process ≡ x.process → ActionWithin y.action x.action → (apply table a x).0 ≡ (apply table c y).0 → (apply table b y).0 ≡ (apply table c y).0
-agree_three table a b c w x y one py less =
+agree_three kept table a b c w x y one py less =
     subst (λ n. Goal b c (record { process = n; action = y.action })) (sym py)
     (subst (λ u. Goal (record { tree = u; processes = b.processes }) c (record { process = x.process; action = y.action })) w.shared.tree
     (subst (λ u. Goal (record { tree = a.tree; processes = b.processes }) (record { tree = u; processes = c.processes })
     (record { process = x.process; action = y.action })) (w.shared.tree ∙ w.later.tree)
-    (told a.tree a.processes b.processes c.processes w.shared.processes w.later.processes table x.process x.action y.action one less
+    (told kept a.tree a.processes b.processes c.processes w.shared.processes w.later.processes table x.process x.action y.action one less
     (found_three w.shared.processes x.process) (found_within w.later.processes x.process))))
   where
     Goal : World → World → Asked → Type 0

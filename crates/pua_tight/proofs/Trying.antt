@@ -21,7 +21,7 @@ use Rattle.pua_script.specs.Replay.{World, new_world, apply, answers_to}
 use Rattle.pua_script.specs.declared.answer.Answer.{Answer}
 use Rattle.pua_script.specs.declared.fault.ScriptFault.{ScriptFault}
 use Rattle.pua_script.specs.declared.request.Action.{Action}
-use Rattle.pua_script.specs.declared.request.Action.TheVariants.{OnPath, Symlink, Rename, Link, Pledge, Unveil, Lock, Fork, Exit, Uses}
+use Rattle.pua_script.specs.declared.request.Action.TheVariants.{OnPath, Symlink, Rename, Link, Pledge, Unveil, Lock, Fork, Exit, Uses, Comment}
 use Rattle.pua_tight.specs.declared.fault.TightFault.{TightFault}
 use Rattle.pua_tight.specs.declared.arguments.Arguments.{Arguments}
 use Rattle.pua_tight.specs.Tight.{Piece, InPromises, InExecpromises, InVeil, Line, without, asked_in, asks_of, lines_asked, lines_of}
@@ -130,6 +130,9 @@ given_left piece ask = by piece ask.action
     by (InPromises bit) (Uses sets) = refl
     by (InExecpromises bit) (Uses sets) = refl
     by (InVeil bit) (Uses sets) = refl
+    by (InPromises bit) Comment = refl
+    by (InExecpromises bit) Comment = refl
+    by (InVeil bit) Comment = refl
 
 pub given_back : (piece : Piece) (ask : Asked) → with_arguments (arguments_of ask.action) (without piece ask) ≡ ask
 given_back piece ask = by piece ask.action
@@ -167,6 +170,9 @@ given_back piece ask = by piece ask.action
     by (InPromises bit) (Uses sets) = refl
     by (InExecpromises bit) (Uses sets) = refl
     by (InVeil bit) (Uses sets) = refl
+    by (InPromises bit) Comment = refl
+    by (InExecpromises bit) Comment = refl
+    by (InVeil bit) Comment = refl
 
 given_kept : (ask : Asked) → with_arguments (arguments_of ask.action) ask ≡ ask
 given_kept ask = by ask.action
@@ -183,6 +189,7 @@ given_kept ask = by ask.action
     by (Fork new) = refl
     by Exit = refl
     by (Uses sets) = refl
+    by Comment = refl
 
 -- a piece that a line doesn't have
 pub nothing_left : (asks : List Asked) (index : ℕ) (piece : Piece) (ask : Asked) → slice_get asks index ≡ Some ask →
@@ -342,10 +349,10 @@ module _ (rules : Rules) (table own_table : CallTable) (tree_bytes script_bytes 
       tight (given.told ∙ ap (λ own. answers_to own (new_world t) asks) (sym same_table)) ∙ ap (λ own. tightened own t asks) same_table
 
   -- what is written of it
-  pub text_made : (text : List ℕ) → text ≡ thinned_text left script_bytes → text_over rules table tree_bytes script_bytes ≡ Ok text
+  pub text_made : (text : List ℕ) → text ≡ thinned_text rules left script_bytes → text_over rules table tree_bytes script_bytes ≡ Ok text
   text_made text is =
-      made_of rules (λ t asks. thinned_text (tightened table t asks) script_bytes) tree_bytes script_bytes t asks given.listed given.read
-      ∙ ap Ok (ap (λ l. thinned_text l script_bytes) (sym is_tight) ∙ sym is)
+      made_of rules (λ t asks. thinned_text rules (tightened table t asks) script_bytes) tree_bytes script_bytes t asks given.listed given.read
+      ∙ ap Ok (ap (λ l. thinned_text rules l script_bytes) (sym is_tight) ∙ sym is)
 
   -- what its words are needed for
   pub uses_made : (words : List Trial) (told : List WordUse) → words ≡ words_from 0 (lines_by (asked_in table asks) asks answers) →
@@ -369,7 +376,7 @@ module _ (rules : Rules) (table own_table : CallTable) (tree_bytes script_bytes 
 -- the fault of a listing or a script
 pub no_text : (rules : Rules) (table : CallTable) (tree_bytes script_bytes : List ℕ) (fault : TightFault) → IsFaultOf rules tree_bytes script_bytes fault →
     text_over rules table tree_bytes script_bytes ≡ Err fault
-no_text rules table tree_bytes script_bytes fault e = fault_of rules (λ t asks. thinned_text (tightened table t asks) script_bytes) tree_bytes script_bytes fault e
+no_text rules table tree_bytes script_bytes fault e = fault_of rules (λ t asks. thinned_text rules (tightened table t asks) script_bytes) tree_bytes script_bytes fault e
 
 pub no_uses : (rules : Rules) (table : CallTable) (tree_bytes script_bytes : List ℕ) (fault : TightFault) → IsFaultOf rules tree_bytes script_bytes fault →
     uses_over rules table tree_bytes script_bytes ≡ Err fault

@@ -33,7 +33,7 @@ use Rattle.pua_tight.specs.Narrower.{StateWithin, ProcessesWithin, nobody, someb
 use Rattle.pua_tight.specs.Laws.{RequestKeepsWithin, ScriptsKeepWithin, WithinAllowsNoMore, WithinGrantsNoMore, FuturesAreWithin}
 use Rattle.pua_tight.proofs.Sets.{two_bools}
 use Rattle.pua_tight.proofs.Within.{pledged_within, unveiled_within, after_within, exec_within, cover_within, fault_within, may_within}
-use Rattle.pua_tight.proofs.Decided.{ChangeWithin, alike, pledges, unveils, change_within, easier, granted_more, or_less}
+use Rattle.pua_tight.proofs.Decided.{ChangeWithin, alike, pledges, unveils, change_within, easier_for, granted_more, or_less}
 
 -- effects of one kind, with one tree and a process within the other
 pub data EffectWithin : Effect → Effect → Type 0 where
@@ -169,7 +169,7 @@ module _ (t : Tree) (hs ks : List (ℕ × ProcessState)) (all : ProcessesWithin 
               (answer_to (come_of given k (decide table t k x)) ≡ Okay)
               × WorldWithin (left_by less n h (come_of less h d)) (left_by given n k (come_of given k (decide table t k x)))
           by (Ok c) is okay =
-              let it : decide table t k x ≡ Ok c = granted_more table t _ _ (easier h k w) c x is in
+              let it : decide table t k x ≡ Ok c = granted_more table t _ _ (easier_for h k w table x) c x is in
               subst (λ f. (answer_to (come_of given k f) ≡ Okay)
               × WorldWithin (left_by less n h (change_effect less h c)) (left_by given n k (come_of given k f))) (sym it)
               (sym (answered_alike (alike_within c)) ∙ okay, left_within n (alike_within c))

@@ -7,7 +7,7 @@ use Rattle.pua_calls.specs.Calls.{standard_table, table_by_rules}
 use Rattle.pua_calls.specs.declared.rules.Rules.{Rules}
 use Rattle.pua_calls.specs.declared.rules.Rules.TheVariants.{Standard, Openbsd}
 use Rattle.pua_calls.specs.Promises.{exec, rpath, wpath, reading, writing}
-use Rattle.pua_script.specs.Examples.{example}
+use Rattle.pua_script.specs.Examples.{example, root_alone}
 use Rattle.pua_script.specs.Scripts.{script}
 use Rattle.pua_script.specs.declared.fault.ScriptFault.TheVariants.{BadCall}
 use Rattle.pua_tight.specs.declared.fault.TightFault.TheVariants.{Listing, Script}
@@ -16,9 +16,12 @@ use Rattle.pua_tight.specs.Laws.{leave_out}
 use Rattle.pua_tight.specs.Texts.{thinned_text, text_over}
 use Rattle.pua_tight.specs.Uses.{WordUse, uses_over}
 
--- what is written of a script over the example tree
+-- what is written of a script over a tree, and over the example tree
+abbrev pub written_over : List (List ℕ) → Rules → List ℕ → Option (List ℕ)
+written_over tree rules bytes = result_ok (text_over rules (table_by_rules rules) (text_of_lines tree) bytes)
+
 abbrev pub written_by : Rules → List ℕ → Option (List ℕ)
-written_by rules bytes = result_ok (text_over rules (table_by_rules rules) (text_of_lines example) bytes)
+written_by rules bytes = written_over example rules bytes
 
 abbrev pub written : List ℕ → Option (List ℕ)
 written bytes = written_by Standard bytes
@@ -58,6 +61,59 @@ tight_rows = record {
   chmod = refl;
 }
 
+-- a directory with a file that `dns` opens, and another one
+abbrev pub opened_tree : List (List ℕ)
+opened_tree = root_alone ++ codes "1 dir 0 etc" ∷ codes "2 file 1 hosts" ∷ codes "3 dir 0 tmp" ∷ []
+
+abbrev pub written_opened : List (List ℕ) → Option (List ℕ)
+written_opened lines = written_over opened_tree Openbsd (text_of_lines lines)
+
+-- which words go where a promise opens a path by itself
+pub record OpenedRows : Type 0 where
+  -- what `dns` opens needs no `rpath`
+  pub by_dns : written_opened (codes "1 pledge dns,rpath -" ∷ codes "1 open-r /etc/hosts" ∷ [])
+      ≡ Some (text_of_lines (codes "1 pledge dns -" ∷ codes "1 open-r /etc/hosts" ∷ []))
+  -- nor a veil
+  pub past_veils : written_opened (codes "1 unveil /etc r" ∷ codes "1 pledge dns,rpath -" ∷ codes "1 open-r /etc/hosts" ∷ [])
+      ≡ Some (text_of_lines (codes "1 unveil /etc =" ∷ codes "1 pledge dns -" ∷ codes "1 open-r /etc/hosts" ∷ []))
+  -- so it is where the file is missing
+  pub missing : written_opened (codes "1 pledge dns,rpath -" ∷ codes "1 open-r /etc/services" ∷ [])
+      ≡ Some (text_of_lines (codes "1 pledge dns -" ∷ codes "1 open-r /etc/services" ∷ []))
+  -- another call does need it
+  pub not_opened : written_opened (codes "1 pledge dns,rpath -" ∷ codes "1 stat /etc/hosts" ∷ [])
+      ≡ Some (text_of_lines (codes "1 pledge dns,rpath -" ∷ codes "1 stat /etc/hosts" ∷ []))
+  -- `dns` stays unless a line asks for it; where it may go as well, it goes first
+  pub dns_left : written_opened (codes "1 pledge dns,rpath -" ∷ codes "1 uses dns" ∷ codes "1 pledge dns,rpath -" ∷ codes "1 open-r /etc/hosts" ∷ [])
+      ≡ Some (text_of_lines (codes "1 pledge dns,rpath -" ∷ codes "1 uses dns" ∷ codes "1 pledge rpath -" ∷ codes "1 open-r /etc/hosts" ∷ []))
+  -- and it stays where a veil hides what it opens
+  pub dns_needed : written_opened (codes "1 unveil /tmp r" ∷ codes "1 pledge dns,rpath -" ∷ codes "1 uses dns" ∷ codes "1 pledge dns,rpath -"
+      ∷ codes "1 open-r /etc/hosts" ∷ [])
+      ≡ Some (text_of_lines (codes "1 unveil /tmp =" ∷ codes "1 pledge dns -" ∷ codes "1 uses dns" ∷ codes "1 pledge dns -"
+      ∷ codes "1 open-r /etc/hosts" ∷ []))
+  -- what `tmppath` makes needs its veil alone, and what it takes away
+  pub made : written_opened (codes "1 unveil /tmp rwc" ∷ codes "1 pledge cpath,tmppath,wpath -" ∷ codes "1 create /tmp/x" ∷ [])
+      ≡ Some (text_of_lines (codes "1 unveil /tmp wc" ∷ codes "1 pledge tmppath -" ∷ codes "1 create /tmp/x" ∷ []))
+  pub taken : written_opened (codes "1 unveil /tmp rwc" ∷ codes "1 pledge cpath,rpath,tmppath,wpath -" ∷ codes "1 create-rw /tmp/x" ∷ codes "1 unlink /tmp/x"
+      ∷ codes "1 stat /tmp/x" ∷ [])
+      ≡ Some (text_of_lines (codes "1 unveil /tmp rwc" ∷ codes "1 pledge rpath,tmppath -" ∷ codes "1 create-rw /tmp/x" ∷ codes "1 unlink /tmp/x"
+      ∷ codes "1 stat /tmp/x" ∷ []))
+  -- elsewhere the promises stay
+  pub taken_elsewhere : written_opened (codes "1 pledge cpath,tmppath,wpath -" ∷ codes "1 create /tmp/x" ∷ codes "1 unlink /etc/hosts" ∷ [])
+      ≡ Some (text_of_lines (codes "1 pledge cpath,tmppath -" ∷ codes "1 create /tmp/x" ∷ codes "1 unlink /etc/hosts" ∷ []))
+
+pub opened_rows : OpenedRows
+opened_rows = record {
+  by_dns = refl;
+  past_veils = refl;
+  missing = refl;
+  not_opened = refl;
+  dns_left = refl;
+  dns_needed = refl;
+  made = refl;
+  taken = refl;
+  taken_elsewhere = refl;
+}
+
 -- how the bytes are written of what is left, and which fault comes first
 pub record WrittenRows : Type 0 where
   pub nothing_left : written (text_of_lines (codes "1 unveil /tmp rwc" ∷ codes "1 pledge cpath,wpath fattr" ∷ []))
@@ -68,6 +124,10 @@ pub record WrittenRows : Type 0 where
       ≡ Some (codes "1 unveil /etc r" ++ 13 ∷ 10 ∷ codes "1 unveil - -" ++ 10 ∷ codes "1 stat /etc")
   pub spelling_stays : written (text_of_lines (codes "1 unveil /a\\040b rw" ∷ codes "1 pledge nothing -" ∷ []))
       ≡ Some (text_of_lines (codes "1 unveil /a\\040b =" ∷ codes "1 pledge nothing -" ∷ []))
+  pub comments_stay : written_by Openbsd (codes "# c" ++ 13 ∷ 10 ∷ codes "1 unveil /etc rw  # x" ++ 13 ∷ 10 ∷ 10 ∷ codes "1 stat /etc #")
+      ≡ Some (codes "# c" ++ 13 ∷ 10 ∷ codes "1 unveil /etc r  # x" ++ 13 ∷ 10 ∷ 10 ∷ codes "1 stat /etc #")
+  pub no_comment : written (text_of_lines (codes "1 unveil #x rw" ∷ codes "1 stat /" ∷ []))
+      ≡ Some (text_of_lines (codes "1 unveil #x =" ∷ codes "1 stat /" ∷ []))
   pub bad_listing : text_over Standard standard_table (codes "tree 4") (codes "1 say") ≡ Err (Listing BadHeader)
   pub bad_script : text_over Standard standard_table (text_of_lines example) (codes "1 say") ≡ Err (Script (BadCall 1))
 
@@ -77,13 +137,15 @@ written_rows = record {
   repeats_go = refl;
   ends_stay = refl;
   spelling_stays = refl;
+  comments_stay = refl;
+  no_comment = refl;
   bad_listing = refl;
   bad_script = refl;
 }
 
 -- the bytes of a script without a piece of the line at an index
 abbrev pub bytes_without : ℕ → Piece → List ℕ → Option (List ℕ)
-bytes_without index piece bytes = option_map (λ asks. thinned_text (leave_out index piece asks) bytes) (result_ok (script bytes))
+bytes_without index piece bytes = option_map (λ asks. thinned_text Standard (leave_out index piece asks) bytes) (result_ok (script bytes))
 
 pub record WithoutRows : Type 0 where
   pub letter : bytes_without 0 (InVeil writing) (text_of_lines (codes "1 unveil /etc rw" ∷ codes "1 unveil /tmp rw" ∷ []))

@@ -1,11 +1,12 @@
 -- What a thinned script that is answered as the given one leaves to its processes.
-use Rattle.std.specs.Prelude.{None, Ok, ◌≡◌, ◌≢◌, ◌≤◌, ℕ, zero, suc, List, [], ◌∷◌, map, bit_and, length, nat_lt, IsTrue, ◌⊎◌, Bool, true}
-use Rattle.std.specs.Prelude.{false}
+use Rattle.std.specs.Prelude.{Option, Some, None, Result, Ok, Err, ◌≡◌, ◌≢◌, ◌≤◌, ℕ, zero, suc, List, [], ◌∷◌, map, bit_and, bit_or, length, nat_lt, IsTrue, ◌⊎◌, Bool, true}
+use Rattle.std.specs.Prelude.{false, find, if◌then◌else◌}
 use Rattle.pua_tree.specs.Tree.{Tree, WellFormed}
-use Rattle.pua_calls.specs.Calls.{CallTable, Rule, rule_of, table_by_rules}
+use Rattle.pua_path.specs.declared.errno.Errno.{Errno}
+use Rattle.pua_calls.specs.Calls.{CallTable, Rule, rule_of, table_by_rules, openbsd_table, about_rules}
 use Rattle.pua_calls.specs.declared.rules.Rules.{Rules}
 use Rattle.pua_calls.specs.declared.rules.Rules.TheVariants.{Standard}
-use Rattle.pua_calls.specs.Promises.{error}
+use Rattle.pua_calls.specs.Promises.{error, no_promises, promises_of}
 use Rattle.pua_calls.specs.declared.call.Call.{Call}
 use Rattle.pua_calls.specs.declared.call.Call.TheVariants as call
 use Rattle.pua_policy.specs.States.{ProcessState}
@@ -16,6 +17,7 @@ use Rattle.pua_ever.specs.Ever.{EverLine, ever}
 use Rattle.pua_ever.specs.Through.{bound_of, ever_lasting}
 use Rattle.pua_policy.specs.Verdict.{verdict_on, is_allowed}
 use Rattle.pua_script.specs.Requests.{Asked}
+use Rattle.pua_script.specs.Openings.{Opening, openings, opens_call}
 use Rattle.pua_script.specs.Replay.{World, new_world, apply, answers_to, world_after}
 use Rattle.pua_script.specs.declared.answer.Answer.TheVariants.{Okay}
 use Rattle.pua_script.specs.declared.request.Action.{Action}
@@ -23,7 +25,7 @@ use Rattle.pua_script.specs.declared.request.Action.TheVariants.{OnPath, Symlink
 use Rattle.pua_tight.specs.Narrower.{WorldWithin, StateWithin, AskWithin, AsksWithin}
 use Rattle.pua_script.specs.Scripts.{script_by}
 use Rattle.pua_tight.specs.Texts.{thinned_text, tight_text}
-use Rattle.pua_tight.specs.Tight.{Piece, InPromises, InExecpromises, InVeil, Line, asks_of, lines_of, without, tight}
+use Rattle.pua_tight.specs.Tight.{Piece, InPromises, InExecpromises, InVeil, Line, asks_of, lines_of, without, tight, union, asked_in, all_used}
 
 -- one request that is answered alike in both worlds leaves the one within the other
 abbrev pub RequestKeepsWithin : Type 0
@@ -151,22 +153,48 @@ abbrev pub RestOnOne : CallTable → List Asked → Type 0
 RestOnOne table [] = Unit {0}
 RestOnOne table (ask ∷ asks) = RestsOnOne table ask.action × RestOnOne table asks
 
--- `error` is none of what may be left out
-abbrev pub bit_of : Piece → ℕ
-bit_of (InPromises bit) = bit
-bit_of (InExecpromises bit) = bit
-bit_of (InVeil bit) = bit
+-- the row of openings that has a call on a path, by a table's rules
+abbrev pub row_of : CallTable → Call → List ℕ → Option Opening
+row_of table call path = if (about_rules table.whose).has_openings then find (opens_call call path) openings else None
 
-abbrev pub AreSpareable : List Line → Type 0
-AreSpareable [] = Unit {0}
-AreSpareable (line ∷ lines) = ((piece : Piece) → IsPieceOf line.pieces piece → bit_and (bit_of piece) error ≡ 0) × AreSpareable lines
+-- the promise that it names
+abbrev pub named_in : Result ℕ Errno → ℕ
+named_in (Ok set) = set
+named_in (Err errno) = no_promises
 
--- of such a script it is the least of all: whatever else is left out of the given one, as long as it is answered as before, has all
--- that the tightened one has
+abbrev pub promise_in : Option Opening → ℕ
+promise_in None = no_promises
+promise_in (Some o) = named_in (promises_of o.promise)
+
+-- the promise that opens what is asked for by itself
+abbrev pub opener_of : CallTable → Action → ℕ
+opener_of table (OnPath call path) = promise_in (row_of table call path)
+opener_of table action = no_promises
+
+-- those that open what some request of a script asks for
+abbrev pub openers : CallTable → List Asked → ℕ
+openers table asks = union (map (λ ask. opener_of table ask.action) asks)
+
+-- none of these promises may be left out
+abbrev pub promise_left : Piece → ℕ
+promise_left (InPromises bit) = bit
+promise_left (InExecpromises bit) = bit
+promise_left (InVeil bit) = no_promises
+
+abbrev pub Stay : ℕ → List Line → Type 0
+Stay set [] = Unit {0}
+Stay set (line ∷ lines) = ((piece : Piece) → IsPieceOf line.pieces piece → bit_and (promise_left piece) set ≡ 0) × Stay set lines
+
+-- where each request rests on one set of promises, and `error` stays, and what opens a path by itself, it is the least of all:
+-- whatever else is left out of the given one, as long as it is answered as before, has all that the tightened one has
 abbrev pub TightIsLeast : Type 0
 TightIsLeast = (table : CallTable) (w : World) (lines : List Line) (less : List Asked) → RestOnOne table (asks_of lines) →
-    AreOkay table w lines → AreSpareable lines → LeavesOut less lines → answers_to table w less ≡ answers_to table w (asks_of lines) →
-    AsksWithin (tight table w lines) less
+    AreOkay table w lines → Stay (bit_or error (openers table (asks_of lines))) lines → LeavesOut less lines →
+    answers_to table w less ≡ answers_to table w (asks_of lines) → AsksWithin (tight table w lines) less
+
+-- so of a script each of whose requests rests on one set of promises, where no promise that may be left out opens a path by itself
+abbrev pub HasOneWay : CallTable → List Asked → Type 0
+HasOneWay table asks = RestOnOne table asks × (bit_and (asked_in table asks) (openers table asks) ≡ 0)
 
 -- by OpenBSD's rules an owner is changed by either of two promises, and a call without a path may ask for one of several
 abbrev pub has_choice : Action → Bool
@@ -175,19 +203,20 @@ has_choice (OnPath call.Fchown path) = true
 has_choice (Uses sets) = nat_lt 1 (length sets)
 has_choice action = false
 
+-- no such request, and none without a path that asks for a promise which opens another one's path by itself
 abbrev pub HasNoChoice : List Asked → Type 0
-HasNoChoice asks = list_any (λ ask. has_choice ask.action) asks ≡ false
+HasNoChoice asks = (list_any (λ ask. has_choice ask.action) asks ≡ false) × (bit_and (all_used asks) (openers openbsd_table asks) ≡ 0)
 
 -- by the rules that a command names each script is such a one: by the standard ones each, by OpenBSD's each without such requests
 abbrev pub RulesRestOnOne : Type 0
 RulesRestOnOne = (rules : Rules) (bytes : List ℕ) (asks : List Asked) → script_by rules bytes ≡ Ok asks →
-    (rules ≡ Standard) ⊎ HasNoChoice asks → RestOnOne (table_by_rules rules) asks
+    (rules ≡ Standard) ⊎ HasNoChoice asks → HasOneWay (table_by_rules rules) asks
 
 -- what may be left out of a script's requests meets what these laws ask of lines
 pub record IsScriptOfLines (table : CallTable) (w : World) (more : List Asked) : Type 0 where
   pub asks : asks_of (lines_of table w more) ≡ more
   pub okay : AreOkay table w (lines_of table w more)
-  pub spare : AreSpareable (lines_of table w more)
+  pub stay : bit_and (asked_in table more) (openers table more) ≡ 0 → Stay (bit_or error (openers table more)) (lines_of table w more)
 
 abbrev pub ScriptsAreTightened : Type 0
 ScriptsAreTightened = (table : CallTable) (w : World) (more : List Asked) → IsScriptOfLines table w more
@@ -195,7 +224,7 @@ ScriptsAreTightened = (table : CallTable) (w : World) (more : List Asked) → Is
 -- the bytes that are written for requests that have less than those that were read are a script of these
 abbrev pub TextsAreRead : Type 0
 TextsAreRead = (rules : Rules) (bytes : List ℕ) (given less : List Asked) → script_by rules bytes ≡ Ok given → AsksWithin less given →
-    script_by rules (thinned_text less bytes) ≡ Ok less
+    script_by rules (thinned_text rules less bytes) ≡ Ok less
 
 -- so the text of a tightened script is a script of the tightened requests, of which all that stands above is proved
 abbrev pub TightTextsAreRead : Type 0

@@ -31,10 +31,10 @@ abbrev pub veil_fields : Option ℕ → List (List ℕ) → List (List ℕ)
 veil_fields perms parts = fields_text (Unveil [] perms) parts
 
 -- the line at an index, thinned as its request has it
-abbrev pub nth_text : List Asked → ℕ → List ℕ → List ℕ
-nth_text [] n line = line
-nth_text (ask ∷ asks) zero line = ended_text ask.action line
-nth_text (ask ∷ asks) (suc n) line = nth_text asks n line
+abbrev pub nth_text : Rules → List Asked → ℕ → List ℕ → List ℕ
+nth_text rules [] n line = line
+nth_text rules (ask ∷ asks) zero line = ended_text rules ask.action line
+nth_text rules (ask ∷ asks) (suc n) line = nth_text rules asks n line
 
 -- the arguments of a request, these without a piece, and a request that is given others
 abbrev pub arguments_of : Action → Arguments

@@ -10,7 +10,7 @@ use Rattle.pua_calls.specs.Promises.{holds, promise_of, letter_of}
 use Rattle.pua_calls.specs.Calls.{CallTable}
 use Rattle.pua_calls.specs.declared.rules.Rules.{Rules}
 use Rattle.pua_script.specs.Requests.{Asked}
-use Rattle.pua_script.specs.Scripts.{script_by}
+use Rattle.pua_script.specs.Scripts.{script_by, text_in}
 use Rattle.pua_script.specs.Replay.{new_world}
 use Rattle.pua_script.specs.declared.request.Given.{Given}
 use Rattle.pua_script.specs.declared.request.Given.TheVariants.{Good}
@@ -50,21 +50,24 @@ fields_text (Unveil path perms) (process ∷ word ∷ a ∷ b ∷ []) = process 
 fields_text action parts = parts
 
 abbrev pub line_text : Action → List ℕ → List ℕ
-line_text action line = join_with_byte 32 (fields_text action (fields line))
+line_text action text = join_with_byte 32 (fields_text action (fields text))
 
--- a line that may end in a carriage return, which stays
-abbrev pub ended_text : Action → List ℕ → List ℕ
-ended_text action line =
-    let bare : List ℕ = strip_carriage_return line in line_text action bare ++ drop (length bare) line
+-- what a line says, which may end in a carriage return
+abbrev pub said_in : Rules → List ℕ → List ℕ
+said_in rules line = text_in rules (strip_carriage_return line)
+
+-- a line that is read by rules; a comment stays, and a carriage return at the end
+abbrev pub ended_text : Rules → Action → List ℕ → List ℕ
+ended_text rules action line = line_text action (said_in rules line) ++ drop (length (said_in rules line)) line
 
 -- the lines of requests, each thinned; what stands behind them stays
-abbrev pub lines_text : List Asked → List (List ℕ) → List (List ℕ)
-lines_text (ask ∷ asks) (line ∷ lines) = ended_text ask.action line ∷ lines_text asks lines
-lines_text asks lines = lines
+abbrev pub lines_text : Rules → List Asked → List (List ℕ) → List (List ℕ)
+lines_text rules (ask ∷ asks) (line ∷ lines) = ended_text rules ask.action line ∷ lines_text rules asks lines
+lines_text rules asks lines = lines
 
 -- the bytes of a script whose requests are given with fewer keywords and letters
-abbrev pub thinned_text : List Asked → List ℕ → List ℕ
-thinned_text asks bytes = join_with_byte 10 (lines_text asks (slice_split (λ b. b == 10) bytes))
+abbrev pub thinned_text : Rules → List Asked → List ℕ → List ℕ
+thinned_text rules asks bytes = join_with_byte 10 (lines_text rules asks (slice_split (λ b. b == 10) bytes))
 
 -- the requests of a script over a tree, tightened by a table
 abbrev pub tightened : CallTable → Tree → List Asked → List Asked
@@ -72,7 +75,7 @@ tightened table t asks = tight table (new_world t) (lines_of table (new_world t)
 
 -- the bytes of a script that is read by rules, over a tree, tightened by a table; or the script's fault
 abbrev pub tight_text : Rules → CallTable → Tree → List ℕ → Result (List ℕ) ScriptFault
-tight_text rules table t bytes = script_by rules bytes >>= λ asks. Ok (thinned_text (tightened table t asks) bytes)
+tight_text rules table t bytes = script_by rules bytes >>= λ asks. Ok (thinned_text rules (tightened table t asks) bytes)
 
 abbrev pub as_listing : Result Tree ListingFault → Result Tree TightFault
 as_listing (Ok t) = Ok t

@@ -1,7 +1,8 @@
 //! Laws and worked examples of tightened scripts, each the contract of a function that does
 //! nothing.
 
-ghost use Rattle.pua_tight.specs.Examples.{TightRows, UseRows, WithoutRows, WrittenRows};
+ghost use Rattle.pua_tight.specs.Examples.{OpenedRows, TightRows, UseRows, WithoutRows};
+ghost use Rattle.pua_tight.specs.Examples.{WrittenRows};
 ghost use Rattle.pua_tight.specs.Laws.{RulesRestOnOne, ScriptsAreTightened};
 ghost use Rattle.pua_tight.specs.Laws.{FuturesAreWithin, RequestKeepsWithin, ScriptsKeepWithin};
 ghost use Rattle.pua_tight.specs.Laws.{TightensScripts, TightIsLeast, TightIsMinimal};
@@ -12,9 +13,10 @@ ghost use Rattle.pua_tight.specs.Laws.{WithinLastsNoMore, WithinListsNoMoreForEv
 
 /// Examples of scripts with the tightened ones, of the bytes that are written of them, and of what
 /// their words are needed for.
-#[tactic(auto, using(crate::specs::Examples::tight_rows, crate::specs::Examples::written_rows, crate::specs::Examples::without_rows, crate::specs::Examples::use_rows))]
+#[tactic(auto, using(crate::specs::Examples::tight_rows, crate::specs::Examples::opened_rows, crate::specs::Examples::written_rows, crate::specs::Examples::without_rows, crate::specs::Examples::use_rows))]
 pub fn tight_examples()
     ensures words { TightRows }
+    ensures opened { OpenedRows }
     ensures texts { WrittenRows }
     ensures without { WithoutRows }
     ensures uses { UseRows }
@@ -48,10 +50,12 @@ pub fn minimal_law()
     ensures { TightIsMinimal }
 {}
 
-/// Where each request of a script rests on one set of promises, if it is allowed at all, nothing
-/// else that may be left out of the script, so that it is answered as before, leaves less than the
-/// tightened one has. By the standard rules each request does, and by OpenBSD's each but a chown or
-/// fchown, and a call without a path that asks for one of several promises.
+/// Where each request of a script rests on one set of promises, if it is allowed at all, and no
+/// promise that may be left out opens one of its paths by itself, nothing else that may be left out
+/// of the script, so that it is answered as before, leaves less than the tightened one has. By the
+/// standard rules each request does, and none is opened; by OpenBSD's each does but a chown or
+/// fchown, and a call without a path that asks for one of several promises, and a promise that
+/// opens a path may be left out only where a call without a path asks for it.
 pub fn least_law()
     ensures least { TightIsLeast }
     ensures rules { RulesRestOnOne }

@@ -8,17 +8,24 @@ ghost use Rattle.pua_tight.specs.Texts.{ended_text, fields_text, line_text};
 ghost use Rattle.pua_tight.specs.Left.{veil_fields};
 
 use crate::words::{given_left, joined, perms_left};
-use pua_calls::Perms;
-use pua_script::{Action, Given};
+use pua_calls::{Perms, Rules};
+use pua_script::{Action, Given, text_in};
 use std::alloc::{AllocError, Global};
 
-/// The line of a request, with the words that it has of those that stand there. What ends it stays.
-pub(crate) fn line_left(alloc: Global, action: &Action, line: &[u8]) -> Result<Vec<u8>, AllocError>
-    ensures { IfOk result (λ text. text.items ≡ ended_text action.now line.now) }
+/// The line of a request that is read by these rules, with the words that it has of those that
+/// stand there. A comment stays, and what ends the line.
+#[tactic(auto, using(crate::proofs::Comments::said_short))]
+pub(crate) fn line_left(
+    alloc: Global,
+    rules: Rules,
+    action: &Action,
+    line: &[u8],
+) -> Result<Vec<u8>, AllocError>
+    ensures { IfOk result (λ text. text.items ≡ ended_text rules action.now line.now) }
 {
-    let bare = bare_line(line);
-    let mut text = bare_left(alloc, action, bare)?;
-    text.extend_from_slice(&line[bare.len()..])?;
+    let said = text_in(rules, bare_line(line));
+    let mut text = text_left(alloc, action, said)?;
+    text.extend_from_slice(&line[said.len()..])?;
     Ok(text)
 }
 
@@ -32,11 +39,11 @@ fn bare_line(line: &[u8]) -> &[u8]
     }
 }
 
-/// The line of a request without its end.
-fn bare_left(alloc: Global, action: &Action, line: &[u8]) -> Result<Vec<u8>, AllocError>
-    ensures { IfOk result (λ text. text.items ≡ line_text action.now line.now) }
+/// What the line of a request says.
+fn text_left(alloc: Global, action: &Action, text: &[u8]) -> Result<Vec<u8>, AllocError>
+    ensures { IfOk result (λ left. left.items ≡ line_text action.now text.now) }
 {
-    let fields = fields_of(alloc, line)?;
+    let fields = fields_of(alloc, text)?;
     match action {
         Action::Pledge(promises, execpromises) => {
             pledge_left(alloc, *promises, *execpromises, fields.as_slice())

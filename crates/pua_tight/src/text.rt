@@ -7,17 +7,19 @@ ghost use Rattle.pua_tight.specs.Left.{nth_text};
 
 use crate::line::line_left;
 use crate::words::copied;
+use pua_calls::Rules;
 use pua_script::Request;
 use std::alloc::{AllocError, Global};
 
-/// The bytes of a script whose lines have these requests, each with the words that it has of those
-/// that stand there.
+/// The bytes of a script that is read by these rules, whose lines have these requests, each with
+/// the words that it has of those that stand there.
 pub(crate) fn thinned_text(
     alloc: Global,
+    rules: Rules,
     requests: &[Request],
     bytes: &[u8],
 ) -> Result<Vec<u8>, AllocError>
-    ensures { IfOk result (λ text. text.items ≡ thinned_text requests.now bytes.now) }
+    ensures { IfOk result (λ text. text.items ≡ thinned_text rules requests.now bytes.now) }
 {
     let lines = lines_of(alloc, bytes)?;
     let mut text = Vec::new(alloc);
@@ -25,7 +27,7 @@ pub(crate) fn thinned_text(
         if place > 0 {
             text.push(b'\n')?;
         }
-        let line = nth_left(alloc, requests, place, line)?;
+        let line = nth_left(alloc, rules, requests, place, line)?;
         text.extend_from_slice(line.as_slice())?;
     }
     Ok(text)
@@ -42,14 +44,15 @@ fn lines_of<'a>(alloc: Global, bytes: &'a [u8]) -> Result<Vec<&'a [u8]>, AllocEr
 /// The line at a place, as its request has it, if there is one.
 fn nth_left(
     alloc: Global,
+    rules: Rules,
     requests: &[Request],
     place: usize,
     line: &[u8],
 ) -> Result<Vec<u8>, AllocError>
-    ensures { IfOk result (λ text. text.items ≡ nth_text requests.now place line.now) }
+    ensures { IfOk result (λ text. text.items ≡ nth_text rules requests.now place line.now) }
 {
     match requests.get(place) {
-        Some(request) => line_left(alloc, request.action(), line),
+        Some(request) => line_left(alloc, rules, request.action(), line),
         None => copied(alloc, line),
     }
 }

@@ -22,8 +22,8 @@ use std::alloc::Global;
 /// is read by these rules and served over the tree of a listing by a table. From the last line to
 /// the first, and in a line in the order of keywords and of the letters r, w, x, c, each is left
 /// out without which every line is answered as before; of lines that are answered ok alone, and of
-/// promises those that some call asks for, or a request without a path, but `error`. All other bytes stay, and where nothing is
-/// left of an argument it is `=`.
+/// promises those that some call asks for, or a request without a path, but `error`. All other
+/// bytes stay, comments too, and where nothing is left of an argument it is `=`.
 ///
 /// The first that holds of `Listing` and `Script` is answered; `OutOfMemory` where a growth was
 /// refused.
@@ -41,7 +41,7 @@ pub fn tight_text(
 {
     let (wanted, mut requests) = begin(alloc, tree_bytes, script_bytes, rules, table)?;
     tighten(&wanted, &mut requests)?;
-    Ok(thinned_text(alloc, requests.as_slice(), script_bytes)?)
+    Ok(thinned_text(alloc, rules, requests.as_slice(), script_bytes)?)
 }
 
 /// The requests of a script that is read by these rules, and what they are answered over the tree

@@ -1,5 +1,5 @@
 -- Processes that are asked for together, one after another.
-use Rattle.pua_tool.proofs.Common.{◌≡◌, ℕ, List, [], ◌∷◌, ◌++◌, ◌∙◌, refl, sym, ap, map, Option, Some, None, Result, Ok, Err, ◌>>=◌}
+use Rattle.pua_tool.proofs.Common.{◌≡◌, ℕ, List, [], ◌∷◌, ◌++◌, ◌∙◌, refl, sym, ap, Option, Some, None, Result, Ok, Err, ◌>>=◌}
 use Rattle.pua_tool.proofs.Common.{CallTable, ProcessState, World, kept_at, ToolFault}
 use Rattle.std.proofs.Common.{◌+◌, ◌<◌, ◌≤◌, Bool, true, false, cond, not, drop, get_or, length, append_assoc, append-nil}
 use Rattle.std.proofs.Math.ListN.{drop_of_length-le}

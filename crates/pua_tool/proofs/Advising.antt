@@ -1,7 +1,6 @@
 -- How the telling of a fault ends, with what is said behind its line.
 use Rattle.pua_tool.proofs.Common.{ℕ, ◌≡◌, ◌≢◌, ◌++◌, [], List, ap, refl, sym, subst, None, Option, ToolFault, OutOfMemory}
 use Rattle.std.proofs.Common.{cond, inl, inr}
-use Rattle.pua_calls.specs.declared.rules.Rules.{Rules}
 use Rattle.pua_calls.specs.declared.rules.Rules.TheVariants.{Standard, Openbsd}
 use Rattle.pua_script.specs.declared.fault.ScriptFault.{ScriptFault}
 use Rattle.pua_advice.specs.Advice.{Advised, advice_of, script_advice}

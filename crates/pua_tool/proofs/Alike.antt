@@ -3,10 +3,8 @@ use Rattle.pua_tool.proofs.Common.{◌≡◌, List, sym, ap, ◌∙◌, subst, T
 use Rattle.pua_tree.proofs.ForCallers.{same_Some, same_Ok}
 use Rattle.pua_script.specs.Worlds.{WorldState, process_at}
 use Rattle.pua_script.specs.declared.answer.Answer.{Answer}
-use Rattle.pua_audit.specs.AuditState.{AuditState}
-use Rattle.pua_audit.specs.Begin.{Beginning, beginning, still_to_come}
-use Rattle.pua_tool.specs.Alike.{IsRunOver, IsAuditedOver, AnswersAlike, LinesAlike}
-use Rattle.pua_tool.specs.Texts.{Wanted}
+use Rattle.pua_audit.specs.Begin.{beginning, still_to_come}
+use Rattle.pua_tool.specs.Alike.{IsRunOver, AnswersAlike, LinesAlike}
 use Rattle.pua_texts.specs.Lines.{pair_lines}
 
 abbrev Ran : Type 0

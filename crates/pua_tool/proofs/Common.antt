@@ -5,7 +5,7 @@ pub use Rattle.std.specs.Prelude.{flat_map, None, Option, Result, Some}
 pub use Rattle.pua_calls.specs.Calls.{CallTable}
 pub use Rattle.pua_io.specs.Sinks.{Adds, AddsFront}
 pub use Rattle.pua_policy.specs.States.{ProcessState}
-pub use Rattle.pua_script.specs.Replay.{answers_to, kept_at, new_world, World, world_after}
+pub use Rattle.pua_script.specs.Replay.{answers_to, kept_at, lines_told, new_world, World, world_after}
 pub use Rattle.pua_script.specs.Requests.{Asked}
 pub use Rattle.pua_script.specs.Scripts.{script_by}
 pub use Rattle.pua_script.specs.Worlds.{world_of}
@@ -15,6 +15,8 @@ pub use Rattle.pua_texts.specs.Tells.{Tells}
 pub use Rattle.pua_tree.specs.Listing.{listing}
 pub use Rattle.pua_tree.specs.Steps.{◌>>=◌}
 pub use Rattle.pua_tree.specs.Tree.{Tree}
+pub use Rattle.pua_why.specs.Openings.{told_to}
+pub use Rattle.pua_why.specs.Seen.{line_seen}
 pub use Rattle.pua_tool.specs.Answers.{Answers, AnswersTo}
 pub use Rattle.pua_tool.specs.Begun.{as_replayed}
 pub use Rattle.pua_tool.specs.EverTexts.{unless_reason}

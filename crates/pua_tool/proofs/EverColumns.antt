@@ -14,6 +14,7 @@ use Rattle.pua_tree.specs.Tree.{Tree}
 use Rattle.pua_calls.specs.Calls.{CallTable, calls as all_calls, rule_of}
 use Rattle.pua_calls.specs.CallSets.{calls_in, has}
 use Rattle.pua_calls.specs.Promises.{holds}
+use Rattle.pua_calls.specs.TmpTable.{tmp_table}
 use Rattle.pua_calls.specs.declared.call.Call.{Call}
 use Rattle.pua_calls.specs.declared.call.Call.TheVariants.{Stat}
 use Rattle.pua_calls.proofs.ForCallers.{or_assoc}
@@ -143,6 +144,9 @@ module _ (p : ServedScript) (process : ℕ) (places : List Place) (calls : List 
   abbrev told : List (Place × ℕ) → List ℕ
   told = told_of p process places calls
 
+  abbrev tells : Place × ℕ → Bool
+  tells = is_told (tmp_table p.table) places calls
+
   -- with one veil more
   pub told_more : (so_far : List ℕ) (vs : List (Place × ℕ)) (v : Place × ℕ) (i : ℕ) → take (i + 1) vs ≡ take i vs ++ v ∷ [] →
       so_far ≡ old ++ told (take i vs) → so_far ++ told (v ∷ []) ≡ old ++ told (take (i + 1) vs)
@@ -150,14 +154,14 @@ module _ (p : ServedScript) (process : ℕ) (places : List Place) (calls : List 
       (λ j. is j ++ told (v ∷ []))
       ∙ append_assoc old (told (take i vs)) (told (v ∷ []))
       ∙ ap (λ bytes. old ++ bytes)
-      (sym (ap told more ∙ ap (flat_map (kept_text p process)) (filter-append (is_told p.table places calls) (take i vs) (v ∷ []))
-      ∙ flat_map-append (kept_text p process) (filter (is_told p.table places calls) (take i vs)) (filter (is_told p.table places calls) (v ∷ []))))
+      (sym (ap told more ∙ ap (flat_map (kept_text p process)) (filter-append tells (take i vs) (v ∷ []))
+      ∙ flat_map-append (kept_text p process) (filter tells (take i vs)) (filter tells (v ∷ []))))
 
   -- a veil is added if it is told
-  pub told_one : (v : Place × ℕ) → is_told p.table places calls v ≡ true → kept_text p process v ≡ told (v ∷ [])
+  pub told_one : (v : Place × ℕ) → tells v ≡ true → kept_text p process v ≡ told (v ∷ [])
   told_one v is = sym (append-nil (kept_text p process v)) ∙ ap (λ b. flat_map (kept_text p process) (cond b (v ∷ []) [])) (sym is)
 
-  pub told_none : (v : Place × ℕ) → is_told p.table places calls v ≡ false → old ≡ old ++ told (v ∷ [])
+  pub told_none : (v : Place × ℕ) → tells v ≡ false → old ≡ old ++ told (v ∷ [])
   told_none v is = sym (append-nil old) ∙ ap (λ b. old ++ flat_map (kept_text p process) (cond b (v ∷ []) [])) (sym is)
 
 -- a text that grew has more than dashes behind it, and one that didn't nothing

@@ -4,6 +4,7 @@ use Rattle.pua_tool.proofs.Common.{ProcessState, kept_at, Chosen, Replayed, repl
 use Rattle.pua_tool.proofs.Common.{unless_reason}
 use Rattle.std.proofs.Common.{◌⊎◌, inl, inr}
 use Rattle.std.specs.Prelude.{ok_or}
+use Rattle.pua_calls.specs.TmpTable.{tmp_table}
 use Rattle.pua_calls.specs.declared.rules.Rules.{Rules}
 use Rattle.pua_tree.proofs.ForCallers.{same_Some, None≢Some}
 use Rattle.pua_ever.specs.Refusals.{refusal}
@@ -35,8 +36,8 @@ module _ (rules : Rules) (done : Replayed) (process : ℕ) where
 
   some_list : (h : ProcessState) → (list : List ℕ) × IsEverHowList rules done process h list
   some_list h =
-      let all = some_columns rules done process h (ever_lasting done.world.tree done.table h) in (
-        ever_list_with rules done.table done.world.tree process h all.0,
+      let all = some_columns rules done process h (ever_lasting done.world.tree (tmp_table done.table) h) in (
+        ever_list_with rules (tmp_table done.table) done.world.tree process h all.0,
         record { lines = all.0; are = all.1; columns = all.2; is = refl },
       )
 

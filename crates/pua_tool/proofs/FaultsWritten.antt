@@ -1,19 +1,16 @@
 -- What was told of a command that was not done, and how it ended.
-use Rattle.pua_tool.proofs.Common.{ℕ, ◌≡◌, ◌≢◌, ◌++◌, ◌∙◌, [], List, arith, refl, sym, subst, Option, ToolFault, Write, OutOfMemory, Tool}
-use Rattle.std.proofs.Common.{◌≤◌, ◌⊎◌, Bool, true, false, cond, Result, Vec, Global, inl, inr, append-nil}
+use Rattle.pua_tool.proofs.Common.{ℕ, ◌≡◌, ◌≢◌, ◌++◌, [], List, arith, refl, sym, subst, Option, ToolFault, Write, OutOfMemory, Tool}
+use Rattle.std.proofs.Common.{◌≤◌, ◌⊎◌, Bool, true, false, cond, Vec, Global, inl, inr, append-nil}
 use Rattle.pua_io.specs.Held.{Held, Holds}
-use Rattle.pua_io.specs.declared.sink.PutFault.{PutFault}
-use Rattle.pua_io.specs.Sinks.{Writes}
 use Rattle.pua_words.specs.declared.command.Command.{Command}
-use Rattle.pua_script.specs.declared.fault.ScriptFault.{ScriptFault}
 use Rattle.pua_tool.specs.declared.fault.ToolFault.TheVariants.{Script, Request}
 use Rattle.pua_tool.specs.declared.outcome.CommandFault.{CommandFault}
 use Rattle.pua_tool.specs.declared.outcome.CommandFault.TheVariants.{Usage, Unreadable}
 use Rattle.pua_tool.specs.declared.status.TheConstants.{DONE, REFUSED, USAGE, DEVICE, MEMORY}
-use Rattle.pua_tool.specs.Statuses.{fault_status, status_of}
+use Rattle.pua_tool.specs.Statuses.{fault_status}
 use Rattle.pua_tool.specs.FaultTexts.{fault_line}
-use Rattle.pua_tool.specs.Told.{IsFaultTold, IsLineTold, IsPlain, TellsStatus, fault_text}
-use Rattle.pua_tool.specs.Performed.{IsAskedBy, IsCutShort, IsRefused, IsStopped, IsUntaken, IsUnwritten, Lacks, LacksInput}
+use Rattle.pua_tool.specs.Told.{IsFaultTold, IsLineTold, TellsStatus, fault_text}
+use Rattle.pua_tool.specs.Performed.{IsCutShort, IsRefused, IsStopped, IsUntaken, IsUnwritten, Lacks, LacksInput}
 use Rattle.pua_tool.specs.Advised.{HasTold, IsToldOf, fault_said, has_advice}
 use Rattle.pua_tool.specs.Ended.{IsEndOf, IsEndedAs, IsInPlaceOf}
 use Rattle.pua_tool.specs.declared.advised.Halt.TheVariants.{Untaken, Unwritten}

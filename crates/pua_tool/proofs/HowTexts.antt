@@ -9,6 +9,7 @@ use Rattle.std.specs.Prelude.{string_bytes, ok_or, IfErr, IfOk}
 use Rattle.std.specs.List.{AllByRecursion, Contains}
 use Rattle.pua_tree.proofs.ForCallers.{same_Ok}
 use Rattle.pua_calls.specs.Calls.{call_in}
+use Rattle.pua_calls.specs.TmpTable.{tmp_table}
 use Rattle.pua_calls.specs.declared.call.Call.{Call}
 use Rattle.pua_calls.specs.declared.rules.Rules.{Rules}
 use Rattle.pua_ever.specs.Refusals.{refusal}
@@ -187,7 +188,7 @@ module _ (done : Replayed) (wanted : HowWanted) (q : given.HowQuestion) (h : Pro
 
   pub question_is : t ≡ done.world.tree → table ≡ done.table → kept_at done.world wanted.process ≡ Some h → refusal table h ≡ None →
       call_in table wanted.call ≡ Some q.call → AreMeant t h wanted things → (asked : List Target) → asked ≡ things →
-      follows_link t q.call asked ≡ false → IsOutlook t table h asked q.call q.outlook → IsQuestion done wanted q
+      follows_link t q.call asked ≡ false → IsOutlook t (tmp_table table) h asked q.call q.outlook → IsQuestion done wanted q
   question_is at ruled here none read meant asked all kept outlook =
       let are = subst (λ (t : Tree). AreMeant t h wanted things) at meant in
       record {
@@ -197,9 +198,9 @@ module _ (done : Replayed) (wanted : HowWanted) (q : given.HowQuestion) (h : Pro
         asked = question_made done wanted are.last h q.call things here (subst (λ (table : CallTable). refusal table h ≡ None) ruled none)
             (subst (λ (table : CallTable). call_in table wanted.call ≡ Some q.call) ruled read) are.are
             ((λ i. follows_link (sym at i) q.call (sym all i)) ∙ kept);
-        outlook = subst (λ (table : CallTable). IsOutlook done.world.tree table h things q.call q.outlook) ruled
-            (subst (λ (t : Tree). IsOutlook t table h things q.call q.outlook) at
-            (subst (λ (asked : List Target). IsOutlook t table h asked q.call q.outlook) all outlook));
+        outlook = subst (λ (table : CallTable). IsOutlook done.world.tree (tmp_table table) h things q.call q.outlook) ruled
+            (subst (λ (t : Tree). IsOutlook t (tmp_table table) h things q.call q.outlook) at
+            (subst (λ (asked : List Target). IsOutlook t (tmp_table table) h asked q.call q.outlook) all outlook));
       }
 
 -- ---- what is told

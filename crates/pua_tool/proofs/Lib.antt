@@ -1,11 +1,13 @@
 pub mod Common
 pub mod Replays
 pub mod Tables
+pub mod TmpTables
 pub mod Futures
 pub mod Alike
 pub mod Numbers
 pub mod TextAnswers
 pub mod EverTextForesees
+pub mod Okays
 pub mod ListWritten
 pub mod Stops
 pub mod LinesWritten
@@ -24,6 +26,7 @@ pub mod ActingNext
 pub mod TogetherTexts
 pub mod Several
 pub mod Never
+pub mod PathlessLines
 pub mod TightTexts
 pub mod Fewest
 pub mod ReadBack
@@ -31,3 +34,5 @@ pub mod Headline
 pub mod Fronts
 pub mod FrontLines
 pub mod FrontRequests
+pub mod ImageLines
+pub mod ImagesWritten

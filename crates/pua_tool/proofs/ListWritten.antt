@@ -1,6 +1,6 @@
 -- What a list of objects that was written says.
 use Rattle.pua_tool.proofs.Common.{◌≡◌, ◌∙◌, ◌∷◌, [], ℕ, List, ◌++◌, ap, refl, sym, Ok, Option, Some, None, CallTable, Tree, Asked, World}
-use Rattle.pua_tool.proofs.Common.{ProcessState, kept_at, new_world, answers_to, world_after, answer_lines, with_end, listing, script_by, Chosen}
+use Rattle.pua_tool.proofs.Common.{ProcessState, kept_at, new_world, told_to, world_after, answer_lines, with_end, listing, script_by, Chosen}
 use Rattle.pua_tool.proofs.Common.{Replayed, Result, table_by, as_listing, as_script, replay_of, ToolFault, arith, flat_map}
 use Rattle.std.proofs.Common.{zero, suc, append_assoc, append-nil}
 use Rattle.std.specs.Prelude.{◌&&◌, true, Err, if◌then◌else◌, is_some}
@@ -18,9 +18,13 @@ use Rattle.pua_texts.specs.States.{head_lines}
 use Rattle.pua_words.specs.declared.command.Processes.{Processes}
 use Rattle.pua_words.specs.declared.command.Processes.TheVariants.{One}
 use Rattle.pua_tool.specs.ObjectTexts.{lists_asked, objects_after, objects_text}
-use Rattle.pua_tool.specs.Listed.{HasLine, IsListWritten, ObjectsAsWritten}
+use Rattle.pua_tool.specs.Listed.{IsListWritten, ObjectsAsWritten}
 use Rattle.pua_tool.specs.declared.fault.ToolFault.TheVariants.{NoProcess}
+use Rattle.pua_script.specs.OpeningLaws.{OkaysAreAccounted}
+use Rattle.pua_texts.specs.States.{OpeningsArePrinted}
+use Rattle.pua_tool.proofs.Okays.{okays_listed}
 use Rattle.pua_tool.proofs.Replays.{replayed_is}
+use Rattle.pua_tool.proofs.Tables.{tables_are_by_rules}
 
 -- a piece among the pieces of a text
 pub in_lines : {A : Type 0} (f : A → List ℕ) (xs : List A) (x : A) → Contains xs x →
@@ -41,12 +45,12 @@ in_lines f (y ∷ xs) x (suc k, low, is) =
 pub behind : (front head before piece after : List ℕ) → front ++ (head ++ (before ++ piece ++ after)) ≡ (front ++ head ++ before) ++ piece ++ after
 behind front head before piece after = search (append_assoc)
 
-list_is : (choice : Chosen) (tree_bytes script_bytes : List ℕ) (which : Processes) (done : Replayed) →
+pub list_is : (choice : Chosen) (tree_bytes script_bytes : List ℕ) (which : Processes) (done : Replayed) →
     replay_of choice tree_bytes script_bytes ≡ Ok done → objects_text choice tree_bytes script_bytes which ≡ lists_asked choice.rules done which
 unfolding objects_text
 list_is choice tree_bytes script_bytes which done r = λ i. r i >>= λ done. lists_asked choice.rules done which
 
-module _ (complete : Complete) (sound : SoundLines) (choice : Chosen) (tree_bytes script_bytes : List ℕ) (table : CallTable) (t : Tree) (first : List Asked)
+module _ (complete : Complete) (sound : SoundLines) (accounted : OkaysAreAccounted) (openings : OpeningsArePrinted) (choice : Chosen) (tree_bytes script_bytes : List ℕ) (table : CallTable) (t : Tree) (first : List Asked)
     (process : ℕ) (text : List ℕ) (given : table_by choice ≡ Ok table) (read : listing tree_bytes ≡ Ok t)
     (scripted : script_by choice.rules script_bytes ≡ Ok first)
     (told : objects_text choice tree_bytes script_bytes (One process) ≡ Ok text) where
@@ -54,7 +58,7 @@ module _ (complete : Complete) (sound : SoundLines) (choice : Chosen) (tree_byte
   w = world_after table (new_world t) first
 
   abbrev done : Replayed
-  done = record { table = table; answers = answers_to table (new_world t) first; world = w }
+  done = record { table = table; answers = told_to table (new_world t) first; world = w }
 
   abbrev front : List ℕ
   front = answer_lines 1 done.answers
@@ -94,6 +98,9 @@ module _ (complete : Complete) (sound : SoundLines) (choice : Chosen) (tree_byte
             is_text = text_is;
             complete = λ from call path. complete w.tree table h from call path left.tree;
             sound = sound w.tree table h left.tree (placed_after_read table choice.rules tree_bytes script_bytes t first read scripted process h is);
+            okays = okays_listed accounted openings choice.rules table w process h front
+                (flat_map (λ (l : Line). with_end (line_text w.tree l)) (objects w.tree table h)) text (tables_are_by_rules choice table given) is
+                (λ from call path. complete w.tree table h from call path left.tree) text_is;
             printed = λ line listed.
                 let found = in_lines (λ (l : Line). with_end (line_text w.tree l)) (objects w.tree table h) line listed in (
                   front ++ head_lines w.tree (heading_now choice.rules process) h ++ found.0,
@@ -103,6 +110,6 @@ module _ (complete : Complete) (sound : SoundLines) (choice : Chosen) (tree_byte
                 );
           }
 
-pub objects_as_written : Complete → SoundLines → ObjectsAsWritten
-objects_as_written complete sound choice tree_bytes script_bytes table t first process text given read scripted told =
-    written complete sound choice tree_bytes script_bytes table t first process text given read scripted told
+pub objects_as_written : Complete → SoundLines → OkaysAreAccounted → OpeningsArePrinted → ObjectsAsWritten
+objects_as_written complete sound accounted openings choice tree_bytes script_bytes table t first process text given read scripted told =
+    written complete sound accounted openings choice tree_bytes script_bytes table t first process text given read scripted told

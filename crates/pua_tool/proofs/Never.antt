@@ -1,14 +1,14 @@
 -- What `never` says that was written in the place of a way.
-use Rattle.pua_tool.proofs.Common.{◌≡◌, ◌≢◌, ◌∙◌, ◌∷◌, [], ℕ, List, ◌++◌, ap, refl, sym, subst, map, flat_map, Ok, Err, Option, Some, None, Result, CallTable, Tree}
-use Rattle.pua_tool.proofs.Common.{Asked, World, ProcessState, kept_at, new_world, world_after, answers_to, with_end, listing, script_by, arith}
-use Rattle.pua_tool.proofs.Common.{Chosen, Replayed, table_by, as_listing, as_script, replay_of, ToolFault, ◌>>=◌}
-use Rattle.std.proofs.Common.{◌⊎◌, inl, inr, Bool, true, false, cond, append_assoc}
+use Rattle.pua_tool.proofs.Common.{◌≡◌, ◌≢◌, ◌∙◌, ◌∷◌, [], ℕ, List, ◌++◌, ap, refl, sym, subst, map, flat_map, Ok, Option, Some, None, CallTable, Tree}
+use Rattle.pua_tool.proofs.Common.{Asked, World, ProcessState, kept_at, new_world, world_after, told_to, with_end, listing, script_by, arith}
+use Rattle.pua_tool.proofs.Common.{Chosen, Replayed, table_by, as_listing, as_script}
+use Rattle.std.proofs.Common.{◌⊎◌, inl, inr, Bool, true, false, append_assoc}
 use Rattle.std.proofs.lemmas.Bool.{and_parts, false≢true}
 use Rattle.std.specs.List.{Contains, list_all}
 use Rattle.std.specs.Prelude.{◌==◌, IsTrue, codes, not, ok_or}
-use Rattle.pua_tree.specs.Tree.{WellFormed}
-use Rattle.pua_tree.proofs.ForCallers.{None≢Some, same_Ok, same_Some, Err≢Ok, ok_or_read, step_read}
+use Rattle.pua_tree.proofs.ForCallers.{same_Ok, same_Some, Err≢Ok, ok_or_read, step_read}
 use Rattle.pua_calls.specs.Calls.{call_in}
+use Rattle.pua_calls.specs.TmpTable.{tmp_table}
 use Rattle.pua_calls.specs.declared.call.Call.{Call}
 use Rattle.pua_calls.specs.declared.rules.Rules.{Rules}
 use Rattle.pua_calls.specs.declared.rules.Rules.TheVariants.{Standard, Openbsd}
@@ -22,11 +22,11 @@ use Rattle.pua_ever.specs.Ever.{EverLine}
 use Rattle.pua_ever.specs.Refusals.{refusal}
 use Rattle.pua_ever.specs.Through.{ever_lasting, execs_of}
 use Rattle.pua_ever.specs.declared.lasting_list.ExecBound.{ExecBound}
-use Rattle.pua_ever.specs.declared.lasting_list.ExecBound.TheVariants.{Never, Bounded, Open}
+use Rattle.pua_ever.specs.declared.lasting_list.ExecBound.TheVariants.{Open}
 use Rattle.pua_ever.specs.declared.refusal.EverRefusal.{EverRefusal}
 use Rattle.pua_ever.proofs.ForCallers.{any_among, unrefused_process}
 use Rattle.pua_how.specs.PathQuestion.{PathQuestion, path_question, targets_of}
-use Rattle.pua_how.specs.Targets.{IsGiven, IsLast, is_listed}
+use Rattle.pua_how.specs.Targets.{IsLast, is_listed}
 use Rattle.pua_how.specs.declared.target.Target.{Target}
 use Rattle.pua_how.proofs.ForCallers.{all_given, any_listed, lasting_lives, listed_alike, unforeseen}
 use Rattle.pua_tool.specs.EverTexts.{ever_fault}
@@ -34,7 +34,7 @@ use Rattle.pua_tool.specs.Forever.{IsForeseenBehind}
 use Rattle.pua_tool.specs.HowTexts.{HowWanted, IsFoundFor, IsHowAfter, IsHowAsked, IsHowText, HowQuestion, follows_link, may_come, question_of}
 use Rattle.pua_tool.specs.HowTexts.{some_thing, things_asked, told_without, unless_followed, unless_refused, way_text}
 use Rattle.pua_tool.specs.Never.{IsNeverTold, NeverAsWritten, NeverComesBehind, NeverComesTo, before_exec_line, never_line}
-use Rattle.pua_tool.specs.declared.fault.ToolFault.TheVariants.{NoProcess, HowCall, HowPath, HowThing, HowLink}
+use Rattle.pua_tool.specs.declared.fault.ToolFault.TheVariants.{NoProcess, HowCall, HowPath, HowThing}
 use Rattle.pua_tool.proofs.Replays.{replayed_is}
 use Rattle.pua_tool.proofs.EverTextForesees.{foreseen_behind}
 
@@ -175,25 +175,29 @@ module _ (choice : Chosen) (tree_bytes script_bytes : List ℕ) (table : CallTab
   abbrev w : World
   w = world_after table (new_world t) first
 
+  -- the table by which lists for ever go
+  abbrev tmp : CallTable
+  tmp = tmp_table table
+
   abbrev done : Replayed
-  done = record { table = table; answers = answers_to table (new_world t) first; world = w }
+  done = record { table = table; answers = told_to table (new_world t) first; world = w }
 
   left : IsByteTree w.tree
   left = replays_keep_byte_trees table (new_world t) first (listings_list_byte_trees tree_bytes t read)
       (scripts_ask_in_bytes choice.rules script_bytes first scripted)
 
   module _ (last : ℕ) (q : HowQuestion) (asked : question_of done wanted last ≡ Ok q)
-      (told : with_end (told_without (may_come done q) (execs_of w.tree table q.process)) ≡ text) where
+      (told : with_end (told_without (may_come done q) (execs_of w.tree tmp q.process)) ≡ text) where
     is : IsAskedIn done wanted last q
     is = asked_in done wanted last q asked
 
     none : may_come done q ≡ false
-    none = told_none (may_come done q) (execs_of w.tree table q.process) (subst SaysNever (sym told) says)
+    none = told_none (may_come done q) (execs_of w.tree tmp q.process) (subst SaysNever (sym told) says)
 
     -- what is said of execs
     shut : (asks : List Asked) → (text ≡ never_line) ⊎ IsTrue (none_done is_exec table w asks (wanted.process ∷ [])) →
-        (execs_of w.tree table q.process ≢ Open) ⊎ IsTrue (none_done is_exec table w asks (wanted.process ∷ []))
-    shut asks (inl same) = inl (told_shut (may_come done q) (execs_of w.tree table q.process) (told ∙ same))
+        (execs_of w.tree tmp q.process ≢ Open) ⊎ IsTrue (none_done is_exec table w asks (wanted.process ∷ []))
+    shut asks (inl same) = inl (told_shut (may_come done q) (execs_of w.tree tmp q.process) (told ∙ same))
     shut asks (inr alone) = inr alone
 
     comes_never : IsForeseenBehind table w (wanted.process ∷ []) q.process → (above : ℕ) → IsLast w.tree above → (things : List Target) →
@@ -204,10 +208,10 @@ module _ (choice : Chosen) (tree_bytes script_bytes : List ℕ) (table : CallTab
         let by = asked_by w.tree q.process wanted above things meant in (
           last_state.0,
           last_state.1,
-          unforeseen (ever_lasting w.tree table q.process) w.tree (world_after table w asks).tree table q.process last_state.0 left.tree
-              (lasting_lives w.tree table q.process left.tree) last_state.2 thing q.call
+          unforeseen (ever_lasting w.tree tmp q.process) w.tree (world_after table w asks).tree tmp q.process last_state.0 left.tree
+              (lasting_lives w.tree tmp q.process left.tree) last_state.2 thing q.call
               (all_given w.tree q.process left.tree above are by.0 wanted.kind thing (subst (λ all. Contains all thing) (sym by.2) there))
-              (none_listed w.tree q.process wanted (ever_lasting w.tree table q.process) q.call last above q.things things is.meant meant none thing there),
+              (none_listed w.tree q.process wanted (ever_lasting w.tree tmp q.process) q.call last above q.things things is.meant meant none thing there),
         )
 
     is_never : IsNeverTold table t first wanted text

@@ -1,7 +1,6 @@
 -- The numbers of processes, in ascending order.
-use Rattle.pua_tool.proofs.Common.{◌≡◌, ◌∙◌, ℕ, List, [], ◌∷◌, refl, sym, ap, subst, Some, world_of}
+use Rattle.pua_tool.proofs.Common.{◌≡◌, ◌∙◌, ℕ, List, [], ◌∷◌, refl, sym, ap, Some, world_of}
 use Rattle.std.proofs.Common.{T, Bool, true, false, ◌&&◌, ◌||◌, is_some, cond}
-use Rattle.std.specs.BTreeSet.{BTreeSet}
 use Rattle.std.specs.FinMap.{is_sorted, find}
 use Rattle.std.specs.FinMap.Entries.{below_all, is_some-find, is_sorted-put, find-put}
 use Rattle.std.specs.List.{AllByRecursion, list_any}

@@ -2,25 +2,23 @@
 use Rattle.pua_tool.proofs.Common.{◌≡◌, ◌∙◌, ◌∷◌, [], ℕ, List, ◌++◌, ap, refl, sym, subst, map, flat_map, Ok, Err, Option, Some, None, Result, CallTable, Tree}
 use Rattle.pua_tool.proofs.Common.{Asked, World, ProcessState, kept_at, new_world, world_after, with_end, listing, script_by, arith}
 use Rattle.pua_tool.proofs.Common.{Chosen, table_by, as_listing, as_script, ToolFault, ◌>>=◌}
-use Rattle.std.proofs.Common.{suc, ◌+◌, inl, inr, Bool, true, false, cond, length, append_assoc, append-nil}
+use Rattle.std.proofs.Common.{suc, inl, inr, Bool, true, false, cond, length, append-nil}
 use Rattle.std.proofs.lemmas.Bool.{and_parts, and_from, eq-eqb, false≢true}
 use Rattle.std.proofs.lemmas.List.{length-append}
 use Rattle.std.proofs.lemmas.List.Folds.{list_all-append}
 use Rattle.std.specs.List.{Contains}
 use Rattle.std.specs.Option.{option_map_or}
-use Rattle.std.specs.Prelude.{◌&&◌, IsTrue, bit_or, codes, decimal, if◌then◌else◌, is_some, unwrap_or}
+use Rattle.std.specs.Prelude.{◌&&◌, IsTrue, bit_or, decimal, if◌then◌else◌, is_some, unwrap_or}
 use Rattle.pua_tree.specs.Tree.{WellFormed, climb}
-use Rattle.pua_tree.proofs.ForCallers.{None≢Some, same_Ok, same_Some, Err≢Ok}
-use Rattle.pua_path.specs.declared.found.Found.{Found}
+use Rattle.pua_tree.proofs.ForCallers.{same_Ok, Err≢Ok}
 use Rattle.pua_path.specs.declared.found.Found.TheVariants.{Slot}
 use Rattle.pua_calls.specs.Calls.{calls, rule_of}
 use Rattle.pua_calls.specs.Promises.{holds}
 use Rattle.pua_calls.specs.declared.call.Call.{Call}
-use Rattle.pua_calls.specs.declared.rules.Rules.{Rules}
 use Rattle.pua_policy.specs.States.{has_veil, held_set, is_ended, may_any, perms_kept, veil_at, veils}
 use Rattle.pua_policy.specs.Laws.{places_over}
 use Rattle.pua_policy.specs.ReasonLaws.{CoveringHolds, PromisingHolds}
-use Rattle.pua_policy.specs.Reasons.{Promising, Holds, HasEnded, Lacks, covering, first_kept, kept_or, may_of, promising}
+use Rattle.pua_policy.specs.Reasons.{Promising, Holds, HasEnded, Lacks, first_kept, kept_or, may_of, promising}
 use Rattle.pua_policy.specs.Verdict.{if_promised, is_allowed}
 use Rattle.pua_policy.specs.declared.answer.May.{May}
 use Rattle.pua_policy.specs.declared.answer.May.TheVariants.{Yes, Enosys, Death}
@@ -32,27 +30,25 @@ use Rattle.pua_policy.specs.declared.reason.Covering.TheVariants.{InView, NoneOv
 use Rattle.pua_policy.proofs.ForCallers.{coverings_hold, holds_through, lackings_hold, promisings_answer, promisings_hold}
 use Rattle.pua_script.specs.AnswerTexts.{answer_text}
 use Rattle.pua_script.specs.Bytes.{IsByteTree, is_in_bytes, are_in_bytes}
-use Rattle.pua_script.specs.Laws.{LacksRoom}
-use Rattle.pua_script.specs.Replay.{apply}
+use Rattle.pua_script.specs.Requests.{says_nothing}
 use Rattle.pua_script.proofs.ForCallers.{replays_keep_byte_trees, listings_list_byte_trees, scripts_ask_in_bytes}
-use Rattle.pua_objects.specs.Objects.{Line, Item, Subject, At, Others, calls_on, has_calls, is_named_by, items, line_of, line_text, objects, subject_verdict}
+use Rattle.pua_objects.specs.Objects.{Line, Item, Subject, At, Others, calls_on, has_calls, is_named_by, items, line_of, objects, subject_verdict}
 use Rattle.pua_objects.proofs.ForCallers.{Among, among_contained, filter_among, map_among}
 use Rattle.pua_ever.proofs.ForCallers.{first_new, first_of, second_of}
-use Rattle.pua_why.specs.Columns.{covering_in, let_by, resting_on, veil_columns}
+use Rattle.pua_why.specs.Columns.{let_by, resting_on, veil_columns}
 use Rattle.pua_why.specs.Keys.{reason_key}
 use Rattle.pua_why.specs.Openings.{opened_by, opener_text}
-use Rattle.pua_why.specs.Reasons.{Fault, NoRoom, Reason, NeverMade, Ended, Refused, Granted, answer_of, reason, reason_by, reason_of, request_fault}
+use Rattle.pua_why.specs.Reasons.{Fault, Ended, reason, reason_by, reason_of, request_fault}
 use Rattle.pua_why.specs.Since.{IsSince, TurnsAt, forebear, since}
-use Rattle.pua_why.specs.Texts.{answer_why, date_of, has_key, has_veil_on, letters_text, place_text, promises_text, reason_text, since_text}
-use Rattle.pua_why.specs.Texts.{spaced_words, why_lines}
-use Rattle.pua_why.specs.Truths.{RequestFaultHolds}
+use Rattle.pua_why.specs.Texts.{answer_why, date_of, has_key, has_veil_on, letters_text, place_text, reason_text, since_text}
+use Rattle.pua_why.specs.Texts.{line_said, spaced_words, why_lines}
 use Rattle.pua_why.proofs.ForCallers.{full_trees_are_full, reasons_give_answers, reasons_since, request_faults_hold, since_holds, so_at_first}
 use Rattle.pua_texts.specs.ObjectLines.{heading_now}
 use Rattle.pua_texts.specs.States.{head_lines}
 use Rattle.pua_texts.specs.WhyLines.{ServedScript, covering_of, why_line, why_list, why_lists_of, world_left}
 use Rattle.pua_words.specs.declared.command.Processes.TheVariants.{One}
-use Rattle.pua_tool.specs.Reasoned.{AreReasonsTold, IsCovered, IsLineReasoned, IsListReasoned, IsReasonTold, IsRunReasoned, IsVeilTold}
-use Rattle.pua_tool.specs.Reasoned.{ReasonHolds, ReasonsAsWritten, reasoned_line}
+use Rattle.pua_tool.specs.Reasoned.{AreReasonsTold, IsCovered, IsFirstTold, IsLineReasoned, IsListReasoned, IsReasonTold, IsRunReasoned, IsVeilTold}
+use Rattle.pua_tool.specs.Reasoned.{ReasonHolds, ReasonsAsWritten}
 use Rattle.pua_tool.specs.WhyTexts.{objects_why_text, served_script, reason_lines, run_why_text, why_lists_asked}
 use Rattle.pua_tool.specs.declared.fault.ToolFault.TheVariants.{NoProcess}
 use Rattle.pua_tool.proofs.ListWritten.{behind, in_lines}
@@ -84,9 +80,9 @@ reason_holds table w ask well = by (kept_at w ask.process) refl
     by None is = is
     by (Some h) is = living h is (is_ended h) refl
 
-module _ (rules : Rules) (table : CallTable) (w : World) (tree : IsByteTree w.tree) where
+module _ (table : CallTable) (w : World) (tree : IsByteTree w.tree) where
   line_told : (before : List Asked) (ask : Asked) (n : ℕ) → are_in_bytes before ≡ true → n ≡ suc (length before) →
-      IsReasonTold rules table w before ask (decimal n ++ 32 ∷ answer_why rules table w before ask)
+      IsReasonTold table w before ask (decimal n ++ 32 ∷ answer_why table w before ask)
   line_told before ask n bytes is =
       let left = world_after table w before in
       let why = reason table left ask in
@@ -96,19 +92,30 @@ module _ (rules : Rules) (table : CallTable) (w : World) (tree : IsByteTree w.tr
         why = why;
         turned = turned;
         is_line = λ i. decimal (is i) ++ 32 ∷ ((answer_text (reasons_give_answers table left ask i) ++ spaced_words (reason_text left.tree why))
-            ++ (since_text (date_of why turned) ++ opener_text (opened_by rules table left ask why)));
+            ++ (since_text (date_of why turned) ++ opener_text (opened_by table left ask)));
         answers = reasons_give_answers table left ask;
         holds = reason_holds table left ask left_tree.tree;
         since = reasons_since table w before ask;
       }
 
-  lines_told : (asks before : List Asked) (n : ℕ) → are_in_bytes before ≡ true → are_in_bytes asks ≡ true → n ≡ suc (length before) →
-      AreReasonsTold rules table w before asks (why_lines rules table w before n asks)
-  lines_told [] before n bytes more is = tt
-  lines_told (ask ∷ asks) before n bytes more is =
+  first_told : (ask : Asked) (before : List Asked) (n : ℕ) (more : List (List ℕ)) → are_in_bytes before ≡ true → n ≡ suc (length before) →
+      IsFirstTold table w before ask (says_nothing ask.action)
+      (line_said ask (decimal n ++ 32 ∷ answer_why table w before ask) ++ more) more
+  first_told ask before n more bytes is = by (says_nothing ask.action)
+    where
+      by : (silent : Bool) → IsFirstTold table w before ask silent
+          ((if silent then [] else (decimal n ++ 32 ∷ answer_why table w before ask) ∷ []) ++ more) more
+      by true = refl
+      by false = (decimal n ++ 32 ∷ answer_why table w before ask, refl, line_told before ask n bytes is)
+
+  reasons_told : (asks before : List Asked) (n : ℕ) → are_in_bytes before ≡ true → are_in_bytes asks ≡ true → n ≡ suc (length before) →
+      AreReasonsTold table w before asks (why_lines table w before n asks)
+  reasons_told [] before n bytes more is = refl
+  reasons_told (ask ∷ asks) before n bytes more is =
       let parts = and_parts (is_in_bytes ask.action) (are_in_bytes asks) more in (
-        line_told before ask n bytes is,
-        lines_told asks (before ++ ask ∷ []) (suc n)
+        why_lines table w (before ++ ask ∷ []) (suc n) asks,
+        first_told ask before n (why_lines table w (before ++ ask ∷ []) (suc n) asks) bytes is,
+        reasons_told asks (before ++ ask ∷ []) (suc n)
             (list_all-append (λ ask. is_in_bytes ask.action) before (ask ∷ [])
             ∙ and_from (are_in_bytes before) (is_in_bytes ask.action && true) bytes (and_from (is_in_bytes ask.action) true parts.0 refl))
             parts.1 (omega (arith, is, length-append before (ask ∷ []))),
@@ -251,27 +258,27 @@ module _ (choice : Chosen) (tree_bytes script_bytes : List ℕ) (table : CallTab
   left = world_left served
 
   abbrev lines : List (List ℕ)
-  lines = why_lines choice.rules table (new_world t) [] 1 asks
+  lines = why_lines table (new_world t) [] 1 asks
 
   is_served : served_script choice tree_bytes script_bytes ≡ Ok served
   is_served = posed_is choice tree_bytes script_bytes table t asks given (ap as_listing read) (ap as_script scripted)
 
-  told : AreReasonsTold choice.rules table (new_world t) [] asks lines
-  told = lines_told choice.rules table (new_world t) (listings_list_byte_trees tree_bytes t read) asks [] 1 refl
+  told : AreReasonsTold table (new_world t) [] asks lines
+  told = reasons_told table (new_world t) (listings_list_byte_trees tree_bytes t read) asks [] 1 refl
       (scripts_ask_in_bytes choice.rules script_bytes asks scripted) refl
 
-  run_reasoned : run_why_text choice tree_bytes script_bytes ≡ Ok text → IsRunReasoned choice.rules table t asks text
+  run_reasoned : run_why_text choice tree_bytes script_bytes ≡ Ok text → IsRunReasoned table t asks text
   run_reasoned is = record {
     lines = lines;
-    is_text = sym (same_Ok (reason_lines choice.rules served) text
-        ((λ i. sym is_served i >>= λ p. Ok (reason_lines choice.rules p)) ∙ is));
+    is_text = sym (same_Ok (reason_lines served) text
+        ((λ i. sym is_served i >>= λ p. Ok (reason_lines p)) ∙ is));
     told = told;
   }
 
   module _ (process : ℕ) (is : objects_why_text choice tree_bytes script_bytes (One process) ≡ Ok text) where
     abbrev asked_by : Option ProcessState → Result (List ℕ) ToolFault
     asked_by made = (if is_some made && true then Ok (process ∷ []) else Err NoProcess)
-        >>= λ numbers. Ok (reason_lines choice.rules served ++ why_lists_of choice.rules served numbers)
+        >>= λ numbers. Ok (reason_lines served ++ why_lists_of choice.rules served numbers)
 
     after : asked_by (kept_at left process) ≡ Ok text
     unfolding objects_why_text
@@ -288,7 +295,7 @@ module _ (choice : Chosen) (tree_bytes script_bytes : List ℕ) (table : CallTab
       where
         whole : (h : ProcessState) → kept_at left process ≡ Some h → text ≡ front ++ own h
         whole h here =
-            sym (same_Ok (reason_lines choice.rules served ++ why_lists_of choice.rules served (process ∷ [])) text (sym (ap asked_by here) ∙ after))
+            sym (same_Ok (reason_lines served ++ why_lists_of choice.rules served (process ∷ [])) text (sym (ap asked_by here) ∙ after))
             ∙ ap (λ made. front ++ (option_map_or own made [] ++ [])) here ∙ ap (λ list. front ++ list) (append-nil (own h))
 
         line_reasoned : (h : ProcessState) → kept_at left process ≡ Some h → (line : Line) → Contains (objects left.tree table h) line →

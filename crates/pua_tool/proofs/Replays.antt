@@ -1,18 +1,18 @@
 -- What is replayed, step by step.
 use Rattle.pua_tool.proofs.Common.{◌≡◌, ℕ, List, Result, Tree, listing, ◌>>=◌, CallTable, Asked, script_by, new_world}
-use Rattle.pua_tool.proofs.Common.{answers_to, world_after, Chosen, Replayed, as_listing, as_script, table_by, replay_of}
+use Rattle.pua_tool.proofs.Common.{told_to, world_after, Chosen, Replayed, as_listing, as_script, table_by, replay_of}
 use Rattle.pua_tool.proofs.Common.{ToolFault}
 use Rattle.std.specs.Prelude.{Ok, Err}
 
 module _ (choice : Chosen) (tree_bytes script_bytes : List ℕ) where
   abbrev left_by : CallTable → Tree → List Asked → Replayed
   left_by table t asks =
-      record { table = table; answers = answers_to table (new_world t) asks; world = world_after table (new_world t) asks }
+      record { table = table; answers = told_to table (new_world t) asks; world = world_after table (new_world t) asks }
 
   pub replayed_is : (table : CallTable) (t : Tree) (asks : List Asked)
       → table_by choice ≡ Ok table → as_listing (listing tree_bytes) ≡ Ok t → as_script (script_by choice.rules script_bytes) ≡ Ok asks
       → replay_of choice tree_bytes script_bytes
-      ≡ Ok (record { table = table; answers = answers_to table (new_world t) asks; world = world_after table (new_world t) asks })
+      ≡ Ok (record { table = table; answers = told_to table (new_world t) asks; world = world_after table (new_world t) asks })
   unfolding replay_of
   replayed_is table t asks b l s = λ i. b i >>= λ table. l i >>= λ t. s i >>= λ asks. Ok (left_by table t asks)
 

@@ -2,7 +2,7 @@
 use Rattle.pua_tool.proofs.Common.{◌≡◌, ℕ, List, [], ◌∷◌, ◌++◌, ◌∙◌, arith, map, refl, sym, subst, ap, ProcessState, Replayed, Option, Some, None}
 use Rattle.pua_tool.proofs.Common.{CallTable, Tree, Result, Ok, Err, as_replayed, with_end}
 use Rattle.std.proofs.Common.{Bool, true, false, cond, length, ◌+◌, ◌<◌, take, get_or, zero, suc, inl, inr}
-use Rattle.std.specs.Prelude.{IfOk, IfSome, filter, is_none, is_some, not, option_map, ◌&&◌}
+use Rattle.std.specs.Prelude.{IfOk, filter, is_none, is_some, not, ◌&&◌}
 use Rattle.std.specs.List.{AllByRecursion, Contains}
 use Rattle.std.proofs.lemmas.List.{length-map, take_more}
 use Rattle.std.proofs.lemmas.List.Elements.{filter_agree}
@@ -12,11 +12,10 @@ use Rattle.pua_tree.proofs.ForCallers.{same_Some, None≢Some}
 use Rattle.pua_path.specs.declared.found.Found.TheVariants.{Slot}
 use Rattle.pua_calls.specs.Calls.{calls}
 use Rattle.pua_calls.specs.CallSets.{calls_in, has}
+use Rattle.pua_calls.specs.TmpTable.{tmp_table}
 use Rattle.pua_calls.specs.declared.call.Call.{Call}
 use Rattle.pua_calls.specs.declared.rules.Rules.{Rules}
 use Rattle.pua_policy.specs.Verdict.{Object, IsDir, Is, IsMissing, object_of}
-use Rattle.pua_policy.specs.declared.answer.Cover.{Cover}
-use Rattle.pua_policy.specs.declared.object.Object as seen
 use Rattle.pua_audit.specs.Reach.{Word}
 use Rattle.pua_objects.specs.Items.{subject_given}
 use Rattle.pua_objects.specs.Lines.{kind_word}
@@ -28,7 +27,7 @@ use Rattle.pua_objects.specs.declared.kind.ObjectKind.TheVariants as kind
 use Rattle.pua_objects.proofs.ForCallers.{Among, contained}
 use Rattle.pua_ever.specs.Ever.{EverLine, Thing, Stands, Comes, NewDir, NewOthers, NewFile, NewLink, has_ever_calls}
 use Rattle.pua_ever.specs.EverLines.{IsThing, line_with, new_of}
-use Rattle.pua_ever.specs.EverList.{AreEverTold, IsAboutOn, IsStandingOn, thing_by, word_of_row}
+use Rattle.pua_ever.specs.EverList.{AreEverTold, IsAboutOn, thing_by, word_of_row}
 use Rattle.pua_ever.specs.Through.{ever_lasting}
 use Rattle.pua_ever.specs.declared.line.EverLine as given
 use Rattle.pua_ever.specs.declared.line.EverThing.{EverThing}
@@ -281,12 +280,12 @@ module _ (rules : Rules) (done : Replayed) (process : ℕ) (h : ProcessState) wh
       (column_meant line.0 line.1 (placed line.0 (inl refl)) columns.0, columns_meant told (λ other a. placed other (inr a)) columns.1)
 
   pub columns_told : WellFormed done.world.tree → (told : List (EverLine × List ℕ)) →
-      map (λ line. line.0) told ≡ ever_lasting done.world.tree done.table h →
+      map (λ line. line.0) told ≡ ever_lasting done.world.tree (tmp_table done.table) h →
       AllByRecursion (λ (line : EverLine × List ℕ). IsColumnOf rules done process h line.0 line.1) told →
       AllByRecursion (λ (line : EverLine × List ℕ). IsColumn rules done process h line.0 line.1) told
   columns_told well told are columns =
-      columns_meant told (λ line a. lasting_placed done.world.tree done.table h well line
-      (contained (ever_lasting done.world.tree done.table h) line (subst (λ (lines : List EverLine). Among lines line) are a))) columns
+      columns_meant told (λ line a. lasting_placed done.world.tree (tmp_table done.table) h well line
+      (contained (ever_lasting done.world.tree (tmp_table done.table) h) line (subst (λ (lines : List EverLine). Among lines line) are a))) columns
 
 -- ---- some columns, where none need be found
 

@@ -1,12 +1,13 @@
 -- What a list for ever of several processes that was written says of the future.
 use Rattle.pua_tool.proofs.Common.{◌≡◌, ◌∙◌, ◌∷◌, [], ℕ, List, ◌++◌, ap, refl, sym, subst, map, Ok, Err, Option, Some, None, Result, CallTable, Tree}
-use Rattle.pua_tool.proofs.Common.{Asked, World, ProcessState, kept_at, new_world, answers_to, world_after, answer_lines, with_end, listing, script_by}
+use Rattle.pua_tool.proofs.Common.{Asked, World, ProcessState, kept_at, new_world, told_to, world_after, answer_lines, with_end, listing, script_by}
 use Rattle.pua_tool.proofs.Common.{Chosen, Replayed, table_by, as_listing, as_script, replay_of, ToolFault, ◌>>=◌}
 use Rattle.std.proofs.Common.{◌⊎◌, inl, inr, Bool, true, false, cond, not, append_assoc}
 use Rattle.std.proofs.lemmas.Bool.{and_parts, true≢false}
 use Rattle.std.specs.List.{AllByRecursion, Contains}
 use Rattle.std.specs.Prelude.{◌&&◌, flat_map, ok_or, option_map}
 use Rattle.pua_tree.proofs.ForCallers.{None≢Some, Some≢None, same_Ok, same_Some, Err≢Ok}
+use Rattle.pua_calls.specs.TmpTable.{tmp_table}
 use Rattle.pua_policy.specs.States.{SameVeils, is_ended, perms_kept, veils}
 use Rattle.pua_policy.specs.declared.place.Place.{Place}
 use Rattle.pua_script.specs.Laws.{IsConfined}
@@ -19,7 +20,7 @@ use Rattle.pua_ever.specs.declared.refusal.EverRefusal.{EverRefusal}
 use Rattle.pua_ever.proofs.ForCallers.{unrefused_table, unrefused_process}
 use Rattle.pua_texts.specs.EverLines.{heading_ever}
 use Rattle.pua_texts.specs.States.{bound_lines, veil_lines}
-use Rattle.pua_texts.specs.TogetherLines.{joint_list, living, member_lines, one_for, one_of, together_heading, together_list}
+use Rattle.pua_texts.specs.TogetherLines.{joint_list, living, member_lines, one_for, one_of, together_heading}
 use Rattle.pua_words.specs.declared.command.Processes.{Processes}
 use Rattle.pua_tool.specs.EverTexts.{ever_fault}
 use Rattle.pua_tool.specs.Forever.{IsForeseenBehind}
@@ -31,6 +32,7 @@ use Rattle.pua_tool.specs.declared.fault.ToolFault.TheVariants.{NoProcess, Other
 use Rattle.pua_tool.proofs.ListWritten.{behind, in_lines}
 use Rattle.pua_tool.proofs.Replays.{replayed_is}
 use Rattle.pua_tool.proofs.Tables.{tables_need_no_error}
+use Rattle.pua_tool.proofs.TmpTables.{joined_too}
 use Rattle.pua_tool.proofs.TogetherTexts.{fault_listed, fault_veils}
 
 abbrev Member : Type 0
@@ -140,8 +142,12 @@ module _ (together : TogetherAfterRead) (choice : Chosen) (tree_bytes script_byt
   abbrev w : World
   w = world_after table (new_world t) first
 
+  -- the table by which the list goes
+  abbrev tmp : CallTable
+  tmp = tmp_table table
+
   abbrev done : Replayed
-  done = record { table = table; answers = answers_to table (new_world t) first; world = w }
+  done = record { table = table; answers = told_to table (new_world t) first; world = w }
 
   after : together_after choice.rules done which ≡ Ok text
   unfolding together_text
@@ -151,10 +157,11 @@ module _ (together : TogetherAfterRead) (choice : Chosen) (tree_bytes script_byt
       replayed = replayed_is choice tree_bytes script_bytes table t first given (ap as_listing read) (ap as_script scripted)
 
   foreseen : (one : ProcessState) (alive : List Member) → AllByRecursion (Acts table w) alive → other_veils alive ≡ None →
-      one_for table alive ≡ Some one → IsForeseenBehind table w (numbers alive) one
+      one_for tmp alive ≡ Some one → IsForeseenBehind table w (numbers alive) one
   foreseen one [] all none is = absurd (None≢Some one is)
   foreseen one (m ∷ ms) all none is =
-      subst (IsForeseenBehind table w (numbers (m ∷ ms))) (same_Some (joined table m.1 (states ms)) one is)
+      subst (IsForeseenBehind table w (numbers (m ∷ ms)))
+      (sym (joined_too table m.1 (states ms)) ∙ same_Some (joined tmp m.1 (states ms)) one is)
       (λ asks bytes held edits member belongs.
       together table (tables_need_no_error choice table given) (unrefused_table table m.1 all.0.0.1) choice.rules tree_bytes script_bytes t first asks
       read scripted bytes (numbers (m ∷ ms)) m.1 (states ms) acts held edits member belongs)
@@ -193,16 +200,16 @@ module _ (together : TogetherAfterRead) (choice : Chosen) (tree_bytes script_byt
     head = together_heading members ++ flat_map (member_lines choice.rules) members
 
     abbrev state : ProcessState → List ℕ
-    state one = bound_lines choice.rules (heading_ever choice.rules (execs_of w.tree table one) 0).time one ++ veil_lines w.tree (veils one)
+    state one = bound_lines choice.rules (heading_ever choice.rules (execs_of w.tree tmp one) 0).time one ++ veil_lines w.tree (veils one)
 
-    stands : (one : ProcessState) → one_of table members ≡ Some one → (line : EverLine) → Contains (ever_lasting w.tree table one) line →
+    stands : (one : ProcessState) → one_of tmp members ≡ Some one → (line : EverLine) → Contains (ever_lasting w.tree tmp one) line →
         HasLine text (ever_line_text w.tree line)
     stands one is line listed =
-        let found = in_lines (λ (l : EverLine). with_end (ever_line_text w.tree l)) (ever_lasting w.tree table one) line listed in
+        let found = in_lines (λ (l : EverLine). with_end (ever_line_text w.tree l)) (ever_lasting w.tree tmp one) line listed in
         let front = answer_lines 1 done.answers in (
           (front ++ head) ++ state one ++ found.0,
           found.1,
-          parts.1 ∙ ap (λ o. front ++ (head ++ joint_list choice.rules table w.tree o)) is
+          parts.1 ∙ ap (λ o. front ++ (head ++ joint_list choice.rules tmp w.tree o)) is
               ∙ ap (λ lines. front ++ (head ++ (state one ++ lines))) found.2
               ∙ sym (append_assoc front head (state one ++ (found.0 ++ with_end (ever_line_text w.tree line) ++ found.1)))
               ∙ behind (front ++ head) (state one) found.0 (with_end (ever_line_text w.tree line)) found.1,

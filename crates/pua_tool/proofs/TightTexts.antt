@@ -4,6 +4,7 @@ use Rattle.pua_tool.proofs.Common.{OutOfMemory, with_end}
 use Rattle.std.proofs.Common.{◌+◌, ◌<◌, ◌≤◌, get_or, drop, length, append-nil, append_assoc}
 use Rattle.std.proofs.lemmas.List.{drop_more}
 use Rattle.std.proofs.Math.ListN.{drop_of_length-le}
+use Rattle.pua_calls.specs.declared.rules.Rules.{Rules}
 use Rattle.pua_tight.specs.Texts.{text_over}
 use Rattle.pua_tight.specs.Uses.{uses_over}
 use Rattle.pua_tight.specs.declared.word_use.WordUse.{WordUse}
@@ -42,15 +43,15 @@ module _ (choice : Chosen) (tree_bytes script_bytes : List ℕ) where
   words_are table words chosen is = (λ i. chosen i >>= uses_by) ∙ ap as_tight is
 
 -- the lines that are still to come from a word on
-abbrev pub lines_left : List WordUse → ℕ → List ℕ
-lines_left words i = use_lines (drop i words)
+abbrev pub lines_left : Rules → List WordUse → ℕ → List ℕ
+lines_left rules words i = use_lines rules (drop i words)
 
-pub word_more : (text : List ℕ) (words : List WordUse) (i : ℕ) (used : WordUse) → i < length words → used ≡ get_or words i used →
-    text ++ lines_left words i ≡ (text ++ with_end (use_text used)) ++ lines_left words (i + 1)
-word_more text words i used within is =
-    ap (λ left. text ++ use_lines left) (drop_more words i used within)
-    ∙ sym (append_assoc text (with_end (use_text (get_or words i used))) (lines_left words (i + 1)))
-    ∙ ap (λ next. (text ++ with_end (use_text next)) ++ lines_left words (i + 1)) (sym is)
+pub word_more : (rules : Rules) (text : List ℕ) (words : List WordUse) (i : ℕ) (used : WordUse) → i < length words → used ≡ get_or words i used →
+    text ++ lines_left rules words i ≡ (text ++ with_end (use_text rules used)) ++ lines_left rules words (i + 1)
+word_more rules text words i used within is =
+    ap (λ left. text ++ use_lines rules left) (drop_more words i used within)
+    ∙ sym (append_assoc text (with_end (use_text rules (get_or words i used))) (lines_left rules words (i + 1)))
+    ∙ ap (λ next. (text ++ with_end (use_text rules next)) ++ lines_left rules words (i + 1)) (sym is)
 
-pub words_done : (text : List ℕ) (words : List WordUse) (i : ℕ) → length words ≤ i → text ++ lines_left words i ≡ text
-words_done text words i past = ap (λ left. text ++ use_lines left) (drop_of_length-le words past) ∙ append-nil text
+pub words_done : (rules : Rules) (text : List ℕ) (words : List WordUse) (i : ℕ) → length words ≤ i → text ++ lines_left rules words i ≡ text
+words_done rules text words i past = ap (λ left. text ++ use_lines rules left) (drop_of_length-le words past) ∙ append-nil text

@@ -1,8 +1,8 @@
 -- The text of several processes together, and what refuses it.
-use Rattle.pua_tool.proofs.Common.{◌≡◌, ℕ, List, [], ◌∷◌, ◌∙◌, refl, sym, subst, ap, arith, map, Option, Some, None, CallTable, ProcessState}
-use Rattle.pua_tool.proofs.Common.{ToolFault, Tree}
+use Rattle.pua_tool.proofs.Common.{◌≡◌, ℕ, List, [], ◌∷◌, ◌∙◌, refl, sym, ap, arith, map, Option, Some, None, CallTable, ProcessState}
+use Rattle.pua_tool.proofs.Common.{ToolFault}
 use Rattle.std.proofs.Common.{Bool, true, false, cond, not, get_or, length}
-use Rattle.std.specs.Prelude.{IfSome, if◌then◌else◌, find}
+use Rattle.std.specs.Prelude.{if◌then◌else◌, find}
 use Rattle.pua_tree.proofs.ForCallers.{None≢Some, Some≢None, same_Some}
 use Rattle.pua_policy.specs.States.{ProcessState, is_ended}
 use Rattle.pua_ever.specs.Refusals.{can_unveil, changing_calls, lacks_c, refusal, table_refusal}

@@ -55,9 +55,9 @@ module _ (choice : Chosen) (tree_bytes script_bytes : List ℕ) where
   -- a request that is read is what is asked
   pub asked_is : (process : ℕ) (fields : List (List ℕ)) (p : ServedScript) (ask : Asked) → served_script choice tree_bytes script_bytes ≡ Ok p →
       as_request (request_by choice.rules 1 (request_line process fields)) ≡ Ok ask →
-      why_text choice tree_bytes script_bytes process fields ≡ Ok (chain_lines choice.rules p ask)
+      why_text choice tree_bytes script_bytes process fields ≡ Ok (chain_lines p ask)
   unfolding why_text
-  asked_is process fields p ask served read = λ i. served i >>= λ p. read i >>= λ ask. Ok (chain_lines choice.rules p ask)
+  asked_is process fields p ask served read = λ i. served i >>= λ p. read i >>= λ ask. Ok (chain_lines p ask)
 
 -- what a line has still to come from a field on: a blank and the field, for each
 abbrev pub fields_left : List (Bor (List ℕ)) → ℕ → List ℕ

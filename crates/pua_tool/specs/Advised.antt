@@ -1,5 +1,5 @@
 -- What is said behind the line of a fault: by OpenBSD's rules, what is wrong with the script or the request.
-use Rattle.std.specs.Prelude.{◌≡◌, ⊤, ◌⊎◌, ℕ, Bool, true, false, List, [], ◌++◌, map, Option, Some, None, codes, if◌then◌else◌}
+use Rattle.std.specs.Prelude.{◌≡◌, ◌⊎◌, ℕ, Bool, true, false, List, [], ◌++◌, map, Option, Some, None, codes, if◌then◌else◌}
 use Rattle.pua_calls.specs.declared.rules.Rules.{Rules}
 use Rattle.pua_calls.specs.declared.rules.Rules.TheVariants.{Standard, Openbsd}
 use Rattle.pua_script.specs.declared.fault.ScriptFault.{ScriptFault}

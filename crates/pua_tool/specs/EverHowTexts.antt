@@ -9,6 +9,7 @@ use Rattle.pua_tree.specs.Tree.{Tree, is_dir, look}
 use Rattle.pua_path.specs.declared.found.Found.TheVariants.{Whole, Slot}
 use Rattle.pua_path.specs.declared.found.Way.TheVariants.{Named, Top}
 use Rattle.pua_calls.specs.Calls.{CallTable, call_name}
+use Rattle.pua_calls.specs.TmpTable.{tmp_table}
 use Rattle.pua_calls.specs.declared.call.Call.{Call}
 use Rattle.pua_calls.specs.declared.rules.Rules.{Rules}
 use Rattle.pua_policy.specs.States.{ProcessState}
@@ -134,12 +135,12 @@ pub record IsColumn (rules : Rules) (done : Replayed) (process : ℕ) (h : Proce
   pub counted : AllByRecursion (IsCount rules done process h (question_by line.word line.thing) kind) counts
   pub is : text ≡ with_end (counts_text 32 counts)
 
--- the list for ever of a process, and behind the calls of each line its column
+-- the list for ever of a process, which goes by the table with `tmppath`, and behind the calls of each line its column
 pub record IsEverHowList (rules : Rules) (done : Replayed) (process : ℕ) (h : ProcessState) (text : List ℕ) : Type 0 where
   pub lines : List (EverLine × List ℕ)
-  pub are : map (λ line. line.0) lines ≡ ever_lasting done.world.tree done.table h
+  pub are : map (λ line. line.0) lines ≡ ever_lasting done.world.tree (tmp_table done.table) h
   pub columns : AllByRecursion (λ line. IsColumn rules done process h line.0 line.1) lines
-  pub is : text ≡ ever_list_with rules done.table done.world.tree process h lines
+  pub is : text ≡ ever_list_with rules (tmp_table done.table) done.world.tree process h lines
 
 -- the answers, and then such a list, or what refuses it: the process was never made, or there is a reason for none
 pub record IsEverHowAfter (rules : Rules) (done : Replayed) (process : ℕ) (answer : Result (List ℕ) ToolFault) : Type 0 where

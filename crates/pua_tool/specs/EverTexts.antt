@@ -1,6 +1,7 @@
 -- The text of the list for ever of a process, and what refuses it.
 use Rattle.std.specs.Prelude.{ℕ, List, ◌++◌, Option, Some, None, Result, Ok, Err, ok_or}
 use Rattle.pua_tree.specs.Steps.{◌>>=◌}
+use Rattle.pua_calls.specs.TmpTable.{tmp_table}
 use Rattle.pua_calls.specs.declared.rules.Rules.{Rules}
 use Rattle.pua_script.specs.Replay.{kept_at}
 use Rattle.pua_ever.specs.Refusals.{refusal}
@@ -24,12 +25,13 @@ abbrev pub unless_reason : ℕ → Option EverRefusal → List ℕ → Result (L
 unless_reason process None text = Ok text
 unless_reason process (Some reason) text = Err (ever_fault process reason)
 
--- the answers, and then the list for ever of a process, or what refuses it: it was never made, or there is a reason for none
+-- the answers, and then the list for ever of a process, or what refuses it: it was never made, or there is a reason for none. The list
+-- goes by the table that has `tmppath` as one more set of some calls, which gives the same reasons
 abbrev pub ever_after : Rules → Replayed → ℕ → Result (List ℕ) ToolFault
 ever_after rules done process =
     ok_or (kept_at done.world process) NoProcess
     >>= λ h. unless_reason process (refusal done.table h)
-    (answer_lines 1 done.answers ++ ever_list rules done.table done.world.tree process h)
+    (answer_lines 1 done.answers ++ ever_list rules (tmp_table done.table) done.world.tree process h)
 
 -- the list for ever of a process at the end of a script over a listing, or the first fault: the table's, the listing's,
 -- the script's, a process never made, or a reason for no list

@@ -2,8 +2,8 @@
 use Rattle.std.specs.Prelude.{ℕ, Bool, ◌&&◌, ◌||◌, List, [], ◌∷◌, ◌++◌, bit_or, codes, filter, find, flat_map, map, Option, Some, None, Result, ok_or, unwrap_or}
 use Rattle.std.specs.List.{list_any}
 use Rattle.pua_tree.specs.Steps.{◌>>=◌}
-use Rattle.pua_tree.specs.Tree.{Tree}
 use Rattle.pua_calls.specs.Calls.{CallTable, rule_of}
+use Rattle.pua_calls.specs.TmpTable.{tmp_table}
 use Rattle.pua_calls.specs.Promises.{holds}
 use Rattle.pua_calls.specs.declared.call.Call.{Call}
 use Rattle.pua_calls.specs.declared.rules.Rules.{Rules}
@@ -67,7 +67,7 @@ kept_text p process veil = 32 ∷ veil_columns p.table p.world p.asks process (B
 
 -- each of these veils that is told; three dashes where none is
 abbrev pub told_of : ServedScript → ℕ → List Place → List Call → List (Place × ℕ) → List ℕ
-told_of p process places calls vs = flat_map (kept_text p process) (filter (is_told p.table places calls) vs)
+told_of p process places calls vs = flat_map (kept_text p process) (filter (is_told (tmp_table p.table) places calls) vs)
 
 abbrev pub or_dashes : List ℕ → List ℕ
 or_dashes [] = codes " - - -"
@@ -77,32 +77,33 @@ abbrev pub veils_told : ServedScript → ℕ → List (Place × ℕ) → List Pl
 veils_told p process vs places calls = or_dashes (told_of p process places calls vs)
 
 -- what stands behind the calls of a line: the promises on which they rest, and each veil under which its thing can come to stand and
--- that lets one of the calls through
+-- that lets one of the calls through, by the table with `tmppath`, as the list goes
 abbrev pub column_on : ServedScript → ℕ → ProcessState → ExecBound → List Place → List Call → List ℕ
 column_on p process h execs places calls =
-    (32 ∷ promises_text (rests_on p.table (held_set h) (given_by p.table h execs) calls))
+    (32 ∷ promises_text (rests_on (tmp_table p.table) (held_set h) (given_by (tmp_table p.table) h execs) calls))
     ++ veils_told p process (veils h) places calls
 
 abbrev pub column_by : ServedScript → ℕ → ProcessState → ProcessState → ExecBound → EverLine → List ℕ
-column_by p process h holder execs line = column_on p process h execs (places_on (world_left p).tree p.table holder line.thing) line.calls
+column_by p process h holder execs line =
+    column_on p process h execs (places_on (world_left p).tree (tmp_table p.table) holder line.thing) line.calls
 
 abbrev pub ever_column : ServedScript → ℕ → ProcessState → EverLine → List ℕ
-ever_column p process h line = by (execs_of (world_left p).tree p.table h)
+ever_column p process h line = by (execs_of (world_left p).tree (tmp_table p.table) h)
   where
     by : ExecBound → List ℕ
-    by execs = column_by p process h (holder_by p.table h execs) execs line
+    by execs = column_by p process h (holder_by (tmp_table p.table) h execs) execs line
 
--- the list for ever of a process, and behind the calls of each line its column
+-- the list for ever of a process, which goes by the table with `tmppath`, and behind the calls of each line its column
 abbrev pub ever_why_list : Rules → ServedScript → ℕ → ProcessState → List ℕ
 ever_why_list rules p process h =
-    ever_list_with rules p.table (world_left p).tree process h
-    (map (λ line. (line, with_end (ever_column p process h line))) (ever_lasting (world_left p).tree p.table h))
+    ever_list_with rules (tmp_table p.table) (world_left p).tree process h
+    (map (λ line. (line, with_end (ever_column p process h line))) (ever_lasting (world_left p).tree (tmp_table p.table) h))
 
 -- the lines of a script with reasons, and then such a list, or what refuses it: the process was never made, or there is a reason for none
 abbrev pub ever_why_after : Rules → ServedScript → ℕ → Result (List ℕ) ToolFault
 ever_why_after rules p process =
     ok_or (kept_at (world_left p) process) NoProcess
-    >>= λ h. unless_reason process (refusal p.table h) (reason_lines rules p ++ ever_why_list rules p process h)
+    >>= λ h. unless_reason process (refusal p.table h) (reason_lines p ++ ever_why_list rules p process h)
 
 unfoldable pub ever_why_text : Chosen → List ℕ → List ℕ → ℕ → Result (List ℕ) ToolFault
 ever_why_text choice tree_bytes script_bytes process =

@@ -18,6 +18,7 @@ use Rattle.pua_why.specs.Texts.{promises_text}
 use Rattle.pua_words.specs.declared.command.Processes.TheVariants.{One, All}
 use Rattle.pua_tool.specs.Texts.{Chosen, Wanted, by_standard, replay_of, run_text, audit_text}
 use Rattle.pua_tool.specs.ObjectTexts.{objects_text}
+use Rattle.pua_tool.specs.ImageTexts.{images_text}
 use Rattle.pua_tool.specs.EverTexts.{ever_text}
 use Rattle.pua_tool.specs.TogetherTexts.{together_text}
 use Rattle.pua_tool.specs.HowTexts.{question_of, way_text}
@@ -55,6 +56,12 @@ removing_script = text_of_lines (codes "1 mkdir /d" ∷ codes "1 unveil /d rc" �
 abbrev pub root_and_directory : List ℕ
 root_and_directory = text_of_lines (codes "tree 1" ∷ codes "0 dir" ∷ codes "1 dir 0 a\\040b" ∷ [])
 
+abbrev pub program_listing : List ℕ
+program_listing = text_of_lines (codes "tree 1" ∷ codes "0 dir" ∷ codes "1 prog 0 a" ∷ [])
+
+abbrev pub starting : List ℕ
+starting = text_of_lines (codes "1 unveil /a x" ∷ codes "1 pledge exec,stdio stdio" ∷ codes "1 exec /a" ∷ [])
+
 abbrev pub pairing : List ℕ
 pairing = text_of_lines (codes "1 fork 7" ∷ codes "7 pledge = -" ∷ codes "1 exit" ∷ [])
 
@@ -85,6 +92,18 @@ opening_by_veils = text_of_lines (codes "1 pledge tty,tmppath,getpw -" ∷ [])
 abbrev pub locking : List ℕ
 locking = text_of_lines (codes "1 unveil / =" ∷ codes "1 unveil - -" ∷ [])
 
+abbrev pub tmp_listing : List ℕ
+tmp_listing = text_of_lines (codes "tree 1" ∷ codes "0 dir" ∷ codes "1 dir 0 tmp" ∷ codes "2 file 1 x" ∷ [])
+
+abbrev pub making_by_tmppath : List ℕ
+making_by_tmppath = text_of_lines (codes "1 unveil /tmp rwc" ∷ codes "1 pledge tmppath -" ∷ [])
+
+abbrev pub resolver_listing : List ℕ
+resolver_listing = text_of_lines (codes "tree 1" ∷ codes "0 dir" ∷ codes "1 dir 0 etc" ∷ codes "2 file 1 resolv.conf" ∷ [])
+
+abbrev pub resolving : List ℕ
+resolving = text_of_lines (codes "1 pledge dns -" ∷ codes "1 open-r /etc/resolv.conf" ∷ codes "1 open-r /etc" ∷ [])
+
 abbrev pub by_openbsd : Chosen
 by_openbsd = record by_standard { rules = Openbsd }
 
@@ -97,6 +116,10 @@ pub record TextRows : Type 0 where
   pub run_by_standard : run_text by_standard root_listing changing ≡ Ok (text_of_lines (codes "1 ok" ∷ codes "2 ok" ∷ []))
   pub run_by_openbsd : run_text by_openbsd root_listing changing
       ≡ Ok (text_of_lines (codes "1 ok" ∷ codes "2 killed" ∷ []))
+  pub run_past_promises : run_text by_openbsd resolver_listing resolving
+      ≡ Ok (text_of_lines (codes "1 ok" ∷ codes "2 ok by dns" ∷ codes "3 killed" ∷ []))
+  pub run_by_promises : run_text by_standard resolver_listing resolving
+      ≡ Ok (text_of_lines (codes "1 ok" ∷ codes "2 killed" ∷ codes "3 gone" ∷ []))
   pub audit : audit_text by_standard root_listing creating_alone plain_job
       ≡ Ok (text_of_lines (codes "1 ok" ∷ codes "reach 1" ∷ codes "/../a mkdir" ∷ codes "/../a symlink" ∷ codes "/a mkdir"
       ∷ codes "/a symlink" ∷ []))
@@ -122,6 +145,12 @@ pub record TextRows : Type 0 where
   pub objects : objects_text by_standard root_listing creating_alone (One 1)
       ≡ Ok (text_of_lines (codes "1 ok" ∷ codes "objects 1" ∷ codes "process alive" ∷ codes "promises cpath,stdio" ∷ codes "execpromises -"
       ∷ codes "unveil given-up" ∷ codes "no veils" ∷ codes "other / mkdir,symlink" ∷ []))
+  -- a process as it was before the program that it started
+  pub images : images_text by_standard program_listing starting (One 1)
+      ≡ Ok (text_of_lines (codes "1 ok" ∷ codes "2 ok" ∷ codes "3 ok" ∷ codes "objects 1 before 3" ∷ codes "process alive"
+      ∷ codes "promises exec,stdio" ∷ codes "execpromises stdio" ∷ codes "unveil given-up" ∷ codes "veil /a x" ∷ codes "prog /a exec"
+      ∷ codes "objects 1" ∷ codes "process alive" ∷ codes "promises stdio" ∷ codes "execpromises -" ∷ codes "unveil given-up"
+      ∷ codes "veil /a x" ∷ []))
   pub ended_objects : objects_text by_standard root_listing ending (One 1)
       ≡ Ok (text_of_lines (codes "1 ok" ∷ codes "2 killed" ∷ codes "3 gone" ∷ codes "objects 1" ∷ codes "process ended" ∷ []))
   pub veiled_objects : objects_text by_standard root_listing veiling_script (One 1)
@@ -160,7 +189,7 @@ pub record TextRows : Type 0 where
       ∷ codes "promises getpw,tmppath,tty" ∷ codes "execpromises -" ∷ codes "unveil given-up"
       ∷ codes "opening /etc/pwd.db open-r" ∷ codes "opening /etc/group open-r" ∷ codes "opening /etc/netid open-r"
       ∷ codes "opening /var/run/ypbind.lock stat,open-r" ∷ codes "opening /var/yp/binding/ open-r"
-      ∷ codes "opening /tmp/ create,unlink veils" ∷ codes "opening /dev/tty open-r,open-w,open-rw veils" ∷ codes "no veils" ∷ []))
+      ∷ codes "opening /tmp/ create,unlink,create-rw veils" ∷ codes "opening /dev/tty open-r,open-w,open-rw veils" ∷ codes "no veils" ∷ []))
   pub unopened : objects_text by_openbsd root_listing locking (One 1)
       ≡ Ok (text_of_lines (codes "1 ok" ∷ codes "2 ok" ∷ codes "objects 1" ∷ codes "process alive" ∷ codes "rules openbsd"
       ∷ codes "promises -" ∷ codes "execpromises -" ∷ codes "unveil locked" ∷ codes "veil / =" ∷ []))
@@ -171,8 +200,14 @@ pub record TextRows : Type 0 where
       ∷ codes "opening /etc/protocols open-r" ∷ codes "opening /etc/pwd.db open-r" ∷ codes "opening /etc/group open-r"
       ∷ codes "opening /etc/netid open-r" ∷ codes "opening /var/run/ypbind.lock stat,open-r" ∷ codes "opening /var/yp/binding/ open-r"
       ∷ codes "opening /dev/null open-r,open-w,open-rw" ∷ codes "opening /etc/localtime stat,open-r"
-      ∷ codes "opening /usr/share/zoneinfo/ open-r" ∷ codes "opening /tmp/ create,unlink veils"
+      ∷ codes "opening /usr/share/zoneinfo/ open-r" ∷ codes "opening /tmp/ create,unlink,create-rw veils"
       ∷ codes "opening /dev/tty open-r,open-w,open-rw veils" ∷ codes "veil / =" ∷ []))
+  -- for ever tmppath has the calls that it opens wherever the veils let them through
+  pub ever_by_tmppath : ever_text by_openbsd tmp_listing making_by_tmppath 1
+      ≡ Ok (text_of_lines (codes "1 ok" ∷ codes "2 ok" ∷ codes "ever 1" ∷ codes "process alive" ∷ codes "rules openbsd"
+      ∷ codes "promises tmppath" ∷ codes "execpromises -" ∷ codes "unveil given-up" ∷ codes "opening /tmp/ create,unlink,create-rw veils"
+      ∷ codes "veil /tmp rwc" ∷ codes "other /tmp create,create-rw" ∷ codes "file /tmp/x create,unlink,create-rw"
+      ∷ codes "file new create,unlink,create-rw" ∷ []))
   pub never_listed : objects_text by_standard root_listing [] (One 2) ≡ Err NoProcess
   pub bad_listing : audit_text by_standard (text_of_lines (codes "tree 1" ∷ codes "0 dir" ∷ codes "1 dir 0" ∷ [])) (codes "1") plain_job
       ≡ Err (Listing (BadLine 3))
@@ -181,12 +216,14 @@ pub record TextRows : Type 0 where
   pub bad_resume : audit_text by_standard root_listing [] (record plain_job { after = Some (codes "stat:/nope") }) ≡ Err (Audit BadResume)
 
 pub text_rows : TextRows
-unfolding digits replay_of audit_text objects_text ever_text together_text
+unfolding digits replay_of audit_text objects_text images_text served_script ever_text together_text
 text_rows = record {
   run = refl;
   run_of_no_lines = refl;
   run_by_standard = refl;
   run_by_openbsd = refl;
+  run_past_promises = refl;
+  run_by_promises = refl;
   audit = refl;
   resumed = refl;
   spelled = refl;
@@ -196,6 +233,7 @@ text_rows = record {
   audit_by_standard = refl;
   beyond_chdir = refl;
   objects = refl;
+  images = refl;
   ended_objects = refl;
   veiled_objects = refl;
   removed_place = refl;
@@ -208,6 +246,7 @@ text_rows = record {
   opened_by_veils = refl;
   unopened = refl;
   ever_opened = refl;
+  ever_by_tmppath = refl;
   never_listed = refl;
   bad_listing = refl;
   bad_script = refl;
@@ -266,6 +305,8 @@ front_rows = record { none = refl; first = refl; both = refl; third = refl; whol
 pub record ReasonTextRows : Type 0 where
   pub run_by_openbsd : run_why_text by_openbsd root_listing changing
       ≡ Ok (text_of_lines (codes "1 ok" ∷ codes "2 killed no rpath since line 1" ∷ []))
+  pub run_past_promises : run_why_text by_openbsd resolver_listing resolving
+      ≡ Ok (text_of_lines (codes "1 ok" ∷ codes "2 ok by dns" ∷ codes "3 killed no rpath since line 1" ∷ []))
   pub another_process : why_text by_standard root_listing pairing 7 (codes "stat" ∷ codes "/" ∷ [])
       ≡ Ok (text_of_lines (codes "killed no rpath since line 2" ∷ []))
   pub dated_veils : objects_why_text by_standard two_directories veiling_in_turn All
@@ -277,7 +318,7 @@ pub record ReasonTextRows : Type 0 where
 
 pub reason_text_rows : ReasonTextRows
 unfolding digits trace_from promises_text served_script why_text objects_why_text
-reason_text_rows = record { run_by_openbsd = refl; another_process = refl; dated_veils = refl }
+reason_text_rows = record { run_by_openbsd = refl; run_past_promises = refl; another_process = refl; dated_veils = refl }
 
 -- what is said where no way is found, and what refuses the question
 abbrev pub without_way_of : Option ObjectKind → List ℕ → List ℕ → List ℕ → List ℕ → Result (List ℕ) ToolFault

@@ -9,7 +9,7 @@ use Rattle.pua_audit.specs.FaultTexts.{audit_told}
 use Rattle.pua_texts.specs.Lines.{with_end}
 use Rattle.pua_tool.specs.declared.fault.ToolFault.{ToolFault}
 use Rattle.pua_tool.specs.declared.fault.ToolFault.TheVariants.{Listing, Script, Request, NoProcess, Audit, Write, OutOfMemory, Table, CanUnveil}
-use Rattle.pua_tool.specs.declared.fault.ToolFault.TheVariants.{LacksC, RenameLacksC, LinkLacksC, OtherVeils, SeveralWhy, NowHow, SeveralHow}
+use Rattle.pua_tool.specs.declared.fault.ToolFault.TheVariants.{LacksC, RenameLacksC, LinkLacksC, OtherVeils, SeveralWhy, NowHow, SeveralHow, EverImages, WhyImages}
 use Rattle.pua_tool.specs.declared.fault.ToolFault.TheVariants.{NoLine, HowCall, HowPath, HowThing, HowLink, TooManyNames}
 
 -- the line of an input that is to blame, if one is, and what is wrong
@@ -46,6 +46,8 @@ fault_line TooManyNames = with_end (codes "pua: tree: too many names")
 fault_line SeveralWhy = with_end (codes "pua: objects: no list for ever of several with --why")
 fault_line NowHow = with_end (codes "pua: objects: no list of now with --how")
 fault_line SeveralHow = with_end (codes "pua: objects: no list of several with --how")
+fault_line EverImages = with_end (codes "pua: objects: no list for ever with --images")
+fault_line WhyImages = with_end (codes "pua: objects: no list with --why and --images")
 fault_line (NoLine line) = codes "pua: script: " ++ blame_line (Some line) (codes "no such line")
 fault_line HowCall = with_end (codes "pua: how: bad call")
 fault_line HowPath = with_end (codes "pua: how: bad path")

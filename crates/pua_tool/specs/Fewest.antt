@@ -4,6 +4,7 @@ use Rattle.std.specs.List.{Contains}
 use Rattle.pua_tree.specs.Tree.{Tree, WellFormed}
 use Rattle.pua_tree.specs.Listing.{listing}
 use Rattle.pua_calls.specs.Calls.{CallTable}
+use Rattle.pua_calls.specs.TmpTable.{tmp_table}
 use Rattle.pua_calls.specs.declared.call.Call.{Call}
 use Rattle.pua_calls.specs.declared.rules.Rules.TheVariants.{Standard}
 use Rattle.pua_policy.specs.States.{ProcessState, is_ended}
@@ -18,21 +19,22 @@ use Rattle.pua_ever.specs.Through.{bound_of, ever_lasting}
 use Rattle.pua_tight.specs.declared.piece.Piece.{Piece}
 use Rattle.pua_tight.specs.Tight.{lines_of}
 use Rattle.pua_tight.specs.Narrower.{AsksWithin}
-use Rattle.pua_tight.specs.Laws.{IsListed, IsListedForEver, LeavesOut, MayLeaveOut, leave_out, RestOnOne, HasNoChoice}
+use Rattle.pua_tight.specs.Laws.{IsListed, IsListedForEver, LeavesOut, MayLeaveOut, leave_out, HasOneWay, HasNoChoice}
 use Rattle.pua_tool.specs.Texts.{Chosen, run_text, table_by}
 use Rattle.pua_tool.specs.TightTexts.{tight_text}
 
 -- a process has ended where another has, and whatever is allowed to it is allowed to the other: over each tree each call on each
 -- path, and of its list of objects and of its lists for ever each line with all of its calls; of the one that is printed unless what
--- it starts is bounded and what the other one starts is not
+-- it starts is bounded and what the other one starts is not. Lists for ever go by the table with `tmppath`
 pub record MayDoNoMore (table : CallTable) (less given : ProcessState) : Type 0 where
   pub ended : is_ended less ≡ is_ended given
   pub calls : (t : Tree) (call : Call) (text : List ℕ) → IsTrue (is_allowed (verdict_on t table less call text)) →
       IsTrue (is_allowed (verdict_on t table given call text))
   pub listed : (t : Tree) (line : Line) → Contains (objects t table less) line → IsListed t table given line
-  pub ever : (t : Tree) → WellFormed t → (line : EverLine) → Contains (ever t table less) line → IsListedForEver (ever t table given) line
+  pub ever : (t : Tree) → WellFormed t → (line : EverLine) → Contains (ever t (tmp_table table) less) line →
+      IsListedForEver (ever t (tmp_table table) given) line
   pub lasting : (t : Tree) → WellFormed t → (bound_of table given ≡ None → bound_of table less ≡ None) →
-      (line : EverLine) → Contains (ever_lasting t table less) line → IsListedForEver (ever_lasting t table given) line
+      (line : EverLine) → Contains (ever_lasting t (tmp_table table) less) line → IsListedForEver (ever_lasting t (tmp_table table) given) line
 
 -- one tree, and the same processes, each of which may do no more
 pub record LeavesNoMore (table : CallTable) (less given : World) : Type 0 where
@@ -47,8 +49,9 @@ pub record IsTightWritten (choice : Chosen) (tree_bytes script_bytes : List ℕ)
   pub left : List Asked
   pub read : script_by choice.rules text ≡ Ok left
   pub within : AsksWithin left given
-  -- its run has the same text
-  pub same : run_text choice tree_bytes text ≡ run_text choice tree_bytes script_bytes
+  -- its run has the same answers, and by the standard rules the same text; by OpenBSD's a promise may open what another one allowed
+  pub same : answers_to table (new_world t) left ≡ answers_to table (new_world t) given
+  pub same_text : choice.rules ≡ Standard → run_text choice tree_bytes text ≡ run_text choice tree_bytes script_bytes
   -- each process may do no more where it ends, in a tree that is well-formed,
   pub well : WellFormed (world_after table (new_world t) given).tree
   pub narrower : LeavesNoMore table (world_after table (new_world t) left) (world_after table (new_world t) given)
@@ -62,12 +65,13 @@ pub record IsTightWritten (choice : Chosen) (tree_bytes script_bytes : List ℕ)
   pub minimal : (index : ℕ) (piece : Piece) → MayLeaveOut (lines_of table (new_world t) given) index piece →
       leave_out index piece left ≢ left →
       answers_to table (new_world t) (leave_out index piece left) ≢ answers_to table (new_world t) given
-  -- where each request rests on one set of promises, whatever else is left out so that all is answered as before has all that it has
-  pub least : RestOnOne table given → (less : List Asked) → LeavesOut less (lines_of table (new_world t) given) →
+  -- where each request rests on one set of promises, and no promise that may be left out opens a path by itself, whatever else is left
+  -- out so that all is answered as before has all that it has
+  pub least : HasOneWay table given → (less : List Asked) → LeavesOut less (lines_of table (new_world t) given) →
       answers_to table (new_world t) less ≡ answers_to table (new_world t) given → AsksWithin left less
-  -- which they do by the rules alone: by the standard ones of every script, by OpenBSD's of every script without chown and fchown, and
-  -- without a call that has no path and asks for one of several promises
-  pub one_set : choice.rows ≡ None → (choice.rules ≡ Standard) ⊎ HasNoChoice given → RestOnOne table given
+  -- which is so by the rules alone: by the standard ones of every script, by OpenBSD's of every script without chown and fchown, and
+  -- without a call that has no path and asks for one of several promises, or for one that opens another call's path
+  pub one_way : choice.rows ≡ None → (choice.rules ≡ Standard) ⊎ HasNoChoice given → HasOneWay table given
 
 abbrev pub TightAsWritten : Type 0
 TightAsWritten = (choice : Chosen) (tree_bytes script_bytes : List ℕ) (table : CallTable) (t : Tree) (given : List Asked) (text : List ℕ) →

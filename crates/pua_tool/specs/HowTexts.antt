@@ -6,6 +6,7 @@ use Rattle.pua_tree.specs.Steps.{◌>>=◌}
 use Rattle.pua_tree.specs.Tree.{Tree, kind_at}
 use Rattle.pua_path.specs.Fits.{is_link_kind}
 use Rattle.pua_calls.specs.Calls.{call_in}
+use Rattle.pua_calls.specs.TmpTable.{tmp_table}
 use Rattle.pua_calls.specs.CallSets.{keeps_link}
 use Rattle.pua_calls.specs.declared.call.Call.{Call}
 use Rattle.pua_calls.specs.declared.rules.Rules.{Rules}
@@ -91,9 +92,9 @@ question_of done wanted last = do
   unfollowed ← unless_followed call (follows_link done.world.tree call things)
   Ok (record { process = h; call = call; things = things })
 
--- whether a line of the list for ever about it has the call
+-- whether a line of the list for ever about it has the call, by the table with `tmppath`
 abbrev pub may_come : Replayed → HowQuestion → Bool
-may_come done q = list_any (λ thing. is_listed (ever_lasting done.world.tree done.table q.process) thing q.call) q.things
+may_come done q = list_any (λ thing. is_listed (ever_lasting done.world.tree (tmp_table done.table) q.process) thing q.call) q.things
 
 -- what is said where there is no way: none is looked for where no line has the call, which may change once a program is started
 abbrev pub told_without : Bool → ExecBound → List ℕ
@@ -104,7 +105,7 @@ told_without false _ = codes "never"
 -- the lines of a way, or what is said without one
 abbrev pub way_text : Replayed → HowQuestion → Option (List (List ℕ)) → List ℕ
 way_text done q (Some lines) = flat_map with_end lines
-way_text done q None = with_end (told_without (may_come done q) (execs_of done.world.tree done.table q.process))
+way_text done q None = with_end (told_without (may_come done q) (execs_of done.world.tree (tmp_table done.table) q.process))
 
 -- lines of a script that is read by rules, which are a way to the call on something that is meant, and this is the last number of
 -- the nodes that live

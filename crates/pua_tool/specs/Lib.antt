@@ -7,7 +7,9 @@ pub mod WhyTexts
 pub mod EverWhyTexts
 pub mod HowTexts
 pub mod EverHowTexts
+pub mod ImageTexts
 pub mod ListTexts
+pub mod Pathless
 pub mod TightTexts
 pub mod TreeTexts
 pub mod Answers
@@ -29,6 +31,7 @@ pub mod Fewest
 pub mod ReadBack
 pub mod Headline
 pub mod FrontLaws
+pub mod Images
 -- Worked rows, which hold by computation.
 pub mod Examples
 pub mod EverHowExamples

@@ -1,5 +1,5 @@
 -- The text of a list, whosever it is, of whatever time, with whatever columns, and what refuses it.
-use Rattle.std.specs.Prelude.{◌≡◌, ℕ, List, Result, Err}
+use Rattle.std.specs.Prelude.{◌≡◌, ℕ, Bool, true, false, List, Result, Err}
 use Rattle.pua_words.specs.declared.command.Columns.{Columns}
 use Rattle.pua_words.specs.declared.command.Columns.TheVariants.{Plain, Why, How}
 use Rattle.pua_words.specs.declared.command.ListWords.{ListWords}
@@ -12,10 +12,11 @@ use Rattle.pua_tool.specs.ObjectTexts.{objects_text}
 use Rattle.pua_tool.specs.WhyTexts.{objects_why_text}
 use Rattle.pua_tool.specs.EverTexts.{ever_text}
 use Rattle.pua_tool.specs.EverWhyTexts.{ever_why_text}
+use Rattle.pua_tool.specs.ImageTexts.{images_text}
 use Rattle.pua_tool.specs.TogetherTexts.{together_text}
 use Rattle.pua_tool.specs.EverHowTexts.{IsEverHowText}
 use Rattle.pua_tool.specs.declared.fault.ToolFault.{ToolFault}
-use Rattle.pua_tool.specs.declared.fault.ToolFault.TheVariants.{NowHow, SeveralHow, SeveralWhy}
+use Rattle.pua_tool.specs.declared.fault.ToolFault.TheVariants.{EverImages, NowHow, SeveralHow, SeveralWhy, WhyImages}
 
 -- the list for ever of one process, or of several together
 abbrev pub lasting_text : Chosen → List ℕ → List ℕ → Processes → Result (List ℕ) ToolFault
@@ -42,5 +43,16 @@ IsListBy Ever Plain whose choice tree script answer = lasting_text choice tree s
 IsListBy Ever Why whose choice tree script answer = lasting_why_text choice tree script whose ≡ answer
 IsListBy Ever How whose choice tree script answer = IsWaysText choice tree script whose answer
 
+-- with what processes were before each program that they started: of now alone, and without columns
+abbrev pub with_images_text : Time → Columns → Processes → Chosen → List ℕ → List ℕ → Result (List ℕ) ToolFault
+with_images_text Now Plain whose choice tree script = images_text choice tree script whose
+with_images_text Now Why whose choice tree script = Err WhyImages
+with_images_text Now How whose choice tree script = Err NowHow
+with_images_text Ever columns whose choice tree script = Err EverImages
+
+abbrev pub IsListWith : Bool → Time → Columns → Processes → Chosen → List ℕ → List ℕ → Result (List ℕ) ToolFault → Type 0
+IsListWith false span columns whose choice tree script answer = IsListBy span columns whose choice tree script answer
+IsListWith true span columns whose choice tree script answer = with_images_text span columns whose choice tree script ≡ answer
+
 abbrev pub IsListText : Chosen → List ℕ → List ℕ → ListWords → Result (List ℕ) ToolFault → Type 0
-IsListText choice tree script list answer = IsListBy list.span list.columns list.whose choice tree script answer
+IsListText choice tree script list answer = IsListWith list.images list.span list.columns list.whose choice tree script answer

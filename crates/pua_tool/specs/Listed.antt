@@ -1,5 +1,5 @@
 -- What the list of objects that a command writes says of the present.
-use Rattle.std.specs.Prelude.{◌≡◌, ℕ, List, ◌++◌, Some, Ok}
+use Rattle.std.specs.Prelude.{◌≡◌, ◌⊎◌, ℕ, List, ◌++◌, Some, Ok, IsTrue, codes}
 use Rattle.std.specs.List.{Contains}
 use Rattle.pua_tree.specs.Tree.{Tree}
 use Rattle.pua_tree.specs.Listing.{listing}
@@ -8,14 +8,19 @@ use Rattle.pua_calls.specs.Calls.{CallTable, ending_of, last_of}
 use Rattle.pua_calls.specs.declared.call.Call.{Call}
 use Rattle.pua_calls.specs.declared.rules.Rules.{Rules}
 use Rattle.pua_policy.specs.States.{ProcessState}
-use Rattle.pua_policy.specs.Verdict.{verdict_of}
+use Rattle.pua_policy.specs.Verdict.{object_named, verdict_of}
 use Rattle.pua_policy.specs.declared.answer.Verdict.TheVariants.{Allowed}
 use Rattle.pua_script.specs.Requests.{Asked}
 use Rattle.pua_script.specs.Scripts.{script_by}
-use Rattle.pua_script.specs.Replay.{new_world, kept_at, answers_to, world_after}
+use Rattle.pua_script.specs.Openings.{Opening, opens_call}
+use Rattle.pua_script.specs.Replay.{World, apply, new_world, kept_at, world_after}
+use Rattle.pua_script.specs.declared.answer.Answer.TheVariants.{Okay}
+use Rattle.pua_script.specs.declared.request.Action.TheVariants.{OnPath}
 use Rattle.pua_objects.specs.Objects.{Line, objects, line_text}
 use Rattle.pua_objects.specs.Laws.{IsCallTold, IsListed}
+use Rattle.pua_why.specs.Openings.{told_to}
 use Rattle.pua_texts.specs.Lines.{answer_lines, with_end}
+use Rattle.pua_texts.specs.Openings.{opening_text}
 use Rattle.pua_texts.specs.ObjectLines.{process_list, heading_now}
 use Rattle.pua_words.specs.declared.command.Processes.TheVariants.{One}
 use Rattle.pua_tool.specs.Texts.{Chosen, table_by}
@@ -35,6 +40,14 @@ IsListComplete table t now = (from : ℕ) (call : Call) (path : List ℕ) →
 abbrev pub AreLinesPrinted : CallTable → Tree → ProcessState → List ℕ → Type 0
 AreLinesPrinted table t now text = (line : Line) → Contains (objects t table now) line → HasLine text (line_text t line)
 
+-- a call on a path that the process asks for is answered ok only where what the path names has a line with the call, or a promise opens
+-- the path for the call, and that has its line
+abbrev pub AreOkaysListed : CallTable → World → ℕ → ProcessState → List ℕ → Type 0
+AreOkaysListed table w process now text = (call : Call) (path : List ℕ) →
+    (apply table w (record { process = process; action = OnPath call path })).0 ≡ Okay →
+    IsListed w.tree table now call (object_named w.tree now call path)
+    ⊎ ((o : Opening) × IsTrue (opens_call call path o) × HasLine text (codes "opening " ++ opening_text o))
+
 -- each call of each line is allowed on the line's own path, or on that of each further name
 abbrev pub AreLinesSound : CallTable → Tree → ProcessState → Type 0
 AreLinesSound table t now = (line : Line) → Contains (objects t table now) line → (call : Call) → Contains line.calls call →
@@ -44,10 +57,11 @@ AreLinesSound table t now = (line : Line) → Contains (objects t table now) lin
 pub record IsListWritten (rules : Rules) (table : CallTable) (t : Tree) (first : List Asked) (process : ℕ) (text : List ℕ) : Type 0 where
   pub now : ProcessState
   pub here : kept_at (world_after table (new_world t) first) process ≡ Some now
-  pub is_text : text ≡ answer_lines 1 (answers_to table (new_world t) first)
+  pub is_text : text ≡ answer_lines 1 (told_to table (new_world t) first)
       ++ process_list (heading_now rules process) table (world_after table (new_world t) first).tree now
   pub complete : IsListComplete table (world_after table (new_world t) first).tree now
   pub sound : AreLinesSound table (world_after table (new_world t) first).tree now
+  pub okays : AreOkaysListed table (world_after table (new_world t) first) process now text
   pub printed : AreLinesPrinted table (world_after table (new_world t) first).tree now text
 
 abbrev pub ObjectsAsWritten : Type 0

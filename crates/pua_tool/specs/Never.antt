@@ -6,6 +6,7 @@ use Rattle.pua_tree.specs.Listing.{listing}
 use Rattle.pua_path.specs.Resolution.{resolution_of_text}
 use Rattle.pua_path.specs.declared.found.Found.{Found}
 use Rattle.pua_calls.specs.Calls.{CallTable, call_in, ending_of, last_of}
+use Rattle.pua_calls.specs.TmpTable.{tmp_table}
 use Rattle.pua_calls.specs.declared.call.Call.{Call}
 use Rattle.pua_policy.specs.States.{ProcessState, is_ended}
 use Rattle.pua_policy.specs.Verdict.{verdict}
@@ -29,7 +30,8 @@ abbrev pub before_exec_line : List ℕ
 before_exec_line = with_end (codes "never before an exec")
 
 -- whatever is asked behind a world, in bytes, as long as nobody but a process and its family changes the tree, and `never` was told or
--- no exec of a member is answered ok: a call is then allowed to no member, by whatever path from wherever, on anything that is this
+-- no exec of a member is answered ok: a call is then allowed to no member, by whatever path from wherever, on anything that is this,
+-- not even by the table with `tmppath`, which allows no less than that of the requests
 abbrev pub NeverComesBehind : CallTable → World → ℕ → ProcessState → Call → List ℕ → Target → Type 0
 NeverComesBehind table w process now call text thing = (asks : List Asked) → IsTrue (are_in_bytes asks) →
     (text ≡ never_line) ⊎ IsTrue (none_done is_exec table w asks (process ∷ [])) → MembersEdit table w asks (process ∷ []) →
@@ -37,7 +39,7 @@ NeverComesBehind table w process now call text thing = (asks : List Asked) → I
     let after = world_after table w asks in
     HasKept after member (λ last. (from : ℕ) (path : List ℕ) (object : Found) →
     resolution_of_text after.tree from (ending_of call) path (last_of call) ≡ Ok object → is_of after.tree now thing object ≡ true →
-    verdict after.tree table last call object ≡ Allowed → ⊥)
+    verdict after.tree (tmp_table table) last call object ≡ Allowed → ⊥)
 
 -- so of each thing that may be meant by what is wanted, with any number above those of all that lives
 abbrev pub NeverComesTo : CallTable → World → HowWanted → ProcessState → Call → List ℕ → Type 0

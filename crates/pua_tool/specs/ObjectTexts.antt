@@ -1,5 +1,5 @@
 -- The text of the lists of processes, and what refuses it.
-use Rattle.std.specs.Prelude.{ℕ, List, [], ◌∷◌, ◌++◌, if◌then◌else◌, is_some, Result, Ok, Err}
+use Rattle.std.specs.Prelude.{ℕ, List, [], ◌∷◌, ◌++◌, if◌then◌else◌, is_some, Option, Result, Ok, Err}
 use Rattle.std.specs.List.{list_all}
 use Rattle.std.specs.FinMap.{put}
 use Rattle.std.specs.Map.{keys_of}
@@ -8,7 +8,7 @@ use Rattle.pua_tree.specs.Steps.{◌>>=◌}
 use Rattle.pua_calls.specs.Calls.{CallTable}
 use Rattle.pua_calls.specs.declared.rules.Rules.{Rules}
 use Rattle.pua_script.specs.Replay.{World, kept_at}
-use Rattle.pua_script.specs.declared.answer.Answer.{Answer}
+use Rattle.pua_why.specs.Openings.{ToldAnswer}
 use Rattle.pua_words.specs.declared.command.Processes.{Processes}
 use Rattle.pua_words.specs.declared.command.Processes.TheVariants.{One, Named, All}
 use Rattle.pua_tool.specs.Texts.{Chosen, Replayed, replay_of}
@@ -37,7 +37,7 @@ numbers_asked w (Named numbers) = numbers_made w numbers.items
 numbers_asked w All = Ok (numbers_of w)
 
 -- the answers, and then the lists
-abbrev pub objects_after : Rules → CallTable → List Answer → World → List ℕ → List ℕ
+abbrev pub objects_after : Rules → CallTable → List (Option ToldAnswer) → World → List ℕ → List ℕ
 objects_after rules table answers w numbers = answer_lines 1 answers ++ lists_of rules table w numbers
 
 -- the answers, and then the lists of the processes that are asked for, or why there are none

@@ -2,6 +2,7 @@
 use Rattle.std.specs.Prelude.{◌≡◌, ℕ, List, map, flat_map, Result, Ok, Err, codes, string_bytes}
 use Rattle.std.specs.List.{AllByRecursion, Contains}
 use Rattle.pua_tree.specs.Tree.{Tree}
+use Rattle.pua_calls.specs.TmpTable.{tmp_table}
 use Rattle.pua_calls.specs.declared.rules.Rules.{Rules}
 use Rattle.pua_policy.specs.States.{ProcessState}
 use Rattle.pua_how.specs.Outlooks.{IsOutlook}
@@ -22,7 +23,7 @@ pub record IsQuestion (done : Replayed) (wanted : HowWanted) (q : given.HowQuest
   pub above : IsLast done.world.tree last
   pub process : ProcessState
   pub asked : question_of done wanted last ≡ Ok (record { process = process; call = q.call; things = q.meant.targets.items })
-  pub outlook : IsOutlook done.world.tree done.table process q.meant.targets.items q.call q.outlook
+  pub outlook : IsOutlook done.world.tree (tmp_table done.table) process q.meant.targets.items q.call q.outlook
 
 -- lines of a process, which rules read, that are a way to one of some things
 pub record AreWayTo (rules : Rules) (done : Replayed) (process : ℕ) (q : given.HowQuestion) (lines : List WayLine) : Type 0 where

@@ -1,5 +1,5 @@
 -- What the reasons say that a command writes, and the columns of a list with reasons.
-use Rattle.std.specs.Prelude.{◌≡◌, ⊤, ℕ, suc, false, true, List, [], ◌∷◌, ◌++◌, length, flat_map, Option, None, Some, Ok, IsTrue, codes, decimal}
+use Rattle.std.specs.Prelude.{◌≡◌, ⊤, ℕ, suc, Bool, false, true, List, [], ◌∷◌, ◌++◌, length, flat_map, Option, None, Some, Ok, IsTrue, codes, decimal}
 use Rattle.std.specs.List.{Contains}
 use Rattle.pua_tree.specs.Tree.{Tree}
 use Rattle.pua_tree.specs.Listing.{listing}
@@ -16,7 +16,7 @@ use Rattle.pua_policy.specs.declared.reason.Covering.{Covering}
 use Rattle.pua_policy.specs.declared.reason.Covering.TheVariants.{By}
 use Rattle.pua_script.specs.AnswerTexts.{answer_text}
 use Rattle.pua_script.specs.Laws.{LacksRoom}
-use Rattle.pua_script.specs.Requests.{Asked}
+use Rattle.pua_script.specs.Requests.{Asked, says_nothing}
 use Rattle.pua_script.specs.Scripts.{script_by}
 use Rattle.pua_script.specs.Replay.{World, apply, new_world, kept_at, world_after}
 use Rattle.pua_objects.specs.Objects.{Line, Subject, At, Others, line_text, objects}
@@ -46,34 +46,39 @@ ReasonHolds table w ask (Refused fault) =
 ReasonHolds table w ask Granted = ⊤
 
 -- a line for a request behind some others, by its answer, its reason, and the line at which it came to have this reason
-abbrev pub reasoned_line : Rules → CallTable → World → List Asked → Asked → Reason → Option ℕ → List ℕ
-reasoned_line rules table w before ask why turned =
+abbrev pub reasoned_line : CallTable → World → List Asked → Asked → Reason → Option ℕ → List ℕ
+reasoned_line table w before ask why turned =
     let left = world_after table w before in
     decimal (suc (length before)) ++ 32 ∷ ((answer_text (apply table left ask).0 ++ spaced_words (reason_text left.tree why))
-    ++ (since_text (date_of why turned) ++ opener_text (opened_by rules table left ask why)))
+    ++ (since_text (date_of why turned) ++ opener_text (opened_by table left ask)))
 
 -- the line of a request behind some others: the answer is what follows from the reason, what the reason says is so; and from the line
 -- on that is named the same request had the same reason, and just before it another one; or, where none is, always this one
-pub record IsReasonTold (rules : Rules) (table : CallTable) (w : World) (before : List Asked) (ask : Asked) (line : List ℕ) : Type 0 where
+pub record IsReasonTold (table : CallTable) (w : World) (before : List Asked) (ask : Asked) (line : List ℕ) : Type 0 where
   pub why : Reason
   pub turned : Option ℕ
-  pub is_line : line ≡ reasoned_line rules table w before ask why turned
+  pub is_line : line ≡ reasoned_line table w before ask why turned
   pub answers : answer_of why ≡ (apply table (world_after table w before) ask).0
   pub holds : ReasonHolds table (world_after table w before) ask why
   pub since : IsSince (has_key table ask (reason_key why)) table w 1 before ask.process turned
 
+-- so is the first of some lines, unless nobody asks, and then there is none
+abbrev pub IsFirstTold : CallTable → World → List Asked → Asked → Bool → List (List ℕ) → List (List ℕ) → Type 0
+IsFirstTold table w before ask true lines more = lines ≡ more
+IsFirstTold table w before ask false lines more = (line : List ℕ) × (lines ≡ line ∷ more) × IsReasonTold table w before ask line
+
 -- so are the lines of requests, one after another
-abbrev pub AreReasonsTold : Rules → CallTable → World → List Asked → List Asked → List (List ℕ) → Type 0
-AreReasonsTold rules table w before [] [] = ⊤
-AreReasonsTold rules table w before (ask ∷ asks) (line ∷ lines) =
-    IsReasonTold rules table w before ask line × AreReasonsTold rules table w (before ++ ask ∷ []) asks lines
-AreReasonsTold rules table w before _ _ = ⊥
+abbrev pub AreReasonsTold : CallTable → World → List Asked → List Asked → List (List ℕ) → Type 0
+AreReasonsTold table w before [] lines = lines ≡ []
+AreReasonsTold table w before (ask ∷ asks) lines =
+    (more : List (List ℕ)) × IsFirstTold table w before ask (says_nothing ask.action) lines more
+    × AreReasonsTold table w (before ++ ask ∷ []) asks more
 
 -- the text of a run with reasons has a line for each request, and nothing else
-pub record IsRunReasoned (rules : Rules) (table : CallTable) (t : Tree) (asks : List Asked) (text : List ℕ) : Type 0 where
+pub record IsRunReasoned (table : CallTable) (t : Tree) (asks : List Asked) (text : List ℕ) : Type 0 where
   pub lines : List (List ℕ)
   pub is_text : text ≡ flat_map with_end lines
-  pub told : AreReasonsTold rules table (new_world t) [] asks lines
+  pub told : AreReasonsTold table (new_world t) [] asks lines
 
 -- what covers what a line is about is so: of further names, of each that has no veil of its own
 abbrev pub IsCovered : Tree → ProcessState → Subject → Covering → Type 0
@@ -107,7 +112,7 @@ pub record IsListReasoned (rules : Rules) (table : CallTable) (t : Tree) (asks :
   pub lines : List (List ℕ)
   pub is_text : text ≡ flat_map with_end lines
       ++ why_list (heading_now rules process) (record { table = table; world = new_world t; asks = asks }) now
-  pub told : AreReasonsTold rules table (new_world t) [] asks lines
+  pub told : AreReasonsTold table (new_world t) [] asks lines
   pub reasoned : (line : Line) → Contains (objects (world_after table (new_world t) asks).tree table now) line →
       IsLineReasoned table t asks process now line text
 
@@ -115,7 +120,7 @@ pub record IsListReasoned (rules : Rules) (table : CallTable) (t : Tree) (asks :
 pub record ReasonsAsWritten : Type 0 where
   pub runs : (choice : Chosen) (tree_bytes script_bytes : List ℕ) (table : CallTable) (t : Tree) (asks : List Asked) (text : List ℕ) →
       table_by choice ≡ Ok table → listing tree_bytes ≡ Ok t → script_by choice.rules script_bytes ≡ Ok asks →
-      run_why_text choice tree_bytes script_bytes ≡ Ok text → IsRunReasoned choice.rules table t asks text
+      run_why_text choice tree_bytes script_bytes ≡ Ok text → IsRunReasoned table t asks text
   pub lists : (choice : Chosen) (tree_bytes script_bytes : List ℕ) (table : CallTable) (t : Tree) (asks : List Asked) (process : ℕ)
       (text : List ℕ) → table_by choice ≡ Ok table → listing tree_bytes ≡ Ok t → script_by choice.rules script_bytes ≡ Ok asks →
       objects_why_text choice tree_bytes script_bytes (One process) ≡ Ok text → IsListReasoned choice.rules table t asks process text

@@ -4,13 +4,15 @@ use Rattle.std.specs.List.{AllByRecursion, Contains}
 use Rattle.pua_tree.specs.Tree.{Tree}
 use Rattle.pua_tree.specs.Listing.{listing}
 use Rattle.pua_calls.specs.Calls.{CallTable}
+use Rattle.pua_calls.specs.TmpTable.{tmp_table}
 use Rattle.pua_calls.specs.declared.rules.Rules.{Rules}
 use Rattle.pua_policy.specs.States.{ProcessState}
 use Rattle.pua_script.specs.Requests.{Asked}
 use Rattle.pua_script.specs.Scripts.{script_by}
-use Rattle.pua_script.specs.Replay.{World, new_world, kept_at, answers_to, world_after}
+use Rattle.pua_script.specs.Replay.{new_world, kept_at, world_after}
 use Rattle.pua_ever.specs.Ever.{EverLine, ever_line_text}
 use Rattle.pua_ever.specs.Through.{ever_lasting}
+use Rattle.pua_why.specs.Openings.{told_to}
 use Rattle.pua_texts.specs.Lines.{answer_lines}
 use Rattle.pua_texts.specs.TogetherLines.{living, one_of, together_list}
 use Rattle.pua_words.specs.declared.command.Processes.{Processes}
@@ -30,15 +32,15 @@ pub record IsTogetherWritten (rules : Rules) (table : CallTable) (t : Tree) (fir
     pub members : List (ℕ × ProcessState)
     pub asked : numbers members ≡ numbers_in (world_after table (new_world t) first) which
     pub here : AllByRecursion (λ member. kept_at (world_after table (new_world t) first) member.0 ≡ Some member.1) members
-    pub is_text : text ≡ answer_lines 1 (answers_to table (new_world t) first)
-        ++ together_list rules table (world_after table (new_world t) first).tree members
+    pub is_text : text ≡ answer_lines 1 (told_to table (new_world t) first)
+        ++ together_list rules (tmp_table table) (world_after table (new_world t) first).tree members
     -- whatever those that live and what they fork ask for, or start: each call that is then allowed to one of them has its line in the
     -- list of the one that stands for them, whatever the others are that it needs
-    pub complete : (one : ProcessState) → one_of table members ≡ Some one →
+    pub complete : (one : ProcessState) → one_of (tmp_table table) members ≡ Some one →
         IsForeseenBehind table (world_after table (new_world t) first) (numbers (living members)) one
     -- and each line of it stands in the text
-    pub printed : (one : ProcessState) → one_of table members ≡ Some one → (line : EverLine) →
-        Contains (ever_lasting (world_after table (new_world t) first).tree table one) line →
+    pub printed : (one : ProcessState) → one_of (tmp_table table) members ≡ Some one → (line : EverLine) →
+        Contains (ever_lasting (world_after table (new_world t) first).tree (tmp_table table) one) line →
         HasLine text (ever_line_text (world_after table (new_world t) first).tree line)
 
 abbrev pub TogetherAsWritten : Type 0

@@ -13,9 +13,9 @@ use Rattle.pua_calls.specs.declared.table.read.TableFault.{TableFault}
 use Rattle.pua_policy.specs.States.{ProcessState}
 use Rattle.pua_script.specs.Requests.{Asked}
 use Rattle.pua_script.specs.Scripts.{script_by}
-use Rattle.pua_script.specs.Replay.{World, new_world, kept_at, answers_to, world_after}
-use Rattle.pua_script.specs.declared.answer.Answer.{Answer}
+use Rattle.pua_script.specs.Replay.{World, new_world, kept_at, world_after}
 use Rattle.pua_script.specs.declared.fault.ScriptFault.{ScriptFault}
+use Rattle.pua_why.specs.Openings.{ToldAnswer, told_to}
 use Rattle.pua_audit.specs.Begin.{Beginning, beginning, still_to_come}
 use Rattle.pua_audit.specs.declared.base.Base.{Base}
 use Rattle.pua_audit.specs.declared.fault.AuditFault.{AuditFault}
@@ -102,10 +102,10 @@ abbrev pub as_audit : Result Beginning AuditFault → Result Beginning ToolFault
 as_audit (Ok b) = Ok b
 as_audit (Err fault) = Err (Audit fault)
 
--- the table of calls, what a script was answered by it over a listing, and the world that it left
+-- the table of calls, what a script's lines were answered by it over a listing, with what opened it, and the world that it left
 pub record Replayed : Type 0 where
   pub table : CallTable
-  pub answers : List Answer
+  pub answers : List (Option ToldAnswer)
   pub world : World
 
 -- the replay of a script over a listing, by the table that is chosen, or the first fault: the table's, the listing's, or the script's
@@ -114,7 +114,7 @@ replay_of choice tree_bytes script_bytes = do
   table ← table_by choice
   t ← as_listing (listing tree_bytes)
   asks ← as_script (script_by choice.rules script_bytes)
-  Ok (record { table = table; answers = answers_to table (new_world t) asks; world = world_after table (new_world t) asks })
+  Ok (record { table = table; answers = told_to table (new_world t) asks; world = world_after table (new_world t) asks })
 
 -- a line for each answer of a script over a listing
 abbrev pub run_text : Chosen → List ℕ → List ℕ → Result (List ℕ) ToolFault
@@ -127,7 +127,7 @@ abbrev pub beginning_of : Tree → CallTable → ProcessState → Wanted → Res
 beginning_of t table h wanted = beginning t table h wanted.base wanted.candidates wanted.limit wanted.after
 
 -- the front, and a line for each pair that is still to come
-abbrev pub pairs_after : Wanted → List Answer → Beginning → List ℕ
+abbrev pub pairs_after : Wanted → List (Option ToldAnswer) → Beginning → List ℕ
 pairs_after wanted answers b = front_of wanted.after wanted.process answers ++ pair_lines b.scope.base (still_to_come b)
 
 -- the audit of a process where a replay ends, or why there is none: a process never made, or what no audit begins with

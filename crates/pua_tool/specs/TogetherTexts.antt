@@ -1,8 +1,9 @@
 -- The text of what several processes can ever touch together, and what refuses it.
-use Rattle.std.specs.Prelude.{ℕ, Bool, true, false, ◌&&◌, ◌==◌, List, [], ◌∷◌, ◌++◌, map, option_map, if◌then◌else◌, Option, Some, None}
+use Rattle.std.specs.Prelude.{ℕ, Bool, true, false, ◌&&◌, ◌==◌, List, [], ◌∷◌, ◌++◌, option_map, if◌then◌else◌, Option, Some, None}
 use Rattle.std.specs.Prelude.{Result, Ok, Err, ok_or}
 use Rattle.pua_tree.specs.Steps.{◌>>=◌}
 use Rattle.pua_calls.specs.Calls.{CallTable}
+use Rattle.pua_calls.specs.TmpTable.{tmp_table}
 use Rattle.pua_calls.specs.declared.rules.Rules.{Rules}
 use Rattle.pua_policy.specs.States.{ProcessState, perms_kept, veils}
 use Rattle.pua_policy.specs.declared.place.Place.{Place}
@@ -76,9 +77,9 @@ abbrev pub unless_fault : Option ToolFault → List ℕ → Result (List ℕ) To
 unless_fault None text = Ok text
 unless_fault (Some fault) text = Err fault
 
--- the answers, and then the list for ever of these processes together
+-- the answers, and then the list for ever of these processes together, by the table with `tmppath`
 abbrev pub together_lines : Rules → Replayed → List (ℕ × ProcessState) → List ℕ
-together_lines rules done members = answer_lines 1 done.answers ++ together_list rules done.table done.world.tree members
+together_lines rules done members = answer_lines 1 done.answers ++ together_list rules (tmp_table done.table) done.world.tree members
 
 abbrev pub together_of : Rules → Replayed → List (ℕ × ProcessState) → Result (List ℕ) ToolFault
 together_of rules done members = unless_fault (together_fault done.table members) (together_lines rules done members)

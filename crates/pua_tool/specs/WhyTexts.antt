@@ -24,12 +24,12 @@ served_script choice tree_bytes script_bytes = do
   asks ← as_script (script_by choice.rules script_bytes)
   Ok (record { table = table; world = new_world t; asks = asks })
 
--- a line for each request: its number, its answer, why and since when it is so, and what opens the path by these rules
-abbrev pub reason_lines : Rules → ServedScript → List ℕ
-reason_lines rules p = flat_map with_end (why_lines rules p.table p.world [] 1 p.asks)
+-- a line for each request: its number, its answer, and why and since when it is so, or what opened it
+abbrev pub reason_lines : ServedScript → List ℕ
+reason_lines p = flat_map with_end (why_lines p.table p.world [] 1 p.asks)
 
 abbrev pub run_why_text : Chosen → List ℕ → List ℕ → Result (List ℕ) ToolFault
-run_why_text choice tree_bytes script_bytes = served_script choice tree_bytes script_bytes >>= λ p. Ok (reason_lines choice.rules p)
+run_why_text choice tree_bytes script_bytes = served_script choice tree_bytes script_bytes >>= λ p. Ok (reason_lines p)
 
 -- a line of a script, by its process and the fields behind
 abbrev pub request_line : ℕ → List (List ℕ) → List ℕ
@@ -40,8 +40,8 @@ as_request (Ok ask) = Ok ask
 as_request (Err fault) = Err (Request fault)
 
 -- a line for each check that a request passes behind the script, and its answer
-abbrev pub chain_lines : Rules → ServedScript → Asked → List ℕ
-chain_lines rules p ask = flat_map with_end (chain rules p.table p.world p.asks ask)
+abbrev pub chain_lines : ServedScript → Asked → List ℕ
+chain_lines p ask = flat_map with_end (chain p.table p.world p.asks ask)
 
 -- what decides the request with these fields behind a script over a listing, or the first fault: the table's, the
 -- listing's, the script's, or that of the fields
@@ -49,11 +49,11 @@ unfoldable pub why_text : Chosen → List ℕ → List ℕ → ℕ → List (Lis
 why_text choice tree_bytes script_bytes process fields = do
   p ← served_script choice tree_bytes script_bytes
   ask ← as_request (request_by choice.rules 1 (request_line process fields))
-  Ok (chain_lines choice.rules p ask)
+  Ok (chain_lines p ask)
 
 -- the lines of a script with reasons, and the lists of the processes that are asked for, or why there are none
 abbrev pub why_lists_asked : Rules → ServedScript → Processes → Result (List ℕ) ToolFault
-why_lists_asked rules p which = numbers_asked (world_left p) which >>= λ numbers. Ok (reason_lines rules p ++ why_lists_of rules p numbers)
+why_lists_asked rules p which = numbers_asked (world_left p) which >>= λ numbers. Ok (reason_lines p ++ why_lists_of rules p numbers)
 
 -- the lists with reasons at the end of a script over a listing, or the first fault: the table's, the listing's, the
 -- script's, or a process never made

@@ -37,7 +37,8 @@ pub(crate) fn ever_to<S: Sink>(
 }
 
 /// Writes the answers of a script, and then the list for ever of the process with this number where
-/// the script ends. Every fault but `Write` is answered before anything is written.
+/// the script ends. The list goes by the table with tmppath. Every fault but `Write` is answered
+/// before anything is written.
 fn list_to<S: Sink>(
     alloc: Global,
     replay: &Replay,
@@ -52,9 +53,10 @@ fn list_to<S: Sink>(
     let Some(process) = world.process(number) else {
         return Err(ToolFault::NoProcess);
     };
-    let (tree, table) = (world.tree(), world.table());
-    let both = bounded_exec(alloc, process, table)?;
-    let list = match list_lasting(alloc, tree, process, both.as_ref(), table) {
+    let tree = world.tree();
+    let wide = world.table().with_tmppath();
+    let both = bounded_exec(alloc, process, &wide)?;
+    let list = match list_lasting(alloc, tree, process, both.as_ref(), &wide) {
         Ok(list) => list,
         Err(fault) => return Err(fault_of(number, fault)),
     };

@@ -7,6 +7,7 @@ ghost use Rattle.std.specs.List.{AllByRecursion, AllZip, list_any};
 ghost use Rattle.pua_calls.specs.CallSets.{calls_in, has};
 ghost use Rattle.pua_calls.specs.Calls.{rule_of};
 ghost use Rattle.pua_calls.specs.Promises.{holds};
+ghost use Rattle.pua_calls.specs.TmpTable.{tmp_table};
 ghost use Rattle.pua_calls.specs.declared.call.Call.{Call as AnyCall};
 ghost use Rattle.pua_policy.specs.States.{ProcessState};
 ghost use Rattle.pua_policy.specs.declared.place.Place.{Place as AnyPlace};
@@ -59,7 +60,7 @@ impl<'p> Reasons<'p> {
         dates: &[Option<usize>],
     ) -> Result<Reasons<'p>, OutOfMemory>
         ensures { IfOk result (λ reasons. (p : ServedScript) (number : ℕ) →
-            T.content tree.now ≡ (world_left p).tree → table.now ≡ p.table →
+            T.content tree.now ≡ (world_left p).tree → table.now ≡ tmp_table p.table →
             dates.now ≡ veil_dates p number process.now.veils →
             AreReasons p number process.now holder.now execs reasons) }
     {
@@ -95,8 +96,8 @@ fn kept_veils<'p, T: FileTree>(
     dates: &[Option<usize>],
 ) -> Result<Vec<Kept<'p>>, OutOfMemory>
     ensures { IfOk result (λ kept. (p : ServedScript) (number : ℕ) (holder : ProcessState) →
-        T.content tree.now ≡ (world_left p).tree → table.now ≡ p.table →
-        AreComings (world_left p).tree p.table holder comings.now →
+        T.content tree.now ≡ (world_left p).tree → table.now ≡ tmp_table p.table →
+        AreComings (world_left p).tree (tmp_table p.table) holder comings.now →
         dates.now ≡ veil_dates p number process.now.veils →
         AllZip (IsKept p number holder) process.now.veils kept.items) }
 {
@@ -115,8 +116,8 @@ fn kept_each<'p, T: FileTree>(
     dates: &[Option<usize>],
 ) -> Result<Vec<Kept<'p>>, OutOfMemory>
     ensures { IfOk result (λ kept. (p : ServedScript) (number : ℕ) (holder : ProcessState) →
-        paths.old.tree ≡ (world_left p).tree → table.now ≡ p.table →
-        AreComings (world_left p).tree p.table holder comings.now →
+        paths.old.tree ≡ (world_left p).tree → table.now ≡ tmp_table p.table →
+        AreComings (world_left p).tree (tmp_table p.table) holder comings.now →
         dates.now ≡ veil_dates p number (map (λ veil. (veil.0.now, veil.1.now)) veils.now) →
         AllZip (IsKept p number holder) (map (λ veil. (veil.0.now, veil.1.now)) veils.now)
         kept.items) }
@@ -193,7 +194,7 @@ pub(crate) fn columns_of<T: FileTree>(
 ) -> Result<Vec<String>, OutOfMemory>
     ensures { IfOk result (λ columns. (p : ServedScript) (number : ℕ) (h : ProcessState)
         (execs : AnyExecs) →
-        T.content tree.now ≡ (world_left p).tree → table.now ≡ p.table →
+        T.content tree.now ≡ (world_left p).tree → table.now ≡ tmp_table p.table →
         AreReasons p number h holder.now execs reasons.now →
         AllByRecursion (IsRowOn (world_left p).tree holder.now) rows.now →
         AreTexts p number h holder.now execs rows.now (map string_bytes columns.items)) }
@@ -216,10 +217,10 @@ fn column_of(
     under: &ComesUnder,
 ) -> Result<String, AllocError>
     ensures { IfOk result (λ text. (p : ServedScript) (number : ℕ) (h holder : ProcessState)
-        (execs : AnyExecs) → table.now ≡ p.table →
+        (execs : AnyExecs) → table.now ≡ tmp_table p.table →
         AreReasons p number h holder execs reasons.now → string_bytes text
         ≡ with_end (column_on p number h execs
-        (places_under (world_left p).tree p.table holder under.now) (calls_in calls))) }
+        (places_under (world_left p).tree (tmp_table p.table) holder under.now) (calls_in calls))) }
 {
     let resting = rests_on(table, reasons.held, reasons.given, calls);
     let mut text = String::from_str(alloc, " ")?;
@@ -239,7 +240,7 @@ fn push_veils(
     ensures { OnOk result ((p : ServedScript) (number : ℕ) (holder : ProcessState)
         (vs : List (AnyPlace × ℕ)) → AllZip (IsKept p number holder) vs veils.now →
         string_bytes text.new ≡ string_bytes text.old ++ veils_told p number vs
-        (places_under (world_left p).tree p.table holder under.now) (calls_in calls)) }
+        (places_under (world_left p).tree (tmp_table p.table) holder under.now) (calls_in calls)) }
 {
     let before = text.len();
     for veil in veils {
@@ -261,7 +262,8 @@ fn push_told(
     ensures { OnOk result ((p : ServedScript) (number : ℕ) (holder : ProcessState)
         (kept : AnyPlace × ℕ) → IsKept p number holder kept veil.now → string_bytes text.new
         ≡ string_bytes text.old ++ told_of p number
-        (places_under (world_left p).tree p.table holder under.now) (calls_in calls) (kept ∷ [])) }
+        (places_under (world_left p).tree (tmp_table p.table) holder under.now) (calls_in calls)
+        (kept ∷ [])) }
 {
     if is_told(veil, calls, under) {
         return text.push_str(veil.text.as_str());
@@ -272,8 +274,9 @@ fn push_told(
 /// Whether a veil is told: a thing comes to stand under it, and it lets one of the calls through.
 fn is_told(veil: &Kept<'_>, calls: Calls, under: &ComesUnder) -> bool
     ensures { (p : ServedScript) (number : ℕ) (holder : ProcessState) (kept : AnyPlace × ℕ) →
-        IsKept p number holder kept veil.now → result ≡ is_told p.table
-        (places_under (world_left p).tree p.table holder under.now) (calls_in calls) kept }
+        IsKept p number holder kept veil.now → result ≡ is_told (tmp_table p.table)
+        (places_under (world_left p).tree (tmp_table p.table) holder under.now) (calls_in calls)
+        kept }
 {
     under.has(veil.place, veil.taking) && has_some(veil.lets, calls)
 }

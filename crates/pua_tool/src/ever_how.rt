@@ -43,7 +43,8 @@ pub(crate) fn ever_how_to<S: Sink>(
 }
 
 /// Writes the answers of a script, and then the list for ever of the process where the script ends,
-/// with its columns. Every fault but `Write` is answered before anything is written.
+/// with its columns. The list goes by the table with tmppath. Every fault but `Write` is answered
+/// before anything is written.
 fn list_to<S: Sink>(alloc: Global, behind: &Behind<'_>, sink: &mut S) -> Result<(), ToolFault>
     ensures { (answer : Result (List ℕ) ToolFault)
         × IsEverHowAfter behind.now.rules (done_behind behind.now) behind.now.number answer
@@ -53,10 +54,11 @@ fn list_to<S: Sink>(alloc: Global, behind: &Behind<'_>, sink: &mut S) -> Result<
     let Some(process) = world.process(number) else {
         return Err(ToolFault::NoProcess);
     };
-    let (tree, table) = (world.tree(), world.table());
+    let tree = world.tree();
     tree.known();
-    let both = bounded_exec(alloc, process, table)?;
-    let list = match list_lasting(alloc, tree, process, both.as_ref(), table) {
+    let wide = world.table().with_tmppath();
+    let both = bounded_exec(alloc, process, &wide)?;
+    let list = match list_lasting(alloc, tree, process, both.as_ref(), &wide) {
         Ok(list) => list,
         Err(fault) => return Err(fault_of(number, fault)),
     };

@@ -3,6 +3,7 @@
 ghost use Rattle.std.specs.Prelude.{◌≡◌, ◌++◌, ℕ, Ok, IfOk, map, option_copied, string_bytes};
 ghost use Rattle.std.specs.List.{AllByRecursion};
 ghost use Rattle.pua_calls.specs.Calls.{CallTable as Table};
+ghost use Rattle.pua_calls.specs.TmpTable.{tmp_table};
 ghost use Rattle.pua_script.specs.Scripts.{script_by};
 ghost use Rattle.pua_since.specs.Dates.{veil_date, veils_at};
 ghost use Rattle.pua_ever.specs.EverList.{IsRowOn};
@@ -52,7 +53,8 @@ pub(crate) fn ever_why_to<S: Sink>(
 }
 
 /// Writes the lines of a script with reasons, and then the list for ever of the process with its
-/// columns. Every fault but `Write` is answered before anything is written.
+/// columns. The list goes by the table with tmppath. Every fault but `Write` is answered before
+/// anything is written.
 fn list_to<S: Sink>(
     alloc: Global,
     script_bytes: &[u8],
@@ -70,14 +72,15 @@ fn list_to<S: Sink>(
         return Err(ToolFault::NoProcess);
     };
     process.known();
-    let (tree, table) = (worlds.after.tree(), worlds.after.table());
-    let both = bounded_exec(alloc, process, table)?;
-    let list = match list_lasting(alloc, tree, process, both.as_ref(), table) {
+    let tree = worlds.after.tree();
+    let wide = worlds.after.table().with_tmppath();
+    let both = bounded_exec(alloc, process, &wide)?;
+    let list = match list_lasting(alloc, tree, process, both.as_ref(), &wide) {
         Ok(list) => list,
         Err(fault) => return Err(fault_of(number, fault)),
     };
     let dates = dates.as_slice();
-    let columns = columns_by(alloc, tree, process, both.as_ref(), table, &list, dates)?;
+    let columns = columns_by(alloc, tree, process, both.as_ref(), &wide, &list, dates)?;
     let lists = begin_ever_with(alloc, rules, number, process, &list, columns)?;
     put_lists(alloc, tree, front.as_str(), lists, sink)
 }
@@ -93,7 +96,7 @@ fn dated_front(
 ) -> Result<(String, Vec<Option<usize>>), OutOfMemory>
     ensures dated { IfOk result (λ dated. script_by rules script_bytes.now ≡ Ok worlds.old.script →
         IsTwoWorlds worlds.old →
-        (string_bytes dated.0 ≡ reason_lines rules (as_served worlds.old))
+        (string_bytes dated.0 ≡ reason_lines (as_served worlds.old))
         × (dated.1.items ≡ map
         (veil_date worlds.old.before.table (as_served worlds.old).world worlds.old.script)
         (veils_at worlds.old.after number))) }
@@ -104,7 +107,6 @@ fn dated_front(
     let veils = veils.as_slice();
     dated_text(
         alloc,
-        rules,
         &mut worlds.before,
         script_bytes,
         requests,
@@ -113,8 +115,8 @@ fn dated_front(
     )
 }
 
-/// The columns of the lines of a process's list, whose veils are so since these lines. The only
-/// error is that a growth was refused.
+/// The columns of the lines of a process's list, which goes by this table, and whose veils are so
+/// since these lines. The only error is that a growth was refused.
 fn columns_by<T: FileTree>(
     alloc: Global,
     tree: &T,
@@ -125,11 +127,11 @@ fn columns_by<T: FileTree>(
     dates: &[Option<usize>],
 ) -> Result<Vec<String>, OutOfMemory>
     ensures { IfOk result (λ columns. (p : ServedScript) (number : ℕ) →
-        T.content tree.now ≡ (world_left p).tree → table.now ≡ p.table →
-        IsBoundedExecOf p.table process.now (option_copied both.entry) →
+        T.content tree.now ≡ (world_left p).tree → table.now ≡ tmp_table p.table →
+        IsBoundedExecOf (tmp_table p.table) process.now (option_copied both.entry) →
         AllByRecursion (IsRowOn (world_left p).tree process.now) list.now.rows.items →
         dates.now ≡ veil_dates p number process.now.veils →
-        AreTexts p number process.now (holder_by p.table process.now list.now.execs)
+        AreTexts p number process.now (holder_by (tmp_table p.table) process.now list.now.execs)
         list.now.execs list.now.rows.items (map string_bytes columns.items)) }
 {
     let holder = holder_by(process, both, list.execs);

@@ -57,6 +57,11 @@ pub enum ToolFault {
     NowHow,
     /// There is no list for ever of several processes with ways, since a way is of one.
     SeveralHow,
+    /// There is no list for ever with what processes were before each program that they started:
+    /// then they could mostly put veils still.
+    EverImages,
+    /// There is no list with reasons and with what processes were.
+    WhyImages,
     /// The tree that the script leaves has more names than a listing has lines: over 1,000,000, the
     /// root counted as one.
     TooManyNames,
@@ -146,6 +151,8 @@ impl ToolFault {
             ToolFault::SeveralWhy => one("pua: objects: no list for ever of several with --why"),
             ToolFault::NowHow => one("pua: objects: no list of now with --how"),
             ToolFault::SeveralHow => one("pua: objects: no list of several with --how"),
+            ToolFault::EverImages => one("pua: objects: no list for ever with --images"),
+            ToolFault::WhyImages => one("pua: objects: no list with --why and --images"),
             ToolFault::NoLine(line) => blamed("pua: script: ", (Some(line), "no such line")),
             ToolFault::HowCall => one("pua: how: bad call"),
             ToolFault::HowPath => one("pua: how: bad path"),

@@ -2,6 +2,7 @@
 
 ghost use Rattle.std.specs.Prelude.{◌≡◌, ◌≢◌, ◌++◌, ℕ, List, None, Ok, Err, IfErr, IfOk, OnOk};
 ghost use Rattle.std.specs.Prelude.{Result, false, flat_map, map, string_bytes};
+ghost use Rattle.pua_calls.specs.TmpTable.{tmp_table};
 ghost use Rattle.pua_texts.specs.Lines.{with_end};
 ghost use Rattle.pua_how.specs.Outlooks.{IsOutlook};
 ghost use Rattle.pua_how.specs.Steps.{NoneComes};
@@ -186,7 +187,8 @@ fn follows_link<T: FileTree>(tree: &T, call: Call, things: &[Target]) -> bool
     is_link && matches!(call.last(), Last::Followed)
 }
 
-/// What the list for ever says about the thing. `OutOfMemory` where a growth was refused.
+/// What the list for ever says about the thing, which goes by the table with tmppath.
+/// `OutOfMemory` where a growth was refused.
 fn outlook_of<T: FileTree>(
     alloc: Global,
     tree: &T,
@@ -196,12 +198,13 @@ fn outlook_of<T: FileTree>(
     call: Call,
 ) -> Result<Outlook, ToolFault>
     ensures told { IfOk result (λ found.
-        IsOutlook (T.content tree.now) table.now process.now things.now call found) }
+        IsOutlook (T.content tree.now) (tmp_table table.now) process.now things.now call found) }
     ensures memory { IfErr result (λ fault. fault ≡ ToolFault.OutOfMemory) }
     ensures unwritten { IfErr result (λ fault. fault ≢ ToolFault.Write) }
 {
-    let both = bounded_exec(alloc, process, table)?;
-    let Ok(list) = list_lasting(alloc, tree, process, both.as_ref(), table) else {
+    let wide = table.with_tmppath();
+    let both = bounded_exec(alloc, process, &wide)?;
+    let Ok(list) = list_lasting(alloc, tree, process, both.as_ref(), &wide) else {
         return Err(ToolFault::OutOfMemory);
     };
     Ok(find_outlook(tree, &list, things, call))

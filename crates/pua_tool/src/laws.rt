@@ -9,6 +9,7 @@ ghost use Rattle.pua_tool.specs.Examples.{TextRows, TightTextRows};
 ghost use Rattle.pua_tool.specs.Fewest.{TightAsWritten};
 ghost use Rattle.pua_tool.specs.Forever.{EverAsWritten};
 ghost use Rattle.pua_tool.specs.FrontLaws.{FrontLines, FrontRequests};
+ghost use Rattle.pua_tool.specs.Images.{ImagesAsWritten};
 ghost use Rattle.pua_tool.specs.Listed.{ObjectsAsWritten};
 ghost use Rattle.pua_tool.specs.Never.{NeverAsWritten};
 ghost use Rattle.pua_tool.specs.ReadBack.{TreeAsWritten};
@@ -21,10 +22,11 @@ ghost use Rattle.pua_tool.specs.TreeExamples.{TreeTextRows};
 ghost use Rattle.pua_script.specs.Futures.{RulesNarrow};
 ghost use Rattle.pua_script.specs.Tightening.{OthersLeave, OthersLeaveAlways};
 
-use pua_ever::together_law;
+use pua_ever::{through_law, together_law};
 use pua_listing::read_back_law;
 use pua_objects::{completeness_law, soundness_law};
-use pua_script::{bytes_law, pasts_law};
+use pua_script::{bytes_law, openings_law, pasts_law};
+use pua_texts::state_law;
 use pua_tree::FileTree;
 
 /// Examples of whole texts, and of what refuses them.
@@ -64,29 +66,48 @@ pub fn confined()
     ensures rules { RulesNarrow }
 {}
 
+/// Where there is a text of lists with what processes were, and one of the processes that are asked
+/// for started a program by a line and was answered `ok`, there stands a list of it as it was: but
+/// for its heading, that which is printed of this process, behind the answers, of the script that
+/// ends before this line.
+#[tactic(auto, using(crate::proofs::ImagesWritten::images_as_written))]
+pub fn images_text_law()
+    ensures { ImagesAsWritten }
+{}
+
 /// Where there is a text of a list of objects of a process, it is the answers and the list of the
 /// process, each line of which stands in it; and whatever path is spelled, if a call is allowed on
-/// it, what it names has a line with the call. And each call of each line is allowed on the line's
-/// own path, or on that of each further name.
+/// it, what it names has a line with the call. A call that is answered ok and has no such line is on
+/// a path that a promise opens, which has its line `opening`. And each call of each line is allowed
+/// on the line's own path, or on that of each further name.
 pub fn objects_text_law()
     ensures { ObjectsAsWritten }
 {
     completeness_law();
     soundness_law();
+    openings_law();
+    state_law();
 }
 
 /// Where there is a text of a list for ever, it is the answers and the list of the process, which
 /// is complete: whatever is asked after the script, as long as nobody else changes the tree, and
-/// all that the family starts is bounded or no exec of theirs succeeds.
+/// all that the family starts is bounded or no exec of theirs succeeds. It goes by the table with
+/// tmppath (`CallTable::with_tmppath`): what that one allows then has its line too. A call that is
+/// then answered ok and has no such line is on a path that a promise opens, which has its line
+/// `opening`.
 pub fn ever_text_law()
     ensures { EverAsWritten }
-{}
+{
+    openings_law();
+    state_law();
+    through_law();
+}
 
 /// Where there is a text of a list for ever of several processes, it is the answers, their states
 /// and the list of the one that stands for those that live, which is complete: whatever these and
 /// what they fork ask for, as long as nobody else changes the tree, and all that they start is
 /// bounded or no exec of theirs succeeds, each call that is then allowed to one of them has a line
-/// in the text.
+/// in the text; also where the table with tmppath alone allows it, by which the list goes.
 pub fn together_text_law()
     ensures { TogetherAsWritten }
 {
@@ -107,18 +128,20 @@ pub fn reasons_text_law()
 /// Where the text of a way says `never`, or `never before an exec`, the call is allowed to no
 /// member of the process's family on anything that is meant, by whatever path from wherever:
 /// whatever is asked after the script, as long as nobody else changes the tree; and where it says
-/// the latter, as long as no exec of theirs succeeds.
+/// the latter, as long as no exec of theirs succeeds. Nor does the table with tmppath allow it then.
 #[tactic(auto, using(crate::proofs::Never::never_as_written))]
 pub fn never_text_law()
     ensures { NeverAsWritten }
 {}
 
 /// Where there is a text of a tightened script, it is a script again, the given one but for words
-/// that were left out: its run has the same text, each process may do no more, and without any one
-/// word more some line is answered otherwise. Where each request rests on one set of promises,
+/// that were left out: its run has the same answers, and by the standard rules the same text; each
+/// process may do no more, and without any one word more some line is answered otherwise. Where each
+/// request rests on one set of promises, and no promise that may be left out opens a path by itself,
 /// whatever else is left out so that all is answered as before has all that it has: by the rules
-/// alone, without a table's rows, by the standard ones of every script, by OpenBSD's of every
-/// script without chown and fchown.
+/// alone, without a table's rows, by the standard ones of every script, by OpenBSD's of every script
+/// without chown, fchown, and a call without a path that asks for one of several promises or for one
+/// that opens another call's path.
 #[tactic(auto, using(crate::proofs::Fewest::tight_as_written))]
 pub fn tight_text_law()
     ensures { TightAsWritten }

@@ -15,13 +15,16 @@ mod ever_why;
 mod fault;
 mod front;
 mod how;
+mod images;
 mod job;
+mod kept_text;
 mod laws;
 mod line;
 mod lists;
 mod objects;
 mod objects_why;
 mod outcome;
+mod pathless;
 mod refused;
 mod row;
 mod run;
@@ -43,9 +46,9 @@ pub use fault::ToolFault;
 pub use how::how_to;
 pub use job::Job;
 pub use laws::{
-    column_examples, confined, ever_text_law, front_law, headline_law, narrowing, never_text_law,
-    objects_text_law, reasons_text_law, text_examples, tight_text_law, together_text_law,
-    tree_examples, tree_text_law, trees_alike,
+    column_examples, confined, ever_text_law, front_law, headline_law, images_text_law, narrowing,
+    never_text_law, objects_text_law, reasons_text_law, text_examples, tight_text_law,
+    together_text_law, tree_examples, tree_text_law, trees_alike,
 };
 pub use lists::list_to;
 pub use pua_io::{

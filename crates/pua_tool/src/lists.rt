@@ -2,13 +2,15 @@
 
 ghost use Rattle.std.specs.Prelude.{ℕ, List, Result};
 ghost use Rattle.pua_tool.specs.Answers.{AnswersTo};
-ghost use Rattle.pua_tool.specs.ListTexts.{IsListText, IsWaysText, lasting_text, lasting_why_text};
+ghost use Rattle.pua_tool.specs.ListTexts.{IsListBy, IsListText, IsWaysText, lasting_text};
+ghost use Rattle.pua_tool.specs.ListTexts.{lasting_why_text, with_images_text};
 ghost use Rattle.pua_tool.specs.Texts.{choice_of};
 
 use crate::ever::ever_to;
 use crate::ever_how::ever_how_to;
 use crate::ever_why::ever_why_to;
 use crate::fault::ToolFault;
+use crate::images::images_to;
 use crate::objects::objects_to;
 use crate::objects_why::objects_why_to;
 use crate::table::TableChoice;
@@ -44,9 +46,11 @@ use std::alloc::Global;
 /// state before those of the veils says what becomes of the list when a program is started: `exec
 /// bounded`, where what is started has the veils, and no more than the execpromises, and the list
 /// has what it can touch too; or `exec open`, and the list holds until an exec of theirs succeeds.
-/// The calls of a line are all that can ever be allowed on the thing, wherever it is moved. After a
-/// line of what stands at a name with a veil of its own, and can be taken away, stands a line of
-/// the missing name. Of a process that has ended there is a list, without a line.
+/// The calls of a line are all that can ever be allowed on the thing, wherever it is moved; where
+/// promises open paths by themselves, and the process holds tmppath, with the calls that this
+/// promise opens, wherever the veils let them through. After a line of what stands at a name with a
+/// veil of its own, and can be taken away, stands a line of the missing name. Of a process that has
+/// ended there is a list, without a line.
 ///
 /// The list for ever of several processes, or of all, is one, of what they can touch together:
 /// `ever P,Q,..`, and of each process the lines `process P alive`, `promises`, `execpromises` and
@@ -55,6 +59,11 @@ use std::alloc::Global;
 /// open by themselves, and the veils; and a line for each thing on which a call can ever be allowed
 /// to them or to what they fork, by what they do together. A process that has ended adds nothing to
 /// the list.
+///
+/// With what processes were, a list stands before those of now for each line by which one of the
+/// processes that are asked for started a program and was answered `ok`, in the order of these
+/// lines: `objects P before LINE`, and behind this heading what the list of now of that process has
+/// where the lines before it are the whole script. There is none for ever, and none with columns.
 ///
 /// The columns of reasons stand after each object's line, `PROMISES PLACE LETTERS LINE`: the
 /// promises on which its calls rest, of each call the first set that is held, `=` for none; and of
@@ -68,13 +77,13 @@ use std::alloc::Global;
 /// one; or `?`, where none was found. Each plan is served in a copy of the world that the script
 /// left.
 ///
-/// The first that holds of these is answered before anything is written: `SeveralWhy`, `NowHow` or
-/// `SeveralHow`, where there is no such list; `Table`, `Listing` and `Script`; `NoProcess`; of a
-/// list for ever that of `CanUnveil`, `LacksC`, `RenameLacksC` and `LinkLacksC` which the first
-/// process has that has one; and of a list of several `OtherVeils`, of the first that lives and the
-/// first after it that lives and has another place with a veil, or other letters at one. So is
-/// `OutOfMemory`, wherever a growth was refused. `Write` is answered only where a put failed in
-/// this call, and a front of the text is then written.
+/// The first that holds of these is answered before anything is written: `SeveralWhy`, `NowHow`,
+/// `SeveralHow`, `EverImages` or `WhyImages`, where there is no such list; `Table`, `Listing` and
+/// `Script`; `NoProcess`; of a list for ever that of `CanUnveil`, `LacksC`, `RenameLacksC` and
+/// `LinkLacksC` which the first process has that has one; and of a list of several `OtherVeils`, of
+/// the first that lives and the first after it that lives and has another place with a veil, or
+/// other letters at one. So is `OutOfMemory`, wherever a growth was refused. `Write` is answered
+/// only where a put failed in this call, and a front of the text is then written.
 pub fn list_to<S: Sink>(
     alloc: Global,
     tree_bytes: &[u8],
@@ -85,6 +94,49 @@ pub fn list_to<S: Sink>(
 ) -> Result<(), ToolFault>
     ensures text { (answer : Result (List ℕ) ToolFault)
         × IsListText (choice_of table.entry) tree_bytes.now script_bytes.now list.now answer
+        × AnswersTo S.written S.failed answer result sink.old sink.new }
+{
+    if list.images {
+        return with_images_to(alloc, tree_bytes, script_bytes, table, list, sink);
+    }
+    alone_to(alloc, tree_bytes, script_bytes, table, list, sink)
+}
+
+/// Writes a list with what processes were before each program that they started.
+fn with_images_to<S: Sink>(
+    alloc: Global,
+    tree_bytes: &[u8],
+    script_bytes: &[u8],
+    table: TableChoice<'_>,
+    list: &ListWords,
+    sink: &mut S,
+) -> Result<(), ToolFault>
+    ensures { AnswersTo S.written S.failed
+        (with_images_text list.now.span list.now.columns list.now.whose (choice_of table.entry)
+        tree_bytes.now script_bytes.now) result sink.old sink.new }
+{
+    match (list.span, list.columns) {
+        (Time::Now, Columns::Plain) => {
+            images_to(alloc, tree_bytes, script_bytes, table, &list.whose, sink)
+        }
+        (Time::Now, Columns::Why) => Err(ToolFault::WhyImages),
+        (Time::Now, Columns::How) => Err(ToolFault::NowHow),
+        (Time::Ever, _) => Err(ToolFault::EverImages),
+    }
+}
+
+/// Writes a list of what processes are now, or for ever.
+fn alone_to<S: Sink>(
+    alloc: Global,
+    tree_bytes: &[u8],
+    script_bytes: &[u8],
+    table: TableChoice<'_>,
+    list: &ListWords,
+    sink: &mut S,
+) -> Result<(), ToolFault>
+    ensures text { (answer : Result (List ℕ) ToolFault)
+        × IsListBy list.now.span list.now.columns list.now.whose (choice_of table.entry)
+        tree_bytes.now script_bytes.now answer
         × AnswersTo S.written S.failed answer result sink.old sink.new }
 {
     let (tree, script, whose) = (tree_bytes, script_bytes, &list.whose);

@@ -136,6 +136,21 @@ pub(crate) fn put_lists<'t, T: FileTree, S: Sink>(
         (Ok (front.now ++ lists_text (T.content tree.now) lists.entry.items))
         result sink.old sink.new }
 {
+    put_behind(alloc, tree, front.as_bytes(), lists, sink)
+}
+
+/// Puts the bytes of a text's front, and then lists, as the tool reports it.
+pub(crate) fn put_behind<'t, T: FileTree, S: Sink>(
+    alloc: Global,
+    tree: &'t T,
+    front: &[u8],
+    lists: VecDeque<ProcessList<'t>>,
+    sink: &mut S,
+) -> Result<(), ToolFault>
+    ensures { AnswersTo S.written S.failed
+        (Ok (front.now ++ lists_text (T.content tree.now) lists.entry.items))
+        result sink.old sink.new }
+{
     told(write_lists(alloc, tree, front, lists, sink))
 }
 

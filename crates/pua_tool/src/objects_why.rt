@@ -67,7 +67,7 @@ fn write_all<S: Sink>(
     sink: &mut S,
 ) -> Result<(), ToolFault>
     ensures { script_by rules script_bytes.now ≡ Ok worlds.old.script → IsTwoWorlds worlds.old →
-        AnswersTo S.written S.failed (Ok (reason_lines rules (as_served worlds.old)
+        AnswersTo S.written S.failed (Ok (reason_lines (as_served worlds.old)
         ++ why_lists_of rules (as_served worlds.old) numbers.now)) result sink.old sink.new }
 {
     let (requests, answers) = (worlds.script.requests(), worlds.answers.as_slice());
@@ -75,7 +75,6 @@ fn write_all<S: Sink>(
     let veils = veils.as_slice();
     let (front, lines) = dated_text(
         alloc,
-        rules,
         &mut worlds.before,
         script_bytes,
         requests,

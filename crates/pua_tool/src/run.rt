@@ -35,7 +35,8 @@ pub fn run_to<S: Sink>(
 
 /// Writes the text of a run: for each line of the script its number and what it was answered, where
 /// all lines are served one after another over the tree of the listing. What a call needs is said
-/// by the table of calls that is chosen.
+/// by the table of calls that is chosen. By OpenBSD's rules ` by PROMISE` stands behind an `ok`
+/// where the process is refused the call but for this promise, which opens the path by itself.
 ///
 /// The first that holds of `Table`, `Listing` and `Script` is answered before anything is written.
 /// So is `OutOfMemory`, wherever a growth was refused. `Write` is answered only where a put failed

@@ -1,6 +1,7 @@
 //! The text of a run with reasons.
 
 ghost use Rattle.std.specs.Prelude.{◌≡◌, Ok, IfOk, string_bytes};
+ghost use Rattle.pua_calls.specs.declared.rules.Rules.{Rules};
 ghost use Rattle.pua_script.specs.Scripts.{script_by};
 ghost use Rattle.pua_tool.specs.Answers.{AnswersTo};
 ghost use Rattle.pua_tool.specs.Texts.{choice_of};
@@ -11,7 +12,6 @@ use crate::fault::ToolFault;
 use crate::objects::put_text;
 use crate::table::TableChoice;
 use crate::two_worlds::{TwoWorlds, two_worlds};
-use pua_calls::Rules;
 use pua_io::Sink;
 use pua_since::reason_text;
 use pua_tree::OutOfMemory;
@@ -21,9 +21,8 @@ use std::alloc::Global;
 /// whose answer is not `ok` after it a blank and the reason, and then ` since line M`, if it was
 /// not so from the start: before line M of the script the same request would have had another
 /// reason, after it and after each later line before this one it would have had this one. A process
-/// asked by its parent before the fork that made it. By OpenBSD's rules `, a kernel opens it by
-/// PROMISE` stands at the end of the line, where a promise that the process holds opens the path by
-/// itself, and nothing else refuses it.
+/// asked by its parent before the fork that made it. What a promise opened is told as
+/// [`run_to`](crate::run_to) tells it.
 ///
 /// The first that holds of `Table`, `Listing` and `Script` is answered before anything is written.
 /// So is `OutOfMemory`, wherever a growth was refused. `Write` is answered only where a put failed
@@ -40,7 +39,7 @@ pub fn run_why_to<S: Sink>(
         result sink.old sink.new }
 {
     let mut worlds = two_worlds(alloc, tree_bytes, script_bytes, table)?;
-    let text = text_of(alloc, table.rules, script_bytes, &mut worlds);
+    let text = text_of(alloc, script_bytes, &mut worlds);
     worlds.release();
     let Ok(text) = text else {
         return Err(ToolFault::OutOfMemory);
@@ -48,23 +47,16 @@ pub fn run_why_to<S: Sink>(
     put_text(text.as_str(), sink)
 }
 
-/// The lines of a script that was read from these bytes by these rules, with reasons.
+/// The lines of a script that was read from these bytes, with reasons.
 fn text_of(
     alloc: Global,
-    rules: Rules,
     script_bytes: &[u8],
     worlds: &mut TwoWorlds,
 ) -> Result<String, OutOfMemory>
-    ensures { IfOk result (λ text. script_by rules script_bytes.now ≡ Ok worlds.old.script →
-        IsTwoWorlds worlds.old → string_bytes text ≡ reason_lines rules (as_served worlds.old)) }
+    ensures { IfOk result (λ text. (rules : Rules) →
+        script_by rules script_bytes.now ≡ Ok worlds.old.script → IsTwoWorlds worlds.old →
+        string_bytes text ≡ reason_lines (as_served worlds.old)) }
 {
     let (requests, answers) = (worlds.script.requests(), worlds.answers.as_slice());
-    reason_text(
-        alloc,
-        rules,
-        &mut worlds.before,
-        script_bytes,
-        requests,
-        answers,
-    )
+    reason_text(alloc, &mut worlds.before, script_bytes, requests, answers)
 }

@@ -11,18 +11,20 @@ ghost use Rattle.pua_tool.specs.Begun.{as_replayed, replay_by};
 use crate::fault::ToolFault;
 use crate::table::TableChoice;
 use pua_calls::{CallTable, Rules, TableFault};
-use pua_script::{Answer, Script, ScriptFault, World, read_script_by};
+use pua_script::{Script, ScriptFault, World, read_script_by};
 use pua_tree::{ListingFault, SlabTree, read_listing_slab};
+use pua_why::{ToldAnswer, run_told};
 use std::alloc::Global;
 
 /// How the program keeps the tree of a listing.
 pub(crate) type ProgramTree = SlabTree;
 
-/// The world that a script left, and what its lines were answered.
+/// The world that a script left, and what its lines were answered, each with what opened it, None
+/// where nobody asks.
 #[derive(Drop)]
 pub(crate) struct Replay {
     pub(crate) world: World<ProgramTree>,
-    pub(crate) answers: Vec<Answer>,
+    pub(crate) answers: Vec<Option<ToldAnswer>>,
 }
 
 impl Replay {
@@ -92,7 +94,7 @@ fn replay_requests(
     let Ok(mut world) = World::new(alloc, tree, table) else {
         return Err(ToolFault::OutOfMemory);
     };
-    let Ok(answers) = world.run(alloc, requests) else {
+    let Ok(answers) = run_told(alloc, &mut world, requests) else {
         release(world);
         return Err(ToolFault::OutOfMemory);
     };

@@ -5,13 +5,16 @@ ghost use Rattle.std.specs.Prelude.{decimal, string_bytes, suc};
 ghost use Rattle.pua_texts.specs.Lines.{with_end};
 ghost use Rattle.pua_tool.specs.Answers.{AnswersTo};
 ghost use Rattle.pua_tool.specs.Texts.{choice_of};
-ghost use Rattle.pua_tool.specs.TightTexts.{need_text, tight_why_text, use_lines, use_text, word_text, words_by};
+ghost use Rattle.pua_tool.specs.TightTexts.{calls_for, need_text, tight_why_text, use_lines};
+ghost use Rattle.pua_tool.specs.TightTexts.{use_text, word_text, words_by};
 
 use crate::fault::ToolFault;
 use crate::objects::put_text;
+use crate::pathless::push_pathless;
 use crate::script::read_table;
 use crate::table::TableChoice;
 use crate::tight::of_tight;
+use pua_calls::Rules;
 use pua_io::Sink;
 use pua_tight::{Piece, WordUse, word_uses};
 use pua_why::{letters, push_promises};
@@ -23,7 +26,8 @@ use std::fmt::Write;
 /// in the order in which that one tries them: `N promises WORD needed by M`, where M is the first
 /// line that is answered otherwise without it, all else being tightened, or `N promises WORD
 /// spare`, where it is left out. It is `execpromises` for the second argument of a pledge, and
-/// `veil` for a letter.
+/// `veil` for a letter. By OpenBSD's rules the calls without a path that ask for a promise stand
+/// after `spare`, where there are some: a line `uses` alone says that such a call is made.
 ///
 /// The first that holds of `Table`, `Listing` and `Script` is answered before anything is written.
 /// So is `OutOfMemory`, wherever a growth was refused. `Write` is answered only where a put failed
@@ -57,8 +61,9 @@ fn text_of(
         (tight_why_text (choice_of table.entry) tree_bytes.now script_bytes.now ≡ Err fault)) }
     ensures unwritten { IfErr result (λ fault. fault ≢ ToolFault.Write) }
 {
+    let rules = table.rules;
     let words = words_by(alloc, tree_bytes, script_bytes, table)?;
-    match lines_of(alloc, words.as_slice()) {
+    match lines_of(alloc, rules, words.as_slice()) {
         Ok(text) => Ok(text),
         Err(AllocError) => Err(ToolFault::OutOfMemory),
     }
@@ -86,27 +91,32 @@ fn words_by(
     }
 }
 
-/// A line for each word.
-fn lines_of(alloc: Global, words: &[WordUse]) -> Result<String, AllocError>
-    ensures { IfOk result (λ text. string_bytes text ≡ use_lines words.now) }
+/// A line for each word, by these rules.
+fn lines_of(alloc: Global, rules: Rules, words: &[WordUse]) -> Result<String, AllocError>
+    ensures { IfOk result (λ text. string_bytes text ≡ use_lines rules words.now) }
 {
     let mut text = String::new(alloc);
     for word in words {
-        push_use(alloc, &mut text, word)?;
+        push_use(alloc, &mut text, rules, word)?;
     }
     Ok(text)
 }
 
 /// Adds the line of a word, and its end.
-fn push_use(alloc: Global, text: &mut String, used: &WordUse) -> Result<(), AllocError>
+fn push_use(
+    alloc: Global,
+    text: &mut String,
+    rules: Rules,
+    used: &WordUse,
+) -> Result<(), AllocError>
     ensures { OnOk result (string_bytes text.new
-        ≡ string_bytes text.old ++ with_end (use_text used.now)) }
+        ≡ string_bytes text.old ++ with_end (use_text rules used.now)) }
 {
     push_number(text, used.line)?;
     text.push_str(" ")?;
     push_word(alloc, text, &used.word)?;
     text.push_str(" ")?;
-    push_need(text, used.needed_by)?;
+    push_need(alloc, text, rules, &used.word, used.needed_by)?;
     text.push_str("\n")
 }
 
@@ -140,12 +150,48 @@ fn push_word(alloc: Global, text: &mut String, piece: &Piece) -> Result<(), Allo
 }
 
 /// Adds by which line a word is needed.
-fn push_need(text: &mut String, needed_by: Option<usize>) -> Result<(), AllocError>
-    ensures { OnOk result (string_bytes text.new ≡ string_bytes text.old ++ need_text needed_by) }
+fn push_need(
+    alloc: Global,
+    text: &mut String,
+    rules: Rules,
+    word: &Piece,
+    needed_by: Option<usize>,
+) -> Result<(), AllocError>
+    ensures { OnOk result (string_bytes text.new
+        ≡ string_bytes text.old ++ need_text rules word.now needed_by) }
 {
     let Some(index) = needed_by else {
-        return text.push_str("spare");
+        text.push_str("spare")?;
+        return push_calls_for(alloc, text, rules, word);
     };
     text.push_str("needed by ")?;
     push_number(text, index)
+}
+
+/// Adds the calls without a path that ask for a promise, by OpenBSD's rules.
+fn push_calls_for(
+    alloc: Global,
+    text: &mut String,
+    rules: Rules,
+    word: &Piece,
+) -> Result<(), AllocError>
+    ensures { OnOk result (string_bytes text.new
+        ≡ string_bytes text.old ++ calls_for rules word.now) }
+{
+    match rules {
+        Rules::Standard => Ok(()),
+        Rules::Openbsd => push_calls_by(alloc, text, word),
+    }
+}
+
+/// Adds those of the promise of a word; a letter of a veil has none.
+fn push_calls_by(alloc: Global, text: &mut String, word: &Piece) -> Result<(), AllocError>
+    ensures { OnOk result (string_bytes text.new
+        ≡ string_bytes text.old ++ calls_for Rules.Openbsd word.now) }
+{
+    match word {
+        Piece::InPromises(promise) => push_pathless(alloc, text, *promise),
+        Piece::InExecpromises(promise) => push_pathless(alloc, text, *promise),
+        Piece::InVeil(_) => Ok(()),
+    }
 }

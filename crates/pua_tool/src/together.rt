@@ -1,6 +1,7 @@
 //! The text of what several processes can ever touch together.
 
 ghost use Rattle.std.specs.Prelude.{◌≡◌, ◌≢◌, ◌∷◌, ◌++◌, None, Some, Ok, IfOk, IfErr};
+ghost use Rattle.pua_calls.specs.TmpTable.{tmp_table};
 ghost use Rattle.pua_texts.specs.Members.{named_by};
 ghost use Rattle.pua_texts.specs.TogetherLines.{living, one_for, together_list};
 ghost use Rattle.pua_tool.specs.Answers.{AnswersTo};
@@ -100,8 +101,8 @@ fn list_to<S: Sink>(
 }
 
 /// Writes the front of a text, and then the list of these processes, of which the first that lives
-/// and the others that do are given. Every fault but `Write` is answered before anything is
-/// written.
+/// and the others that do are given. The list goes by the table with tmppath. Every fault but
+/// `Write` is answered before anything is written.
 fn joint_to<S: Sink>(
     alloc: Global,
     world: &World<ProgramTree>,
@@ -115,13 +116,15 @@ fn joint_to<S: Sink>(
     ensures { named_by (first.now ∷ more.now) ≡ living (named_by members.now) →
         first_refused world.now.table (named_by members.now) ≡ None →
         AnswersTo S.written S.failed (Ok (front.now
-        ++ together_list rules world.now.table world.now.tree (named_by members.now)))
+        ++ together_list rules (tmp_table world.now.table) world.now.tree
+        (named_by members.now)))
         result sink.old sink.new }
 {
-    let (tree, table) = (world.tree(), world.table());
-    let one = join_all(alloc, first, more, table)?;
-    let both = bounded_exec(alloc, &one, table)?;
-    let list = match list_lasting(alloc, tree, &one, both.as_ref(), table) {
+    let tree = world.tree();
+    let wide = world.table().with_tmppath();
+    let one = join_all(alloc, first, more, &wide)?;
+    let both = bounded_exec(alloc, &one, &wide)?;
+    let list = match list_lasting(alloc, tree, &one, both.as_ref(), &wide) {
         Ok(list) => list,
         Err(fault) => return Err(fault_of(first.number, fault)),
     };

@@ -23,10 +23,10 @@ use std::alloc::{AllocError, Global};
 use std::fmt::Write;
 
 /// Writes what decides a request of this process, given by the fields of a script's line after the
-/// number, where the script has been served: a line for the promises that let it through, for each
-/// link that its paths follow, for what they name and for the veil that covers that, in the order
-/// of the checks and as far as it passes them; and as the last line its answer, with the reason,
-/// since which line that is so, and what opens the path all the same, as
+/// number, where the script has been served: a line for the promises that let it through, or for the
+/// promise that opens it, for each link that its paths follow, for what they name and for the veil
+/// that covers that, in the order of the checks and as far as it passes them; and as the last line
+/// its answer, with the reason and since which line that is so, or with what opened it, as
 /// [`run_why_to`](crate::run_why_to) would write it of the script's next line.
 ///
 /// The first that holds of `Table`, `Listing`, `Script` and `Request` is answered before anything
@@ -64,14 +64,14 @@ fn asked_text(
     ensures done { IfOk result (λ text. IsTwoWorlds worlds.old → (ask : Asked)
         × (as_request (request_by rules 1 (request_line process
         (map (λ field. field.now) fields.now))) ≡ Ok ask) × (string_bytes text
-        ≡ chain_lines rules (as_served worlds.old) ask)) }
+        ≡ chain_lines (as_served worlds.old) ask)) }
     ensures refused { IfErr result (λ fault. fault ≢ ToolFault.OutOfMemory →
         as_request (request_by rules 1 (request_line process
         (map (λ field. field.now) fields.now))) ≡ Err fault) }
     ensures unwritten { IfErr result (λ fault. fault ≢ ToolFault.Write) }
 {
     let request = read_asked(alloc, rules, process, fields)?;
-    match text_of(alloc, rules, worlds, &request) {
+    match text_of(alloc, worlds, &request) {
         Ok(text) => Ok(text),
         Err(OutOfMemory) => Err(ToolFault::OutOfMemory),
     }
@@ -126,16 +126,11 @@ fn push_field(line: &mut Vec<u8>, field: &[u8]) -> Result<(), AllocError>
 }
 
 /// The lines of what a request passes after a script, and of its answer.
-fn text_of(
-    alloc: Global,
-    rules: Rules,
-    worlds: &mut TwoWorlds,
-    request: &Request,
-) -> Result<String, OutOfMemory>
+fn text_of(alloc: Global, worlds: &mut TwoWorlds, request: &Request) -> Result<String, OutOfMemory>
     ensures { IfOk result (λ text. IsTwoWorlds worlds.old →
-        string_bytes text ≡ chain_lines rules (as_served worlds.old) request.now) }
+        string_bytes text ≡ chain_lines (as_served worlds.old) request.now) }
 {
     let (requests, answers) = (worlds.script.requests(), worlds.answers.as_slice());
     let (before, after) = (&mut worlds.before, &mut worlds.after);
-    chain_text(alloc, rules, before, after, requests, answers, request)
+    chain_text(alloc, before, after, requests, answers, request)
 }

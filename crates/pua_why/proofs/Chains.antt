@@ -1,5 +1,7 @@
 -- What a chain tells.
 use Rattle.pua_calls.specs.declared.rules.Rules.{Rules}
+use Rattle.pua_script.specs.Decide.{asker_past, call_by, cover_past, decide_by}
+use Rattle.pua_script.specs.Openings.{Opening, opening_of}
 use Rattle.pua_why.specs.Reasons.{outcome_in}
 use Rattle.pua_why.proofs.Common.{◌≡◌, ℕ, suc, ◌+◌, Bool, true, false, List, [], ◌∷◌, ◌++◌, map, length, Some, None, refl, sym, ap, ◌∙◌}
 use Rattle.pua_why.proofs.Common.{append_assoc, append-nil, arith, Result, Ok, Err, Option, if◌then◌else◌, decimal, option_map}
@@ -16,22 +18,27 @@ use Rattle.pua_policy.specs.declared.place.Place.TheVariants.{Dir}
 use Rattle.pua_policy.specs.declared.answer.Cover.TheVariants.{All}
 use Rattle.pua_policy.specs.Reasons.{kept_or, first_kept, cover_of}
 use Rattle.pua_why.specs.Facts.{Names, Under, needing, facts_found, facts_covered}
-use Rattle.pua_why.specs.Facts.{call_facts, pair_facts}
-use Rattle.pua_why.specs.Texts.{answer_why, why_lines}
+use Rattle.pua_why.specs.Facts.{Opened, promise_of_row, call_facts, facts_asked, facts_by, opened_facts, pair_facts}
+use Rattle.pua_why.specs.Texts.{answer_why, line_said, why_lines}
 use Rattle.pua_why.specs.Columns.{CoveringsIn}
-use Rattle.pua_why.specs.Laws.{ChainsEnd, FactsOf, GrantsAreTold, PairFactsOf, PairsAreTold}
+use Rattle.pua_why.specs.Laws.{ChainsEnd, FactsBy, GrantsAreTold, PairFactsOf, PairsAreTold}
+use Rattle.pua_why.proofs.Common.{OnPath}
 
 pub chains_end : ChainsEnd
-chains_end rules table w done [] ask n =
-    λ i. (decimal (plus_none n i) ++ 32 ∷ answer_why rules table w (sym (append-nil done) i) ask) ∷ []
+chains_end table w done [] ask n =
+    append-nil (line_said ask (decimal n ++ 32 ∷ answer_why table w done ask))
+    ∙ (λ i. line_said ask (decimal (plus_none n i) ++ 32 ∷ answer_why table w (sym (append-nil done) i) ask))
   where
     plus_none : (m : ℕ) → m ≡ m + 0
     plus_none m = omega arith
-chains_end rules table w done (first ∷ asks) ask n =
-    ap (λ more. (decimal n ++ 32 ∷ answer_why rules table w done first) ∷ more)
-    (chains_end rules table w (done ++ first ∷ []) asks ask (suc n)
-    ∙ (λ i. why_lines rules table w (done ++ first ∷ []) (suc n) asks
-    ++ (decimal (plus_one n (length asks) i) ++ 32 ∷ answer_why rules table w (append_assoc done (first ∷ []) asks i) ask) ∷ []))
+chains_end table w done (first ∷ asks) ask n =
+    ap (λ more. line_said first (decimal n ++ 32 ∷ answer_why table w done first) ++ more)
+    (chains_end table w (done ++ first ∷ []) asks ask (suc n)
+    ∙ (λ i. why_lines table w (done ++ first ∷ []) (suc n) asks
+    ++ line_said ask (decimal (plus_one n (length asks) i) ++ 32 ∷ answer_why table w (append_assoc done (first ∷ []) asks i) ask)))
+    ∙ sym (append_assoc (line_said first (decimal n ++ 32 ∷ answer_why table w done first))
+    (why_lines table w (done ++ first ∷ []) (suc n) asks)
+    (line_said ask (decimal (n + suc (length asks)) ++ 32 ∷ answer_why table w (done ++ first ∷ asks) ask)))
   where
     plus_one : (m k : ℕ) → suc m + k ≡ m + suc k
     plus_one m k = omega arith
@@ -91,8 +98,18 @@ module _ (t : Tree) (table : CallTable) (h : ProcessState) (call : Call) (text :
       ∷ facts_covered Sole (covering t h object) (u i) []))
       ∙ needing_first Sole set (call_trace t h call text).links object (Under Sole (covering t h object) ∷ [])
 
-pub grants_are_told : GrantsAreTold
-grants_are_told t table h call text change e =
+-- what is told of a call without openings
+record Plainly (t : Tree) (table : CallTable) (h : ProcessState) (call : Call) (text : List ℕ) : Type 0 where
+  pub promises : ℕ
+  pub object : Found
+  pub told : call_facts table t h call text ≡ Needs promises ∷ map (Follows Sole) (call_trace t h call text).links ++ Names Sole object
+      ∷ Under Sole (covering t h object) ∷ []
+  pub held : promising h (rule_of table call).alternatives ≡ Holds promises
+  pub named : (call_trace t h call text).outcome ≡ Ok object
+
+plainly_told : (t : Tree) (table : CallTable) (h : ProcessState) (call : Call) (text : List ℕ) (change : Change) →
+    call_by faults table t (faults_of h) call text ≡ Ok change → Plainly t table h call text
+plainly_told t table h call text change e =
     by (promising h (rule_of table call).alternatives) refl (call_trace t h call text).outcome refl e
   where
     wrong : Found → Option Fault
@@ -104,19 +121,75 @@ grants_are_told t table h call text change e =
         (told_path Sole (outcome_in table.whose t (working_dir h) text o)) λ object.
         unless_failed (λ fault. fault) (or_fault (uncovered_fault Sole object (rule_of table call).perms (covering t h object))
         (wrong object)) (Ok (change_by table call object))) ≡ Ok change →
-        FactsOf t table h call text
+        Plainly t table h call text
     by (Holds set) p (Ok object) o e = record {
       promises = set;
       object = object;
-      over = covering t h object;
       told = facts_as t table h call text set object p o (first_none _ _ (none_failed _ _ change e));
       held = p;
       named = o;
-      covered = refl;
     }
     by (Holds set) p (Err fault) o e = cc
     by HasEnded p o is e = cc
     by (Lacks error sets) p o is e = cc
+
+-- what is told of a call that a promise opens
+record Openly (t : Tree) (table : CallTable) (h : ProcessState) (call : Call) (text : List ℕ) (o : Opening) : Type 0 where
+  pub object : Found
+  pub told : opened_facts table t h call text o ≡ Opened (promise_of_row o) ∷ map (Follows Sole) (call_trace t h call text).links ++ Names Sole object
+      ∷ facts_asked o.asks_veils (Under Sole (covering t h object) ∷ [])
+  pub named : (call_trace t h call text).outcome ≡ Ok object
+
+openly_told : (t : Tree) (table : CallTable) (h : ProcessState) (call : Call) (text : List ℕ) (o : Opening) (change : Change) →
+    decide_by faults table t (asker_past (Some o) (faults_of h)) (OnPath call text) ≡ Ok change → Openly t table h call text o
+openly_told t table h call text o change e = by (call_trace t h call text).outcome refl e
+  where
+    wrong : Found → Option Fault
+    wrong object = option_map (Unfit Sole object) (misfit table.whose t call (object_of t object))
+
+    asked : Found → Option Fault
+    asked object = cover_past o.asks_veils (faults_of h).cover Sole t object (rule_of table call).perms
+
+    under : (asks_veils : Bool) (object : Found) →
+        cover_past asks_veils (faults_of h).cover Sole t object (rule_of table call).perms ≡ None →
+        facts_asked asks_veils (facts_under Sole t h object (rule_of table call).perms [])
+        ≡ facts_asked asks_veils (Under Sole (covering t h object) ∷ [])
+    under true object none = λ i. facts_covered Sole (covering t h object) (none i) []
+    under false object none = refl
+
+    by : (r : Result Found PathFault) → (call_trace t h call text).outcome ≡ r →
+        on_named (λ fault. fault) (told_path Sole (outcome_in table.whose t (working_dir h) text r)) (λ object.
+        unless_failed (λ fault. fault) (or_fault (asked object) (wrong object)) (Ok (change_by table call object))) ≡ Ok change →
+        Openly t table h call text o
+    by (Ok object) is e = record {
+      object = object;
+      told = (λ i. Opened (promise_of_row o) ∷ map (Follows Sole) (call_trace t h call text).links
+          ++ facts_found Sole (is i) (λ found. facts_asked o.asks_veils (facts_under Sole t h found (rule_of table call).perms [])))
+          ∙ ap (λ more. Opened (promise_of_row o) ∷ map (Follows Sole) (call_trace t h call text).links ++ Names Sole object ∷ more)
+          (under o.asks_veils object (first_none (asked object) (wrong object) (none_failed _ _ change e)));
+      named = is;
+    }
+    by (Err fault) is e = cc
+
+pub grants_are_told : GrantsAreTold
+grants_are_told t table h call text change e = by (opening_of table h call text) refl e
+  where
+    by : (o : Option Opening) → opening_of table h call text ≡ o →
+        decide_by faults table t (asker_past o (faults_of h)) (OnPath call text) ≡ Ok change → FactsBy t table h call text o
+    by None is e = let plainly = plainly_told t table h call text change e in record {
+      promises = plainly.promises;
+      object = plainly.object;
+      over = covering t h plainly.object;
+      told = ap (facts_by table t h call text) is ∙ plainly.told;
+      held = plainly.held;
+      named = plainly.named;
+      covered = refl;
+    }
+    by (Some o) is e = let openly = openly_told t table h call text o change e in record {
+      object = openly.object;
+      told = ap (facts_by table t h call text) is ∙ openly.told;
+      named = openly.named;
+    }
 
 second_none : (a b : Option Fault) → or_fault a b ≡ None → b ≡ None
 second_none None b e = e

@@ -27,7 +27,7 @@ pub use Rattle.pua_script.specs.Decide.{unless_failed, unless_refused}
 pub use Rattle.pua_script.specs.Limits.{most_processes}
 pub use Rattle.pua_script.specs.Replay.{change_effect, come_of, edit_effect, edited_tree, kept_at, World}
 pub use Rattle.pua_script.specs.declared.answer.Answer.{Answer}
-pub use Rattle.pua_script.specs.declared.request.Action.TheVariants.{Exit, Fork, Link, Lock, OnPath, Pledge, Rename, Symlink, Unveil, Uses}
+pub use Rattle.pua_script.specs.declared.request.Action.TheVariants.{Exit, Fork, Link, Lock, OnPath, Pledge, Rename, Symlink, Unveil, Uses, Comment}
 pub use Rattle.pua_tree.specs.Edits.{add, cut, shift, tie}
 pub use Rattle.pua_tree.specs.LentRows.{lent_entry}
 pub use Rattle.pua_tree.specs.Tree.{climb, Spot, Tree}

@@ -7,7 +7,7 @@ use Rattle.pua_why.proofs.Common.{working_dir, object_of, or_fault, Place, Call,
 use Rattle.pua_why.proofs.Common.{ShiftRow, TieRow, BeginProgram, AddEvent, CopyAs, Outcome, Side, Sole, Old, New, unless_refused}
 use Rattle.pua_why.proofs.Common.{unless_failed, on_named, adding, link_node, change_by, shifting, fault_if, pair_by, World, kept_at}
 use Rattle.pua_why.proofs.Common.{change_effect, come_of, edit_effect, edited_tree, OnPath, Symlink, Rename, Link, Pledge, Unveil, Lock}
-use Rattle.pua_why.proofs.Common.{Fork, Exit, Uses, Answer, lacking, misfit, InView, By, Promising, Holds, HasEnded, Lacks, promising, covering}
+use Rattle.pua_why.proofs.Common.{Fork, Exit, Uses, Comment, Answer, lacking, misfit, InView, By, Promising, Holds, HasEnded, Lacks, promising, covering}
 use Rattle.pua_why.proofs.Common.{Fault, LacksLetters, Unfit, IsLocked, NumberTaken, NoProcessLeft, unpromised_fault, told_path}
 use Rattle.pua_why.proofs.Common.{uncovered_fault, place_beyond, faults, faults_of, change_or_fault, no_room, room_fault, outcome_fault}
 use Rattle.pua_why.proofs.Common.{decision_of}
@@ -37,7 +37,8 @@ use Rattle.pua_policy.specs.declared.answer.Refusal.{Refusal}
 use Rattle.pua_policy.specs.declared.answer.Refusal.TheVariants as refusal
 use Rattle.pua_policy.specs.declared.answer.Verdict.{Verdict}
 use Rattle.pua_policy.specs.declared.answer.Verdict.TheVariants as verdict
-use Rattle.pua_script.specs.Decide.{Decision}
+use Rattle.pua_script.specs.Decide.{Decision, asker_past, call_by, cover_past, decide_by, past_promises}
+use Rattle.pua_script.specs.Openings.{Opening, opening_of}
 use Rattle.pua_script.specs.Decide.{before_long, errno_behind, errno_by, front_errno, named_in, path_named}
 use Rattle.pua_calls.specs.declared.rules.Rules.TheVariants.{Standard, Openbsd}
 use Rattle.pua_path.specs.declared.found.Last.{Last}
@@ -210,6 +211,23 @@ module _ (t : Tree) (h : ProcessState) where
       failed_told _ (found_fault t table h c x) (Ok (f x)) (Ok (f x)) (or_told _ _ _ _ (cover_told Sole x (rule_of table c).perms)
       (object_told table c x)) refl
 
+  -- a call that a promise opens
+  cover_past_told : (asks_veils : Bool) (x : Found) (perms : ℕ) →
+      Told (cover_past asks_veils (faults_of h).cover Sole t x perms) ≡ Failing (cover_past asks_veils (asker_of h).cover Sole t x perms)
+  cover_past_told true x perms = cover_told Sole x perms
+  cover_past_told false x perms = refl
+
+  past_told : (table : CallTable) (c : Call) (path : List ℕ) (f : Found → Change) (asks_veils : Bool) →
+      decision_of (object_by faults table t (past_promises asks_veils (faults_of h)) c path (λ x. Ok (f x)))
+      ≡ object_by refusals table t (past_promises asks_veils (asker_of h)) c path (λ x. Ok (f x))
+  past_told table c path f asks_veils =
+      named_told Sole (outcome_in table.whose t (working_dir h) path (trace_of_text t (working_dir h) (ending_of c) path (last_of c)).outcome)
+      (path_named table.whose t (working_dir h) (ending_of c) path (last_of c)) _ _
+      (path_told table.whose (ending_of c) path (last_of c)) λ x.
+      failed_told _ (or_fault (cover_past asks_veils (asker_of h).cover Sole t x (rule_of table c).perms)
+      (object_fault table.whose t c (object_of t x)))
+      (Ok (f x)) (Ok (f x)) (or_told _ _ _ _ (cover_past_told asks_veils x (rule_of table c).perms) (object_told table c x)) refl
+
   -- two paths
   pair_told : (whose : Rules) (rules : PairRule) (end : Ending) (old new : List ℕ) (f : Found → Found → Outcome Fault) (g : Found → Found → Decision) →
       ((a b : Found) → decision_of (f a b) ≡ g a b) →
@@ -335,9 +353,19 @@ veil_told whose t h path (Some perms) =
     (path_named whose t (working_dir h) ending.Dot path Followed) _ _ (path_told t h whose ending.Dot path Followed) λ x.
     failed_told _ _ _ _ (unveil_told h (place_of x) perms) refl
 
-pub reasons_give_decisions : ReasonsGiveDecisions
-reasons_give_decisions table t h (OnPath c path) =
+-- a call without openings
+calls_give : (table : CallTable) (t : Tree) (h : ProcessState) (c : Call) (path : List ℕ) →
+    decision_of (call_by faults table t (faults_of h) c path) ≡ call_by refusals table t (asker_of h) c path
+calls_give table t h c path =
     refused_told _ _ _ _ (promises_told h (rule_of table c).alternatives) (call_told t h table c path (change_by table c))
+
+pub reasons_give_decisions : ReasonsGiveDecisions
+reasons_give_decisions table t h (OnPath c path) = by (opening_of table h c path)
+  where
+    by : (o : Option Opening) → decision_of (decide_by faults table t (asker_past o (faults_of h)) (OnPath c path))
+        ≡ decide_by refusals table t (asker_past o (asker_of h)) (OnPath c path)
+    by None = calls_give table t h c path
+    by (Some o) = past_told t h table c path (change_by table c) o.asks_veils
 reasons_give_decisions table t h (Symlink target path) =
     refused_told _ _ _ _ (promises_told h (rule_of table call.Symlink).alternatives)
     (failed_told _ _ _ _ (target_told target) (call_told t h table call.Symlink path (adding (link_node target))))
@@ -354,6 +382,7 @@ reasons_give_decisions table t h Lock = refused_told _ _ _ _ (promises_told h (u
 reasons_give_decisions table t h (Fork new) = refused_told _ _ _ _ (promises_told h (proc ∷ [])) refl
 reasons_give_decisions table t h Exit = refl
 reasons_give_decisions table t h (Uses sets) = refused_told _ _ _ _ (promises_told h sets) refl
+reasons_give_decisions table t h Comment = refl
 
 -- a decision on a call, as a verdict
 abbrev verdict_as : Decision → Verdict
@@ -390,7 +419,7 @@ verdict_is t table h c (Err errno) = refl
 
 pub reasons_give_verdicts : ReasonsGiveVerdicts
 reasons_give_verdicts t table h c text =
-    verdict_told (change_or_fault table t h (OnPath c text)) ∙ ap verdict_as (reasons_give_decisions table t h (OnPath c text))
+    verdict_told (call_by faults table t (faults_of h) c text) ∙ ap verdict_as (calls_give table t h c text)
     ∙ decided_as t table h c (may_any h (rule_of table c).alternatives) (named_in table.whose t (working_dir h) text (object_named t h c text))
     ∙ verdict_is t table h c (named_in table.whose t (working_dir h) text (object_named t h c text))
 

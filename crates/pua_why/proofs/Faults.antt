@@ -3,7 +3,9 @@ use Rattle.pua_why.proofs.Common.{◌≡◌, ℕ, List, Some, None, refl, Ok, Er
 use Rattle.pua_why.proofs.Common.{ProcessState, object_of, Call, Change, Sole, change_by, misfit, covering, Fault, Unfit, faults, faults_of}
 use Rattle.pua_why.proofs.Common.{call_trace}
 use Rattle.std.specs.Prelude.{IfSome}
-use Rattle.pua_script.specs.Decide.{object_by}
+use Rattle.pua_script.specs.Decide.{object_by, asker_past, decide_by, past_promises}
+use Rattle.pua_script.specs.Openings.{Opening, opening_of}
+use Rattle.pua_why.proofs.Common.{Bool, true, false, OnPath}
 use Rattle.pua_calls.specs.declared.fits.Misfit.{Misfit}
 use Rattle.pua_policy.specs.ReasonLaws.{MisfitHolds}
 use Rattle.pua_path.specs.declared.traced.PathFault.{PathFault}
@@ -46,9 +48,25 @@ module _ (t : Tree) (table : CallTable) (h : ProcessState) (c : Call) (text : Li
       (wrong_true object (misfit table.whose t c (object_of t object)) bad refl o) e)
       (λ granted. cc) e) e
 
+  -- of a call that a promise opens
+  past_true : (asks_veils : Bool) (f : Found → Change) (fault : Fault) →
+      object_by faults table t (past_promises asks_veils (faults_of h)) c text (λ x. Ok (f x)) ≡ Err fault → Is fault
+  past_true true f fault e = object_true f fault e
+  past_true false f fault e =
+      named_true Sole (outcome_in table.whose t (working_dir h) text (call_trace t h c text).outcome) _ fault Is (λ bad o. o)
+      (λ object told e. failed_true _ _ fault Is
+      (λ bad e. wrong_true object (misfit table.whose t c (object_of t object)) bad refl
+      (outcome_ok table.whose t (working_dir h) text (call_trace t h c text).outcome object told) e)
+      (λ granted. cc) e) e
+
 pub call_faults_hold : CallFaultsHold
-call_faults_hold t table h c text fault e =
-    refused_true _ _ fault (CallFaultHolds t table h c text)
-    (λ bad e. unpromised_true h (rule_of table c).alternatives bad (CallFaultHolds t table h c text) (λ ended. ended) (λ error lacks is. is)
-    e)
-    (λ e. object_true t table h c text (change_by table c) fault e) e
+call_faults_hold t table h c text fault e = by (opening_of table h c text) e
+  where
+    by : (o : Option Opening) → decide_by faults table t (asker_past o (faults_of h)) (OnPath c text) ≡ Err fault →
+        CallFaultHolds t table h c text fault
+    by None e =
+        refused_true _ _ fault (CallFaultHolds t table h c text)
+        (λ bad e. unpromised_true h (rule_of table c).alternatives bad (CallFaultHolds t table h c text) (λ ended. ended)
+        (λ error lacks is. is) e)
+        (λ e. object_true t table h c text (change_by table c) fault e) e
+    by (Some o) e = past_true t table h c text o.asks_veils (change_by table c) fault e

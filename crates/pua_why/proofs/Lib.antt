@@ -14,5 +14,6 @@ pub mod Needing
 pub mod Passing
 pub mod Plain
 pub mod Openers
+pub mod ToldAnswers
 pub mod Joining
 pub mod ForCallers

@@ -2,7 +2,7 @@
 use Rattle.pua_why.proofs.Common.{◌≡◌, ℕ, Bool, true, false, List, [], ◌∷◌, ◌++◌, map, Some, None, sym, ap, ◌∙◌, append_assoc, append-nil}
 use Rattle.pua_why.proofs.Common.{Ok, Option, if◌then◌else◌, Spot, Found, PathTrace, Promising, Holds, Side, Sole, Fact, Needs, Follows}
 use Rattle.pua_why.proofs.Common.{facts_promised, facts_named}
-use Rattle.pua_why.specs.Facts.{Names}
+use Rattle.pua_why.specs.Facts.{Names, Opened}
 use Rattle.pua_why.specs.Seen.{on_named_fact}
 use Rattle.pua_why.proofs.Adding.{then_more}
 use Rattle.pua_why.proofs.Needing.{promised_named}
@@ -18,8 +18,15 @@ name_told old one final side links object trace more traced begun went =
     ∙ ap (λ facts. old ++ facts) (append_assoc (map (Follows side) links) (Names side object ∷ []) (more object))
     ∙ ap (λ t. old ++ facts_named side t more) traced
 
+-- the promise that opens a call, and then what its path named
+pub opened_named : (old one final : List Fact) (promise : ℕ) (side : Side) (trace : PathTrace) (more : Found → List Fact) →
+    one ≡ old ++ Opened promise ∷ [] → final ≡ one ++ facts_named side trace more →
+    final ≡ old ++ Opened promise ∷ facts_named side trace more
+opened_named old one final promise side trace more first rest =
+    rest ∙ ap (λ facts. facts ++ facts_named side trace more) first ∙ append_assoc old (Opened promise ∷ []) (facts_named side trace more)
+
 -- nothing comes after what a path named
-nothing_named : (facts : List Fact) (named : Option Found) → facts ++ on_named_fact named (λ object. []) ≡ facts
+pub nothing_named : (facts : List Fact) (named : Option Found) → facts ++ on_named_fact named (λ object. []) ≡ facts
 nothing_named facts None = append-nil facts
 nothing_named facts (Some object) = append-nil facts
 

@@ -1,7 +1,7 @@
 -- A request that is no fork is granted no further process.
 use Rattle.pua_why.proofs.Common.{◌≡◌, ℕ, Some, None, refl, sym, ap, ◌∙◌, Ok, Err, Option, Tree, Spot, spot_named, node_named, Found, Whole}
 use Rattle.pua_why.proofs.Common.{Slot, CallTable, ProcessState, Call, Change, NoChange, Outcome, shifting, link_node, change_by, World, OnPath}
-use Rattle.pua_why.proofs.Common.{Symlink, Rename, Link, Pledge, Unveil, Lock, Fork, Exit, Uses, Fault, change_or_fault, decision_of}
+use Rattle.pua_why.proofs.Common.{Symlink, Rename, Link, Pledge, Unveil, Lock, Fork, Exit, Uses, Comment, Fault, change_or_fault, decision_of}
 use Rattle.pua_why.proofs.Common.{refused_by}
 use Rattle.std.proofs.Common.{inl, inr, ◌⊎◌, true≢false}
 use Rattle.std.specs.Prelude.{IsFalse}
@@ -65,6 +65,7 @@ module _ (w : World) where
   plain_decided table t h (Fork new) change other d = absurd (true≢false other)
   plain_decided table t h Exit change other d = is_plain change _ d refl
   plain_decided table t h (Uses sets) change other d = is_plain change _ d.1 refl
+  plain_decided table t h Comment change other d = is_plain change _ d refl
 
   pub plain_checks : (table : CallTable) (t : Tree) (h : ProcessState) (action : Action) → IsFalse (is_fork action) →
       checks_fault w (change_or_fault table t h action) ≡ refused_by (change_or_fault table t h action)

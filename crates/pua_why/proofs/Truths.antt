@@ -6,7 +6,7 @@ use Rattle.pua_why.proofs.Common.{PathTextFault, holds, unveil, CallTable, PairR
 use Rattle.pua_why.proofs.Common.{or_fault, Place, most_processes, Change, NoChange, AddNode, CutRow, ShiftRow, TieRow, BeginProgram}
 use Rattle.pua_why.proofs.Common.{AddEvent, CopyAs, Outcome, Side, Sole, Old, New, unless_refused, unless_failed, adding, link_node}
 use Rattle.pua_why.proofs.Common.{shifting, pair_by, World, kept_at, change_effect, come_of, edit_effect, edited_tree, OnPath, Symlink}
-use Rattle.pua_why.proofs.Common.{Rename, Link, Pledge, Unveil, Lock, Fork, Exit, Uses, lacking, By, promising, covering, Fault, LacksLetters}
+use Rattle.pua_why.proofs.Common.{Rename, Link, Pledge, Unveil, Lock, Fork, Exit, Uses, Comment, lacking, By, promising, covering, Fault, LacksLetters}
 use Rattle.pua_why.proofs.Common.{Unfit, IsLocked, NumberTaken, NoProcessLeft, unpromised_fault, place_beyond, faults, faults_of}
 use Rattle.pua_why.proofs.Common.{change_or_fault, no_room, room_fault, outcome_fault, name_trace, decision_of}
 use Rattle.std.proofs.Common.{inl, inr}
@@ -289,6 +289,7 @@ check_faults_hold table t h Lock fault e = promise_true h (unveil ∷ []) _ faul
 check_faults_hold table t h (Fork new) fault e = promise_true h (proc ∷ []) _ fault e
 check_faults_hold table t h Exit fault e = cc
 check_faults_hold table t h (Uses sets) fault e = promise_true h sets _ fault e
+check_faults_hold table t h Comment fault e = cc
 
 -- the room of a change
 edited_true : (w : World) (h : ProcessState) (fault : Fault) (r : Result (ℕ × Tree) TreeFault) → no_room (edit_effect h r) ≡ Some fault →
@@ -340,6 +341,7 @@ never_full table t h Lock is = is
 never_full table t h (Fork new) is = is
 never_full table t h Exit is = is
 never_full table t h (Uses sets) is = is
+never_full table t h Comment is = is
 
 full_made : (w : World) (h : ProcessState) (change : Change) → RoomFaultHolds w h change NoRoom → change_effect w h change ≡ Fails ENOSPC
 full_made w h NoChange is = is

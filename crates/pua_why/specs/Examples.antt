@@ -1,5 +1,5 @@
 -- Worked rows on reasons: what `--why` says of scripts.
-use Rattle.std.specs.Prelude.{◌≡◌, ℕ, List, [], ◌∷◌, ◌++◌, Result, Ok, codes, refl}
+use Rattle.std.specs.Prelude.{◌≡◌, ℕ, List, [], ◌∷◌, ◌++◌, map, Option, Some, None, option_map, Result, Ok, codes, refl}
 use Rattle.std.specs.Fmt.{digits}
 use Rattle.pua_tree.specs.Examples.{text_of_lines}
 use Rattle.pua_tree.specs.Listing.{listing}
@@ -15,10 +15,11 @@ use Rattle.pua_script.specs.Scripts.{script, script_by}
 use Rattle.pua_script.specs.Replay.{new_world}
 use Rattle.pua_script.specs.declared.fault.ScriptFault.{ScriptFault}
 use Rattle.pua_script.specs.Examples.{root_alone, example, ordered_tree}
+use Rattle.pua_why.specs.Openings.{told_text, told_to}
 use Rattle.pua_why.specs.Texts.{why_lines, chain, promises_text}
 
 abbrev pub lines_over : Rules → Result Tree ListingFault → Result (List Asked) ScriptFault → List (List ℕ)
-lines_over rules (Ok t) (Ok asks) = why_lines rules (table_by_rules rules) (new_world t) [] 1 asks
+lines_over rules (Ok t) (Ok asks) = why_lines (table_by_rules rules) (new_world t) [] 1 asks
 lines_over rules _ _ = []
 
 abbrev pub why_by : Rules → List (List ℕ) → List (List ℕ) → List (List ℕ)
@@ -29,7 +30,7 @@ why_of tree lines = why_by Standard tree lines
 
 abbrev pub chain_over : Rules → Result Tree ListingFault → Result (List Asked) ScriptFault → Result (List Asked) ScriptFault →
     List (List ℕ)
-chain_over rules (Ok t) (Ok asks) (Ok (ask ∷ more)) = chain rules (table_by_rules rules) (new_world t) asks ask
+chain_over rules (Ok t) (Ok asks) (Ok (ask ∷ more)) = chain (table_by_rules rules) (new_world t) asks ask
 chain_over rules _ _ _ = []
 
 abbrev pub chain_by : Rules → List (List ℕ) → List (List ℕ) → List ℕ → List (List ℕ)
@@ -82,6 +83,9 @@ pub record WhyRows : Type 0 where
   pub forks : why_of root_alone (codes "1 fork 2" ∷ codes "1 fork 2" ∷ codes "2 exit" ∷ codes "2 stat /" ∷ codes "3 stat /" ∷ []) ≡
       codes "1 ok" ∷ codes "2 EAGAIN process 2 exists since line 1" ∷ codes "3 ok" ∷ codes "4 gone ended since line 3"
       ∷ codes "5 gone never made" ∷ []
+  -- of no line on which nobody asks
+  pub comments : why_by Openbsd root_alone (codes "# x" ∷ codes "1 pledge stdio -" ∷ [] ∷ codes "1 stat / # y" ∷ []) ≡
+      codes "2 ok" ∷ codes "4 killed no rpath since line 2" ∷ []
   -- another path's fault is another reason
   pub another_path : why_of root_alone (codes "1 mkdir /a" ∷ codes "1 rename /a/f /b/g" ∷ []) ≡
       codes "1 ok" ∷ codes "2 ENOENT new: /b is missing since line 1" ∷ []
@@ -162,10 +166,18 @@ abbrev pub opened_tree : List (List ℕ)
 opened_tree = root_alone ++ codes "1 dir 0 dev" ∷ codes "2 file 1 tty" ∷ codes "3 dir 0 etc" ∷ codes "4 file 3 resolv.conf"
     ∷ codes "5 dir 0 tmp" ∷ codes "6 dir 0 usr" ∷ codes "7 dir 6 share" ∷ codes "8 dir 7 zoneinfo" ∷ codes "9 file 8 UTC" ∷ []
 
--- what is said of what a kernel opens by a promise
+-- what is told of the answers to a script's lines
+abbrev pub told_over : Rules → Result Tree ListingFault → Result (List Asked) ScriptFault → List (Option (List ℕ))
+told_over rules (Ok t) (Ok asks) = map (option_map told_text) (told_to (table_by_rules rules) (new_world t) asks)
+told_over rules _ _ = []
+
+abbrev pub told_of : Rules → List (List ℕ) → List (List ℕ) → List (Option (List ℕ))
+told_of rules tree lines = told_over rules (listing (text_of_lines tree)) (script_by rules (text_of_lines lines))
+
+-- what is said of what a promise opens
 pub record OpeningRows : Type 0 where
   pub by_dns : why_by Openbsd opened_tree (codes "1 pledge stdio,dns -" ∷ codes "1 open-r /etc/resolv.conf" ∷ []) ≡
-      codes "1 ok" ∷ codes "2 killed no rpath since line 1, a kernel opens it by dns" ∷ []
+      codes "1 ok" ∷ codes "2 ok by dns" ∷ []
   pub by_the_profile : why_by Standard opened_tree (codes "1 pledge stdio,dns -" ∷ codes "1 open-r /etc/resolv.conf" ∷ []) ≡
       codes "1 ok" ∷ codes "2 killed no rpath since line 1" ∷ []
   pub not_held : why_by Openbsd opened_tree (codes "1 pledge stdio -" ∷ codes "1 open-r /etc/resolv.conf" ∷ []) ≡
@@ -176,36 +188,59 @@ pub record OpeningRows : Type 0 where
   -- another call, another spelling, and what is not there
   pub another_call : why_by Openbsd opened_tree (codes "1 pledge error,dns -" ∷ codes "1 open-rw /etc/resolv.conf"
       ∷ codes "1 open-r /etc//resolv.conf" ∷ codes "1 open-r /etc/hosts" ∷ []) ≡
-      codes "1 ok" ∷ codes "2 ENOSYS no rpath,wpath since line 1" ∷ codes "3 ENOSYS no rpath since line 1"
-      ∷ codes "4 ENOSYS no rpath since line 1" ∷ []
+      codes "1 ok" ∷ codes "2 ENOSYS no rpath,wpath since line 1" ∷ codes "3 ok by dns"
+      ∷ codes "4 ENOENT /etc/hosts is missing" ∷ []
   pub below : why_by Openbsd opened_tree (codes "1 pledge error,stdio -" ∷ codes "1 open-r /usr/share/zoneinfo/UTC"
       ∷ codes "1 open-r /usr/share/zoneinfo/" ∷ codes "1 open-r /usr/share/zoneinfo" ∷ []) ≡
-      codes "1 ok" ∷ codes "2 ENOSYS no rpath since line 1, a kernel opens it by stdio" ∷ codes "3 ENOSYS no rpath since line 1"
+      codes "1 ok" ∷ codes "2 ok by stdio" ∷ codes "3 ENOSYS no rpath since line 1"
       ∷ codes "4 ENOSYS no rpath since line 1" ∷ []
   -- no veil hides it
   pub past_a_cover : why_by Openbsd opened_tree (codes "1 unveil /tmp r" ∷ codes "1 pledge stdio,rpath,dns -"
       ∷ codes "1 open-r /etc/resolv.conf" ∷ []) ≡
-      codes "1 ok" ∷ codes "2 ok" ∷ codes "3 ENOENT no veil on /etc/resolv.conf or above since line 1, a kernel opens it by dns" ∷ []
+      codes "1 ok" ∷ codes "2 ok" ∷ codes "3 ok by dns" ∷ []
   pub past_letters : why_by Openbsd opened_tree (codes "1 unveil /etc w" ∷ codes "1 pledge stdio,rpath,dns -"
       ∷ codes "1 stat /etc/resolv.conf" ∷ []) ≡
-      codes "1 ok" ∷ codes "2 ok" ∷ codes "3 EACCES no r in veil w on /etc since line 1, a kernel opens it by dns" ∷ []
+      codes "1 ok" ∷ codes "2 ok" ∷ codes "3 ok by dns" ∷ []
   -- by `tty` the veils are asked
   pub terminal : why_by Openbsd opened_tree (codes "1 pledge stdio,tty -" ∷ codes "1 open-rw /dev/tty" ∷ []) ≡
-      codes "1 ok" ∷ codes "2 killed no rpath,wpath since line 1, a kernel opens it by tty" ∷ []
+      codes "1 ok" ∷ codes "2 ok by tty" ∷ []
   pub terminal_veiled : why_by Openbsd opened_tree (codes "1 unveil /dev/tty rw" ∷ codes "1 pledge error,tty -"
       ∷ codes "1 open-rw /dev/tty" ∷ []) ≡
-      codes "1 ok" ∷ codes "2 ok" ∷ codes "3 ENOSYS no rpath,wpath since line 2, a kernel opens it by tty" ∷ []
+      codes "1 ok" ∷ codes "2 ok" ∷ codes "3 ok by tty" ∷ []
   pub terminal_hidden : why_by Openbsd opened_tree (codes "1 unveil /etc r" ∷ codes "1 pledge error,tty -"
       ∷ codes "1 open-rw /dev/tty" ∷ []) ≡
-      codes "1 ok" ∷ codes "2 ok" ∷ codes "3 ENOSYS no rpath,wpath since line 2" ∷ []
+      codes "1 ok" ∷ codes "2 ok" ∷ codes "3 ENOENT no veil on /dev/tty or above since line 1" ∷ []
   pub terminal_uncovered : why_by Openbsd opened_tree (codes "1 unveil /etc r" ∷ codes "1 pledge rpath,wpath,tty -"
       ∷ codes "1 open-rw /dev/tty" ∷ []) ≡
       codes "1 ok" ∷ codes "2 ok" ∷ codes "3 ENOENT no veil on /dev/tty or above since line 1" ∷ []
+  -- `tmppath` makes and takes away what stands below /tmp, by the veils too
   pub temporary : why_by Openbsd opened_tree (codes "1 pledge error,tmppath -" ∷ codes "1 create /tmp/x" ∷ codes "1 create /etc/x" ∷ []) ≡
-      codes "1 ok" ∷ codes "2 ENOSYS no cpath,wpath since line 1, a kernel opens it by tmppath" ∷ codes "3 ENOSYS no cpath,wpath since line 1"
-      ∷ []
+      codes "1 ok" ∷ codes "2 ok by tmppath" ∷ codes "3 ENOSYS no cpath,wpath since line 1" ∷ []
+  pub taken_away : why_by Openbsd opened_tree (codes "1 pledge error,tmppath -" ∷ codes "1 create-rw /tmp/x" ∷ codes "1 unlink /tmp//x"
+      ∷ codes "1 unlink /tmp/x" ∷ codes "1 unlink /etc/resolv.conf" ∷ []) ≡
+      codes "1 ok" ∷ codes "2 ok by tmppath" ∷ codes "3 ok by tmppath" ∷ codes "4 ENOENT /tmp/x is missing since line 3"
+      ∷ codes "5 ENOSYS no cpath since line 1" ∷ []
+  pub temporary_veiled : why_by Openbsd opened_tree (codes "1 unveil /tmp c" ∷ codes "1 pledge error,tmppath -" ∷ codes "1 create /tmp/x"
+      ∷ codes "1 unlink /tmp/x" ∷ []) ≡
+      codes "1 ok" ∷ codes "2 ok" ∷ codes "3 EACCES no w in veil c on /tmp since line 1" ∷ codes "4 ENOENT /tmp/x is missing" ∷ []
+  pub temporary_hidden : why_by Openbsd opened_tree (codes "1 unveil /etc rwc" ∷ codes "1 pledge error,tmppath -" ∷ codes "1 create /tmp/x" ∷ []) ≡
+      codes "1 ok" ∷ codes "2 ok" ∷ codes "3 ENOENT no veil on /tmp/x or above since line 1" ∷ []
   pub in_a_chain : chain_by Openbsd opened_tree (codes "1 pledge stdio,dns -" ∷ []) (codes "1 open-r /etc/resolv.conf") ≡
-      codes "killed no rpath since line 1, a kernel opens it by dns" ∷ []
+      codes "opened by dns" ∷ codes "names file /etc/resolv.conf" ∷ codes "ok by dns" ∷ []
+  pub temporary_in_a_chain : chain_by Openbsd opened_tree (codes "1 unveil /tmp wc" ∷ codes "1 pledge tmppath -" ∷ []) (codes "1 create /tmp/x") ≡
+      codes "opened by tmppath" ∷ codes "names missing /tmp/x" ∷ codes "veil wc on /tmp since line 1" ∷ codes "ok by tmppath" ∷ []
+  -- without reasons too; of a line on which nobody asks nothing is told
+  pub told : told_of Openbsd opened_tree (codes "# a resolver" ∷ codes "1 pledge error,stdio,dns -" ∷ codes "1 open-r /etc/resolv.conf"
+      ∷ codes "1 open-w /etc/resolv.conf" ∷ []) ≡ None ∷ Some (codes "ok") ∷ Some (codes "ok by dns") ∷ Some (codes "ENOSYS") ∷ []
+  pub told_by_the_profile : told_of Standard opened_tree (codes "1 pledge error,dns -" ∷ codes "1 open-r /etc/resolv.conf" ∷ []) ≡
+      Some (codes "ok") ∷ Some (codes "ENOSYS") ∷ []
+  pub temporary_told : told_of Openbsd opened_tree (codes "1 pledge error,tmppath -" ∷ codes "1 create /tmp/x" ∷ codes "1 unlink /tmp/x"
+      ∷ codes "1 unlink /tmp/x" ∷ []) ≡ Some (codes "ok") ∷ Some (codes "ok by tmppath") ∷ Some (codes "ok by tmppath") ∷ Some (codes "ENOENT") ∷ []
+  -- where the promises are held too, nothing is said behind the answer
+  pub held_too : chain_by Openbsd opened_tree (codes "1 pledge rpath,wpath,tty -" ∷ []) (codes "1 open-rw /dev/tty") ≡
+      codes "opened by tty" ∷ codes "names file /dev/tty" ∷ codes "no veils" ∷ codes "ok" ∷ []
+  pub made_too : why_by Openbsd opened_tree (codes "1 pledge cpath,tmppath,wpath -" ∷ codes "1 create /tmp/x" ∷ codes "1 unlink /tmp/x" ∷ []) ≡
+      codes "1 ok" ∷ codes "2 ok" ∷ codes "3 ok" ∷ []
 
 pub opening_rows : OpeningRows
 unfolding digits trace_from promises_text
@@ -223,7 +258,16 @@ opening_rows = record {
   terminal_hidden = refl;
   terminal_uncovered = refl;
   temporary = refl;
+  taken_away = refl;
+  temporary_veiled = refl;
+  temporary_hidden = refl;
   in_a_chain = refl;
+  temporary_in_a_chain = refl;
+  told = refl;
+  told_by_the_profile = refl;
+  temporary_told = refl;
+  held_too = refl;
+  made_too = refl;
 }
 
 pub why_rows : WhyRows
@@ -241,6 +285,7 @@ why_rows = record {
   locks = refl;
   pledges = refl;
   forks = refl;
+  comments = refl;
   another_path = refl;
   missing_further_on = refl;
   no_directory_further_on = refl;

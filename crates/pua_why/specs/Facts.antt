@@ -1,5 +1,5 @@
 -- What a request passed, one check after another.
-use Rattle.std.specs.Prelude.{ℕ, if◌then◌else◌, bit_or, List, [], ◌∷◌, ◌++◌, map, Option, Some, None, Result, Ok, Err}
+use Rattle.std.specs.Prelude.{ℕ, Bool, if◌then◌else◌, bit_or, List, [], ◌∷◌, ◌++◌, map, Option, Some, None, Result, Ok, Err}
 use Rattle.pua_tree.specs.Tree.{Tree, Spot}
 use Rattle.pua_path.specs.declared.text.Ending.{Ending}
 use Rattle.pua_path.specs.declared.text.Ending.TheVariants as ending
@@ -7,7 +7,8 @@ use Rattle.pua_path.specs.declared.found.Last.TheVariants.{Followed}
 use Rattle.pua_path.specs.declared.found.Found.{Found}
 use Rattle.pua_path.specs.Traces.{PathTrace, trace_of_text}
 use Rattle.pua_path.specs.declared.traced.PathFault.{PathFault}
-use Rattle.pua_calls.specs.Promises.{proc, unveil}
+use Rattle.pua_calls.specs.Promises.{no_promises, proc, promises_of, unveil}
+use Rattle.pua_path.specs.declared.errno.Errno.{Errno}
 use Rattle.pua_calls.specs.Calls.{CallTable, NameRule, PairRule, rule_of, last_of, ending_of}
 use Rattle.pua_policy.specs.States.{ProcessState, working_dir, is_locked}
 use Rattle.pua_calls.specs.declared.call.Call.{Call}
@@ -15,13 +16,16 @@ use Rattle.pua_calls.specs.declared.call.Call.TheVariants as call
 use Rattle.pua_script.specs.Requests.{Asked}
 use Rattle.pua_script.specs.Replay.{World, kept_at}
 use Rattle.pua_script.specs.declared.request.Action.{Action}
-use Rattle.pua_script.specs.declared.request.Action.TheVariants.{OnPath, Symlink, Rename, Link, Pledge, Unveil, Lock, Fork, Exit, Uses}
+use Rattle.pua_script.specs.declared.request.Action.TheVariants.{OnPath, Symlink, Rename, Link, Pledge, Unveil, Lock, Fork, Exit, Uses, Comment}
 use Rattle.pua_policy.specs.declared.reason.Covering.{Covering}
 use Rattle.pua_policy.specs.Reasons.{Promising, Holds, promising, covering}
 use Rattle.pua_script.specs.Decide.{Side, Sole, Old, New}
+use Rattle.pua_script.specs.Openings.{Opening, opening_of}
 use Rattle.pua_why.specs.Reasons.{Fault, uncovered_fault}
 
 pub data Fact : Type 0 where
+  -- by this promise
+  Opened : ℕ → Fact
   Needs : ℕ → Fact
   Follows : Side → Spot → Fact
   Names : Side → Found → Fact
@@ -63,6 +67,28 @@ call_facts table t h call path =
     facts_promised (promising h (rule_of table call).alternatives)
     (facts_named Sole (call_trace t h call path) λ object. facts_under Sole t h object (rule_of table call).perms [])
 
+-- the promise that a keyword names
+abbrev pub set_named : Result ℕ Errno → ℕ
+set_named (Ok set) = set
+set_named (Err errno) = no_promises
+
+abbrev pub promise_of_row : Opening → ℕ
+promise_of_row o = set_named (promises_of o.promise)
+
+-- what is asked of the veils, where they are asked
+abbrev pub facts_asked : Bool → List Fact → List Fact
+facts_asked asks_veils told = if asks_veils then told else []
+
+-- a call that a promise opens rests on no promises, and past the veils on no veil
+abbrev pub opened_facts : CallTable → Tree → ProcessState → Call → List ℕ → Opening → List Fact
+opened_facts table t h call path o =
+    Opened (promise_of_row o) ∷ facts_named Sole (call_trace t h call path) λ object.
+    facts_asked o.asks_veils (facts_under Sole t h object (rule_of table call).perms [])
+
+abbrev pub facts_by : CallTable → Tree → ProcessState → Call → List ℕ → Option Opening → List Fact
+facts_by table t h call path None = call_facts table t h call path
+facts_by table t h call path (Some o) = opened_facts table t h call path o
+
 -- of a path of two
 abbrev pub name_trace : NameRule → Tree → ProcessState → Ending → List ℕ → PathTrace
 name_trace name t h ending path = trace_of_text t (working_dir h) ending path name.last
@@ -85,7 +111,7 @@ unveil_facts t h path =
     (if is_locked h then [] else facts_named Sole (trace_of_text t (working_dir h) ending.Dot path Followed) λ object. [])
 
 abbrev pub facts : CallTable → Tree → ProcessState → Action → List Fact
-facts table t h (OnPath call path) = call_facts table t h call path
+facts table t h (OnPath call path) = facts_by table t h call path (opening_of table h call path)
 facts table t h (Symlink target path) = call_facts table t h call.Symlink path
 facts table t h (Rename old new) = pair_facts table.rename t h ending.Dropped old new
 facts table t h (Link old new) = pair_facts table.link t h ending.Dot old new
@@ -95,6 +121,7 @@ facts table t h Lock = facts_promised (promising h (unveil ∷ [])) []
 facts table t h (Fork new) = facts_promised (promising h (proc ∷ [])) []
 facts table t h Exit = []
 facts table t h (Uses sets) = facts_promised (promising h sets) []
+facts table t h Comment = []
 
 abbrev pub facts_of : CallTable → World → Asked → List Fact
 facts_of table w ask = by (kept_at w ask.process)

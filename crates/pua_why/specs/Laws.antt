@@ -1,37 +1,36 @@
 -- What is true of reasons.
-use Rattle.std.specs.Prelude.{◌≡◌, ℕ, suc, ◌+◌, true, false, List, [], ◌∷◌, ◌++◌, map, Some, Ok, Err, bit_or, decimal, length}
+use Rattle.std.specs.Prelude.{◌≡◌, ℕ, suc, ◌+◌, true, false, List, [], ◌∷◌, ◌++◌, map, Option, Some, None, option_map, Ok, Err, bit_or, decimal, length}
 use Rattle.pua_tree.specs.Tree.{Tree}
 use Rattle.pua_path.specs.declared.text.Ending.{Ending}
 use Rattle.pua_path.specs.declared.text.Ending.TheVariants as ending
 use Rattle.pua_path.specs.declared.found.Found.{Found}
 use Rattle.pua_calls.specs.Promises.{holds}
-use Rattle.pua_calls.specs.Calls.{CallTable, PairRule, rule_of}
-use Rattle.pua_calls.specs.declared.rules.Rules.{Rules}
+use Rattle.pua_calls.specs.Calls.{CallTable, PairRule, about_rules, rule_of}
 use Rattle.pua_policy.specs.States.{ProcessState, is_ended, working_dir}
 use Rattle.pua_policy.specs.Verdict.{object_of, object_named, verdict_of}
 use Rattle.pua_policy.specs.ReasonLaws.{LackSome, MisfitHolds}
 use Rattle.pua_calls.specs.declared.call.Call.{Call}
 use Rattle.pua_script.specs.Requests.{Asked}
-use Rattle.pua_script.specs.AnswerTexts.{answer_text}
-use Rattle.pua_script.specs.Replay.{World, apply, answers_to, world_after}
-use Rattle.pua_script.specs.declared.answer.Answer.{Answer}
+use Rattle.pua_script.specs.Replay.{World, apply, lines_told, world_after}
 use Rattle.pua_calls.specs.Promises.{lacking}
 use Rattle.pua_policy.specs.Misfits.{misfit}
 use Rattle.pua_policy.specs.declared.reason.Covering.{Covering}
 use Rattle.pua_policy.specs.declared.reason.Covering.TheVariants.{NoneOver, By}
 use Rattle.pua_policy.specs.Reasons.{Holds, promising, covering}
-use Rattle.pua_script.specs.Decide.{Change, Outcome, Decision, Sole, Old, New, decide, named_in}
+use Rattle.pua_script.specs.Decide.{Change, Outcome, Decision, Sole, Old, New, call_by, decide, named_in}
+use Rattle.pua_script.specs.Openings.{Opening, opening_of}
 use Rattle.pua_script.specs.declared.request.Action.{Action}
 use Rattle.pua_script.specs.declared.request.Action.TheVariants.{OnPath, Rename, Link}
 use Rattle.pua_policy.specs.Verdict.{refusal_verdict}
 use Rattle.pua_policy.specs.declared.answer.Verdict.{Verdict}
 use Rattle.pua_policy.specs.declared.answer.Verdict.TheVariants.{Allowed}
 use Rattle.pua_why.specs.Reasons.{Fault, Ends, LacksPromises, BadPath, Uncovered, LacksLetters, Unfit, fault_refusal, change_or_fault}
-use Rattle.pua_why.specs.Reasons.{reason, answer_of, outcome_in}
-use Rattle.pua_why.specs.Facts.{Needs, Follows, Names, Under, call_trace, call_facts, name_trace, pair_facts}
+use Rattle.pua_why.specs.Reasons.{faults, faults_of, reason, answer_of, outcome_in}
+use Rattle.pua_why.specs.Facts.{Opened, promise_of_row, Needs, Follows, Names, Under, call_trace, facts, facts_asked, name_trace, pair_facts}
 use Rattle.pua_why.specs.Keys.{reason_key}
 use Rattle.pua_why.specs.Since.{Test, since, IsSince}
-use Rattle.pua_why.specs.Texts.{has_key, answer_why, why_lines}
+use Rattle.pua_why.specs.Openings.{ToldAnswer, told_plainly, told_text, told_to}
+use Rattle.pua_why.specs.Texts.{has_key, answer_why, line_said, why_lines}
 
 -- a fault, as the refusal that it is told of
 abbrev pub decision_of : Outcome Fault → Decision
@@ -47,10 +46,11 @@ abbrev pub verdict_by : Outcome Fault → Verdict
 verdict_by (Ok _) = Allowed
 verdict_by (Err fault) = refusal_verdict (fault_refusal fault)
 
--- a reason never contradicts the verdict on what the path names by the table's rules, which tell apart nothing but errnos
+-- a reason never contradicts the verdict on what the path names by the table's rules, which tell apart nothing but errnos; a
+-- verdict knows of no openings
 abbrev pub ReasonsGiveVerdicts : Type 0
 ReasonsGiveVerdicts = (t : Tree) (table : CallTable) (h : ProcessState) (call : Call) (text : List ℕ) →
-    verdict_by (change_or_fault table t h (OnPath call text)) ≡ verdict_of t table h call (named_in table.whose t (working_dir h) text (object_named t h call text))
+    verdict_by (call_by faults table t (faults_of h) call text) ≡ verdict_of t table h call (named_in table.whose t (working_dir h) text (object_named t h call text))
 
 -- nor the answer of a request
 abbrev pub ReasonsGiveAnswers : Type 0
@@ -62,37 +62,56 @@ IsTail [] = Unit {0}
 IsTail (b ∷ more) = b ≡ 32
 
 -- lines with their numbers and answers, and what is told behind them
-abbrev pub TellMore : List (List ℕ) → ℕ → List Answer → Type 0
-TellMore [] n [] = Unit {0}
-TellMore (line ∷ lines) n (answer ∷ answers) =
-    ((tail : List ℕ) × (line ≡ (decimal n ++ 32 ∷ answer_text answer) ++ tail) × IsTail tail) × TellMore lines (suc n) answers
-TellMore _ n _ = ⊥
+abbrev pub TellMore : List (List ℕ) → ℕ → List (Option ToldAnswer) → Type 0
+TellMore lines n [] = lines ≡ []
+TellMore lines n (None ∷ answers) = TellMore lines (suc n) answers
+TellMore lines n (Some told ∷ answers) =
+    (line : List ℕ) × (more : List (List ℕ)) × (lines ≡ line ∷ more)
+    × ((tail : List ℕ) × (line ≡ (decimal n ++ 32 ∷ told_text told) ++ tail) × IsTail tail) × TellMore more (suc n) answers
 
 -- with reasons each line is the line without them, and more
 abbrev pub WhyLinesTellMore : Type 0
-WhyLinesTellMore = (rules : Rules) (table : CallTable) (w : World) (done asks : List Asked) (n : ℕ) →
-    TellMore (why_lines rules table w done n asks) n (answers_to table (world_after table w done) asks)
+WhyLinesTellMore = (table : CallTable) (w : World) (done asks : List Asked) (n : ℕ) →
+    TellMore (why_lines table w done n asks) n (told_to table (world_after table w done) asks)
+
+-- answers are told as they are, and by rules that know of no openings none is told to be opened
+pub record AnswersAreTold : Type 0 where
+  pub as_they_are : (table : CallTable) (w : World) (asks : List Asked) →
+      map (option_map (λ told. told.answer)) (told_to table w asks) ≡ lines_told table w asks
+  pub unopened : (table : CallTable) → (about_rules table.whose).has_openings ≡ false → (w : World) (asks : List Asked) →
+      told_to table w asks ≡ map (option_map told_plainly) (lines_told table w asks)
 
 -- the last line of a chain is what is told of the request as the script's next line
 abbrev pub ChainsEnd : Type 0
-ChainsEnd = (rules : Rules) (table : CallTable) (w : World) (done asks : List Asked) (ask : Asked) (n : ℕ) →
-    why_lines rules table w done n (asks ++ ask ∷ []) ≡ why_lines rules table w done n asks
-    ++ (decimal (n + length asks) ++ 32 ∷ answer_why rules table w (done ++ asks) ask) ∷ []
+ChainsEnd = (table : CallTable) (w : World) (done asks : List Asked) (ask : Asked) (n : ℕ) →
+    why_lines table w done n (asks ++ ask ∷ []) ≡ why_lines table w done n asks
+    ++ line_said ask (decimal (n + length asks) ++ 32 ∷ answer_why table w (done ++ asks) ask)
 
 -- the chain of a call that is granted tells the promises, the links, the object and the veil on which it rests
 pub record FactsOf (t : Tree) (table : CallTable) (h : ProcessState) (call : Call) (text : List ℕ) : Type 0 where
   pub promises : ℕ
   pub object : Found
   pub over : Covering
-  pub told : call_facts table t h call text ≡ Needs promises ∷ map (Follows Sole) (call_trace t h call text).links ++ Names Sole object
+  pub told : facts table t h (OnPath call text) ≡ Needs promises ∷ map (Follows Sole) (call_trace t h call text).links ++ Names Sole object
       ∷ Under Sole over ∷ []
   pub held : promising h (rule_of table call).alternatives ≡ Holds promises
   pub named : (call_trace t h call text).outcome ≡ Ok object
   pub covered : covering t h object ≡ over
 
+-- that of a call that a promise opens tells the promise, the links, the object, and the veil where the veils are asked
+pub record OpenedFactsOf (t : Tree) (table : CallTable) (h : ProcessState) (call : Call) (text : List ℕ) (o : Opening) : Type 0 where
+  pub object : Found
+  pub told : facts table t h (OnPath call text) ≡ Opened (promise_of_row o) ∷ map (Follows Sole) (call_trace t h call text).links ++ Names Sole object
+      ∷ facts_asked o.asks_veils (Under Sole (covering t h object) ∷ [])
+  pub named : (call_trace t h call text).outcome ≡ Ok object
+
+abbrev pub FactsBy : Tree → CallTable → ProcessState → Call → List ℕ → Option Opening → Type 0
+FactsBy t table h call text None = FactsOf t table h call text
+FactsBy t table h call text (Some o) = OpenedFactsOf t table h call text o
+
 abbrev pub GrantsAreTold : Type 0
 GrantsAreTold = (t : Tree) (table : CallTable) (h : ProcessState) (call : Call) (text : List ℕ) (change : Change) →
-    change_or_fault table t h (OnPath call text) ≡ Ok change → FactsOf t table h call text
+    change_or_fault table t h (OnPath call text) ≡ Ok change → FactsBy t table h call text (opening_of table h call text)
 
 -- and of a request with two paths those of both names
 pub record PairFactsOf (pair : PairRule) (t : Tree) (h : ProcessState) (ending : Ending) (old_path new_path : List ℕ) : Type 0 where

@@ -24,7 +24,7 @@ use Rattle.pua_policy.specs.declared.reason.Covering.TheVariants.{InView, NoneOv
 use Rattle.pua_policy.specs.Reasons.{Promising, Holds, HasEnded, Lacks, promising, covering}
 use Rattle.pua_script.specs.Limits.{most_processes}
 use Rattle.pua_script.specs.Requests.{Asked}
-use Rattle.pua_script.specs.Decide.{Change, CopyAs, Outcome, Side, Telling, Asker, fault_if, decide_by, before_long}
+use Rattle.pua_script.specs.Decide.{Change, CopyAs, Outcome, Side, Telling, Asker, fault_if, decide_by, asker_for, before_long}
 use Rattle.pua_policy.specs.Misfits.{misfit_errno}
 use Rattle.pua_calls.specs.declared.fits.Misfit.{Misfit}
 use Rattle.pua_script.specs.Replay.{World, Effect, Fails, kept_at, change_effect}
@@ -158,7 +158,7 @@ faults_of p = record {
 
 -- what a living process's request changes, or the fault for which it is refused
 abbrev pub change_or_fault : CallTable → Tree → ProcessState → Action → Outcome Fault
-change_or_fault table t h action = decide_by faults table t (faults_of h) action
+change_or_fault table t h action = decide_by faults table t (asker_for table h action (faults_of h)) action
 
 -- of a change, that there is no room for it
 abbrev pub no_room : Effect → Option Fault

@@ -1,5 +1,5 @@
--- Reasons, facts and openings as the code tells them.
-use Rattle.std.specs.Prelude.{map, List, [], ◌∷◌, Option, Some, None, Result, Ok, Err}
+-- Reasons, facts and answers as the code tells them.
+use Rattle.std.specs.Prelude.{map, List, [], ◌∷◌, Option, Some, None, option_map, Result, Ok, Err}
 use Rattle.pua_calls.specs.Promises.{lacking}
 use Rattle.pua_script.specs.Decide as decide
 use Rattle.pua_script.specs.Decide.{Outcome}
@@ -12,8 +12,8 @@ use Rattle.pua_why.specs.declared.told.Fault.TheVariants.{NoPlaceLeft, NumberTak
 use Rattle.pua_why.specs.declared.told.Reason.{Reason}
 use Rattle.pua_why.specs.declared.told.Reason.TheVariants.{NeverMade, Ended, Refused, Granted}
 use Rattle.pua_why.specs.declared.told.Fact.{Fact}
-use Rattle.pua_why.specs.declared.told.Fact.TheVariants.{Needs, Follows, Names, Under}
-use Rattle.pua_why.specs.declared.kernel.Opening.{Opening}
+use Rattle.pua_why.specs.declared.told.Fact.TheVariants.{Opened, Needs, Follows, Names, Under}
+use Rattle.pua_why.specs.declared.opened.ToldAnswer.{ToldAnswer}
 use Rattle.pua_why.specs.Reasons as reasons
 use Rattle.pua_why.specs.Facts as facts
 use Rattle.pua_why.specs.Openings as openings
@@ -50,10 +50,14 @@ reason_seen Ended = reasons.Ended
 reason_seen (Refused fault) = reasons.Refused (fault_seen fault)
 reason_seen Granted = reasons.Granted
 
-abbrev pub opening_seen : Opening → openings.Opening
-opening_seen row = record { promise = row.promise.now; path = row.path.now; calls = row.calls.now; asks_veils = row.asks_veils }
+abbrev pub told_seen : ToldAnswer → openings.ToldAnswer
+told_seen told = record { answer = told.answer; opener = option_map (λ promise. promise.now) told.opener }
+
+abbrev pub line_seen : Option ToldAnswer → Option openings.ToldAnswer
+line_seen told = option_map told_seen told
 
 abbrev pub fact_seen : Fact → facts.Fact
+fact_seen (Opened promise) = facts.Opened promise
 fact_seen (Needs set) = facts.Needs set
 fact_seen (Follows side spot) = facts.Follows (side_seen side) spot
 fact_seen (Names side object) = facts.Names (side_seen side) object

@@ -1,6 +1,6 @@
 -- How reasons and facts are written.
 use Rattle.std.specs.Prelude.{ℕ, zero, suc, ◌+◌, Bool, true, false, List, [], ◌∷◌, ◌++◌, map, flat_map, length, ◌==◌, Option, Some, None}
-use Rattle.std.specs.Prelude.{codes, decimal, unwrap_or}
+use Rattle.std.specs.Prelude.{codes, decimal, if◌then◌else◌, unwrap_or}
 use Rattle.pua_tree.specs.Limits.{most_name}
 use Rattle.pua_tree.specs.Names.{same_bytes}
 use Rattle.pua_tree.specs.Spelling.{spelling}
@@ -15,7 +15,6 @@ use Rattle.pua_path.specs.declared.traced.PathFault.{PathFault}
 use Rattle.pua_path.specs.declared.traced.PathFault.TheVariants.{InText, NoStart, Stops}
 use Rattle.pua_calls.specs.Promises.{keywords_of, perm_letters}
 use Rattle.pua_calls.specs.Calls.{CallTable}
-use Rattle.pua_calls.specs.declared.rules.Rules.{Rules}
 use Rattle.pua_policy.specs.States.{ProcessState, perms_kept}
 use Rattle.pua_policy.specs.Limits.{most_places}
 use Rattle.pua_policy.specs.Verdict.{object_of, object_word}
@@ -23,7 +22,7 @@ use Rattle.pua_policy.specs.declared.place.Place.{Place}
 use Rattle.pua_policy.specs.declared.place.Place.TheVariants as place
 use Rattle.pua_script.specs.AnswerTexts.{answer_text}
 use Rattle.pua_script.specs.Limits.{most_processes}
-use Rattle.pua_script.specs.Requests.{Asked}
+use Rattle.pua_script.specs.Requests.{Asked, says_nothing}
 use Rattle.pua_script.specs.Replay.{World, kept_at, world_after}
 use Rattle.pua_policy.specs.declared.reason.Covering.{Covering}
 use Rattle.pua_policy.specs.declared.reason.Covering.TheVariants.{InView, NoneOver, By}
@@ -36,7 +35,7 @@ use Rattle.pua_why.specs.Reasons.{AsksPromises, IsLocked, UnknownLetter, AsksLet
 use Rattle.pua_why.specs.Reasons.{Reason, NeverMade, Ended, Refused, Granted, reason, answer_of}
 use Rattle.pua_why.specs.Keys.{reason_key}
 use Rattle.pua_why.specs.Since.{Test, since}
-use Rattle.pua_why.specs.Facts.{Fact, Needs, Follows, Names, Under, facts_of}
+use Rattle.pua_why.specs.Facts.{Fact, Opened, Needs, Follows, Names, Under, facts_of}
 use Rattle.pua_why.specs.Openings.{opened_by, opener_text}
 
 -- words with something between them
@@ -188,21 +187,25 @@ date_of reason line = line
 abbrev pub reason_since : CallTable → World → List Asked → Asked → Reason → Option ℕ
 reason_since table w asks ask reason = date_of reason (since (has_key table ask (reason_key reason)) table w 1 asks ask.process)
 
--- since which line a reason is so, and by which promise a kernel does it all the same
-abbrev pub reason_tail : Rules → CallTable → World → Asked → Option ℕ → List ℕ
-reason_tail rules table w ask line = since_text line ++ opener_text (opened_by rules table w ask (reason table w ask))
+-- since which line a reason is so, and by which promise what is granted was opened
+abbrev pub reason_tail : CallTable → World → Asked → Option ℕ → List ℕ
+reason_tail table w ask line = since_text line ++ opener_text (opened_by table w ask)
 
--- an answer after these requests, with its reason, since which of them it is so, and what opens it by these rules
-abbrev pub answer_why : Rules → CallTable → World → List Asked → Asked → List ℕ
-answer_why rules table w asks ask =
+-- an answer after these requests, with its reason, since which of them it is so, and what opened it
+abbrev pub answer_why : CallTable → World → List Asked → Asked → List ℕ
+answer_why table w asks ask =
     let left : World = world_after table w asks in
-    answer_words table left ask ++ reason_tail rules table left ask (reason_since table w asks ask (reason table left ask))
+    answer_words table left ask ++ reason_tail table left ask (reason_since table w asks ask (reason table left ask))
 
--- a line for each request after the first ones, the next of them being line n
-abbrev pub why_lines : Rules → CallTable → World → List Asked → ℕ → List Asked → List (List ℕ)
-why_lines rules table w done n [] = []
-why_lines rules table w done n (ask ∷ asks) =
-    (decimal n ++ 32 ∷ answer_why rules table w done ask) ∷ why_lines rules table w (done ++ ask ∷ []) (suc n) asks
+-- a line, but on which nobody asks
+abbrev pub line_said : Asked → List ℕ → List (List ℕ)
+line_said ask line = if says_nothing ask.action then [] else line ∷ []
+
+-- a line for each request after the first ones, the next line being line n
+abbrev pub why_lines : CallTable → World → List Asked → ℕ → List Asked → List (List ℕ)
+why_lines table w done n [] = []
+why_lines table w done n (ask ∷ asks) =
+    line_said ask (decimal n ++ 32 ∷ answer_why table w done ask) ++ why_lines table w (done ++ ask ∷ []) (suc n) asks
 
 -- a veil has been on a place, with these permissions
 abbrev pub has_veil_on : Place → ℕ → Test
@@ -226,6 +229,7 @@ abbrev pub target_text : Tree → Spot → List ℕ
 target_text t spot = spelling (unwrap_or (target_at t (unwrap_or (look t spot.0 spot.1) 0)) [])
 
 abbrev pub fact_dated : Tree → Option ℕ → Fact → List ℕ
+fact_dated t line (Opened promise) = codes "opened by " ++ promises_text promise
 fact_dated t line (Needs set) = codes "needs " ++ promises_text set
 fact_dated t line (Follows side spot) = side_text side ++ codes "link " ++ spot_text t spot ++ codes " to " ++ target_text t spot
 fact_dated t line (Names side object) = side_text side ++ codes "names " ++ object_word (object_of t object) ++ 32 ∷ found_text t object
@@ -240,6 +244,6 @@ abbrev pub fact_text : CallTable → World → List Asked → Asked → Fact →
 fact_text table w asks ask fact = fact_dated (world_after table w asks).tree (veil_since table w asks ask fact) fact
 
 -- all that decides one request after the others, and its answer
-abbrev pub chain : Rules → CallTable → World → List Asked → Asked → List (List ℕ)
-chain rules table w asks ask =
-    map (fact_text table w asks ask) (facts_of table (world_after table w asks) ask) ++ answer_why rules table w asks ask ∷ []
+abbrev pub chain : CallTable → World → List Asked → Asked → List (List ℕ)
+chain table w asks ask =
+    map (fact_text table w asks ask) (facts_of table (world_after table w asks) ask) ++ answer_why table w asks ask ∷ []

@@ -29,7 +29,7 @@ use Rattle.pua_script.specs.Replay.{World, Fails, kept_at, change_effect}
 use Rattle.pua_script.specs.Laws.{LacksRoom}
 use Rattle.pua_script.specs.declared.request.Given.{Given}
 use Rattle.pua_script.specs.declared.request.Action.{Action}
-use Rattle.pua_script.specs.declared.request.Action.TheVariants.{OnPath, Symlink, Rename, Link, Pledge, Unveil, Lock, Fork, Exit, Uses}
+use Rattle.pua_script.specs.declared.request.Action.TheVariants.{OnPath, Symlink, Rename, Link, Pledge, Unveil, Lock, Fork, Exit, Uses, Comment}
 use Rattle.pua_calls.specs.Promises.{lacking}
 use Rattle.pua_policy.specs.declared.reason.Covering.TheVariants.{NoneOver, By}
 use Rattle.pua_policy.specs.Reasons.{covering}
@@ -132,6 +132,7 @@ CheckFaultHolds table t h Lock fault = PromiseFaultHolds h (unveil ∷ []) fault
 CheckFaultHolds table t h (Fork new) fault = PromiseFaultHolds h (proc ∷ []) fault
 CheckFaultHolds table t h Exit fault = ⊥
 CheckFaultHolds table t h (Uses sets) fault = PromiseFaultHolds h sets fault
+CheckFaultHolds table t h Comment fault = ⊥
 
 abbrev pub CheckFaultsHold : Type 0
 CheckFaultsHold = (table : CallTable) (t : Tree) (h : ProcessState) (action : Action) (fault : Fault) →

@@ -1,6 +1,6 @@
 //! The checks of requests on one path, and of those without one, in their order.
 
-ghost use Rattle.std.specs.Prelude.{◌≡◌, ◌∷◌, [], ℕ, IfOk, Ok, Some, option_map};
+ghost use Rattle.std.specs.Prelude.{◌≡◌, ◌∷◌, [], ℕ, false, IfOk, Ok, Some, option_map};
 ghost use Rattle.pua_path.specs.Fits.{FoundFits, StandsAsNamed};
 ghost use Rattle.pua_path.specs.Traces.{trace_of_text};
 ghost use Rattle.pua_path.specs.declared.found.Found as founds;
@@ -9,10 +9,9 @@ ghost use Rattle.pua_path.specs.declared.text.Ending.TheVariants.{Dot};
 ghost use Rattle.pua_policy.specs.Reasons.{covering, promising};
 ghost use Rattle.pua_policy.specs.Verdict.{place_of};
 ghost use Rattle.pua_policy.specs.declared.reason.Covering.TheVariants.{By};
-ghost use Rattle.pua_script.specs.Decide.{Change, call_by, object_by, symlink_by, unveil_by};
-ghost use Rattle.pua_script.specs.Decide.{veil_by};
+ghost use Rattle.pua_script.specs.Decide.{Change, call_by, object_by, past_promises, symlink_by};
+ghost use Rattle.pua_script.specs.Decide.{unveil_by, veil_by};
 ghost use Rattle.pua_why.specs.Checked.{refused_by};
-ghost use Rattle.pua_why.specs.Openings.{uncovered_by};
 ghost use Rattle.pua_why.specs.Reasons.{fault_by, faults, faults_of, front_fault, outcome_in};
 ghost use Rattle.pua_why.specs.Reasons.{place_beyond, uncovered_fault};
 ghost use Rattle.pua_why.specs.Reasons.{unpromised_fault, unveil_beyond};
@@ -229,7 +228,8 @@ pub(crate) fn fit_fault<'s, T: FileTree>(
 ) -> Option<Fault<'s>>
     ensures { (change : founds.Found → Change) → option_map fault_seen result
         ≡ refused_by (object_by faults table.now (T.content tree.now)
-        (uncovered_by (faults_of process.now)) call path.now (λ object. Ok (change object))) }
+        (past_promises false (faults_of process.now)) call path.now
+        (λ object. Ok (change object))) }
 {
     let mut probe = Counted::new(tree);
     let last = call.last();

@@ -1,7 +1,8 @@
 //! Laws and worked examples of reasons, each the contract of a function that does nothing.
 
 ghost use Rattle.pua_why.specs.Examples.{OpeningRows, WhyRows};
-ghost use Rattle.pua_why.specs.Laws.{CallFaultsHold, ChainsEnd, GrantsAreTold, PairsAreTold};
+ghost use Rattle.pua_why.specs.Laws.{AnswersAreTold, CallFaultsHold, ChainsEnd, GrantsAreTold};
+ghost use Rattle.pua_why.specs.Laws.{PairsAreTold};
 ghost use Rattle.pua_why.specs.Laws.{ReasonsGiveAnswers, ReasonsGiveDecisions};
 ghost use Rattle.pua_why.specs.Laws.{ReasonsGiveVerdicts, ReasonsSince, WhyLinesTellMore};
 ghost use Rattle.pua_why.specs.Checked.{ChecksTell};
@@ -10,14 +11,14 @@ ghost use Rattle.pua_why.specs.Since.{SinceHolds};
 ghost use Rattle.pua_why.specs.Truths.{CheckFaultsHold, FullTreesAreFull, RequestFaultsHold};
 ghost use Rattle.pua_why.specs.Unknown.{UnknownsAreTold};
 
-/// Examples of reasons, and of what a kernel opens all the same.
+/// Examples of reasons, and of what promises open.
 pub fn why_examples()
     ensures reasons { WhyRows }
     ensures openings { OpeningRows }
 {}
 
-/// A decision is a function of what is reasoned: a reason never contradicts a refusal, nor the
-/// verdict on a call.
+/// A decision is a function of what is reasoned: a reason never contradicts a refusal, nor that of a
+/// call without openings the verdict.
 pub fn verdict_law()
     ensures decisions { ReasonsGiveDecisions }
     ensures verdicts { ReasonsGiveVerdicts }
@@ -45,8 +46,15 @@ pub fn line_law()
     ensures { WhyLinesTellMore }
 {}
 
-/// A chain has the facts on which a call rests, and ends with the line of the request as a script's
-/// line.
+/// Answers that are told with what opened them are the answers, and by the standard rules nothing is
+/// told to have opened any.
+#[tactic(auto, using(crate::proofs::ToldAnswers::answers_are_told))]
+pub fn told_law()
+    ensures { AnswersAreTold }
+{}
+
+/// A chain has the facts on which a call rests, or the promise that opens it, and ends with the line
+/// of the request as a script's line.
 pub fn chain_law()
     ensures ends { ChainsEnd }
     ensures grants { GrantsAreTold }

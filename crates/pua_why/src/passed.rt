@@ -8,9 +8,11 @@ ghost use Rattle.pua_path.specs.declared.found.Found as founds;
 ghost use Rattle.pua_calls.specs.Calls.{rule_of};
 ghost use Rattle.pua_policy.specs.Reasons.{promising};
 ghost use Rattle.pua_script.specs.Decide.{New, Old, Side as Seen, Sole};
+ghost use Rattle.pua_script.specs.Openings.{opening_of, opening_seen};
 ghost use Rattle.pua_script.specs.Worlds.{world_of};
 ghost use Rattle.pua_why.specs.Facts.{Fact as Meant, Follows, call_facts, call_trace, facts};
-ghost use Rattle.pua_why.specs.Facts.{facts_named, facts_of, facts_promised, facts_under};
+ghost use Rattle.pua_why.specs.Facts.{facts_by, facts_named, facts_of, facts_promised};
+ghost use Rattle.pua_why.specs.Facts.{facts_under, opened_facts, promise_of_row};
 ghost use Rattle.pua_why.specs.Facts.{names_facts, pair_facts, unveil_facts};
 ghost use Rattle.pua_why.specs.Reasons.{uncovered_fault};
 ghost use Rattle.pua_why.specs.Seen.{fact_seen, on_named_fact, side_seen};
@@ -21,7 +23,7 @@ use pua_calls::needs::ending;
 use pua_calls::{Call, CallTable, PairNeed, Perms, Promises};
 use pua_path::{Counted, Ending, Found, Last, Links, Probe, Spot, Way};
 use pua_policy::{Covering, Place, Process, Promising};
-use pua_script::{Action, World};
+use pua_script::{Action, Opening, World, opening_of};
 use pua_tree::{FileTree, NodeId, OutOfMemory};
 use std::alloc::Global;
 use std::marker::Model;
@@ -87,7 +89,7 @@ impl Passed {
     {
         match action {
             Action::OnPath(call, path) => {
-                self.add_call(tree, table, process, *call, path.bytes())
+                self.add_asked(tree, table, process, *call, path.bytes())
             }
             Action::Symlink(_, path) => {
                 self.add_call(tree, table, process, Call::Symlink, path.bytes())
@@ -104,11 +106,66 @@ impl Passed {
             Action::Lock => self.add_promises(process, &[Promises::UNVEIL]),
             Action::Fork(_) => self.add_promises(process, &[Promises::PROC]),
             Action::Uses(any) => self.add_promises(process, any.sets()),
-            Action::Pledge(_, _) | Action::Exit => Ok(()),
+            Action::Pledge(_, _) | Action::Exit | Action::Comment => Ok(()),
         }
     }
 
-    /// Adds what a call on a path passes.
+    /// Adds what a call on a path passes, which a promise may open.
+    fn add_asked<T: FileTree>(
+        &mut self,
+        tree: &T,
+        table: &CallTable,
+        process: &Process,
+        call: Call,
+        path: &[u8],
+    ) -> Result<(), OutOfMemory>
+        ensures { OnOk result (self.new ≡ self.old ++ facts_by table.now (T.content tree.now)
+            process.now call path.now (opening_of table.now process.now call path.now)) }
+    {
+        match opening_of(table, process, call, path) {
+            Some(row) => self.add_opened(tree, table, process, call, path, row),
+            None => self.add_call(tree, table, process, call, path),
+        }
+    }
+
+    /// Adds what a call on a path passes that a promise opens.
+    fn add_opened<T: FileTree>(
+        &mut self,
+        tree: &T,
+        table: &CallTable,
+        process: &Process,
+        call: Call,
+        path: &[u8],
+        row: &Opening,
+    ) -> Result<(), OutOfMemory>
+        ensures { OnOk result (self.new ≡ self.old ++ opened_facts table.now (T.content tree.now)
+            process.now call path.now (opening_seen row.now)) }
+    {
+        self.add(Fact::Opened(promise_of(row)))?;
+        if row.asks_veils {
+            return self.add_object(tree, table, process, call, path);
+        }
+        self.add_named(tree, process, call, path)
+    }
+
+    /// Adds what the path of a call names.
+    fn add_named<T: FileTree>(
+        &mut self,
+        tree: &T,
+        process: &Process,
+        call: Call,
+        path: &[u8],
+    ) -> Result<(), OutOfMemory>
+        ensures { OnOk result (self.new ≡ self.old ++ facts_named Sole
+            (call_trace (T.content tree.now) process.now call path.now) (λ object. [])) }
+    {
+        let mut probe = Counted::new(tree);
+        let (dir, last) = (process.dir(), call.last());
+        self.add_name(&mut probe, Side::Sole, dir, path, ending(call), last)?;
+        Ok(())
+    }
+
+    /// Adds what a call on a path passes by its promises.
     fn add_call<T: FileTree>(
         &mut self,
         tree: &T,
@@ -331,6 +388,16 @@ impl Passed {
         ensures { OnOk result (self.new ≡ self.old ++ fact_seen fact ∷ []) }
     {
         add(&mut self.facts, fact)
+    }
+}
+
+/// The promise of an opening.
+fn promise_of(row: &Opening) -> Promises
+    ensures { result ≡ promise_of_row (opening_seen row.now) }
+{
+    match Promises::read(row.promise.as_bytes()) {
+        Ok(promise) => promise,
+        Err(_) => Promises::NONE,
     }
 }
 

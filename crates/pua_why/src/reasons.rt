@@ -2,20 +2,22 @@
 
 ghost use Rattle.std.specs.Prelude.{◌≡◌, IfOk, None, option_map};
 ghost use Rattle.pua_policy.specs.States.{ProcessState};
-ghost use Rattle.pua_script.specs.Decide.{decide_by};
+ghost use Rattle.pua_script.specs.Decide.{asker_for, asker_past, decide_by};
+ghost use Rattle.pua_script.specs.Openings.{opening_of};
 ghost use Rattle.pua_script.specs.Worlds.{apply_to, world_of};
+ghost use Rattle.pua_script.specs.declared.request.Action.TheVariants.{OnPath};
 ghost use Rattle.pua_why.specs.Checked.{reason_checked, checks_fault, granted_by, refused_by};
 ghost use Rattle.pua_why.specs.Reasons.{change_or_fault, faults, faults_of, reason};
 ghost use Rattle.pua_why.specs.Seen.{fault_seen, reason_seen};
 
-use crate::checks::{call_fault, symlink_fault, unveil_fault};
+use crate::checks::{call_fault, fit_fault, object_fault, symlink_fault, unveil_fault};
 use crate::given::{fork_fault, lock_fault, pledge_fault, process_fault, uses_fault};
 use crate::pairs::{link_fault, rename_fault};
 use crate::told::{Fault, Reason};
-use pua_calls::CallTable;
+use pua_calls::{Call, CallTable};
 use pua_path::{Errno, Links};
 use pua_policy::Process;
-use pua_script::{Action, Answer, World};
+use pua_script::{Action, Answer, World, opening_of};
 use pua_tree::{FileTree, OutOfMemory};
 use std::alloc::Global;
 
@@ -127,13 +129,13 @@ fn fault_of<'s, T: FileTree>(
     action: &'s Action,
 ) -> Result<Option<Fault<'s>>, OutOfMemory>
     ensures { IfOk result (λ fault. option_map fault_seen fault
-        ≡ refused_by (decide_by faults table.now (T.content tree.now) (faults_of process.now)
-        action.now)) }
+        ≡ refused_by (decide_by faults table.now (T.content tree.now)
+        (asker_for table.now process.now action.now (faults_of process.now)) action.now)) }
 {
     let mut links = Links::new(alloc)?;
     match action {
         Action::OnPath(call, path) => {
-            let fault = call_fault(tree, table, process, *call, path.bytes(), &mut links);
+            let fault = asked_fault(tree, table, process, *call, path.bytes(), &mut links);
             Ok(fault)
         }
         Action::Symlink(target, path) => {
@@ -166,8 +168,30 @@ fn fault_of<'s, T: FileTree>(
             )
         }
         Action::Lock => Ok(lock_fault(process)),
-        Action::Exit => Ok(None),
+        Action::Exit | Action::Comment => Ok(None),
         Action::Uses(any) => Ok(uses_fault(process, any.sets())),
         Action::Fork(_) => Ok(fork_fault(process)),
+    }
+}
+
+/// The check of a call on a path that fails. Of one that a promise opens no promises are asked, and
+/// the veils only where its opening asks them.
+fn asked_fault<'s, T: FileTree>(
+    tree: &T,
+    table: &'s CallTable,
+    process: &Process,
+    call: Call,
+    path: &[u8],
+    links: &mut Links,
+) -> Option<Fault<'s>>
+    ensures { option_map fault_seen result
+        ≡ refused_by (decide_by faults table.now (T.content tree.now)
+        (asker_past (opening_of table.now process.now call path.now) (faults_of process.now))
+        (OnPath call path.now)) }
+{
+    match opening_of(table, process, call, path) {
+        None => call_fault(tree, table, process, call, path, links),
+        Some(row) if row.asks_veils => object_fault(tree, table, process, call, path, links),
+        Some(_) => fit_fault(tree, table, process, call, path, links),
     }
 }

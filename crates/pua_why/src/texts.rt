@@ -507,6 +507,7 @@ pub fn push_fact<T: FileTree>(
     ensures tree { paths.new.tree ≡ paths.old.tree }
 {
     match fact {
+        Fact::Opened(promise) => push_opened(alloc, text, *promise),
         Fact::Needs(set) => push_needs(alloc, text, *set),
         Fact::Follows(side, spot) => push_link(text, paths, tree, *side, spot),
         Fact::Names(side, found) => push_named(text, paths, tree, *side, found),
@@ -522,6 +523,15 @@ pub fn push_since(text: &mut String, line: Option<usize>) -> Result<(), AllocErr
         Some(line) => write!(text, " since line {line}"),
         None => Ok(()),
     }
+}
+
+/// Adds which promise opens a call.
+fn push_opened(alloc: Global, text: &mut String, promise: Promises) -> Result<(), AllocError>
+    ensures { OnOk result (string_bytes text.new
+        ≡ string_bytes text.old ++ (codes "opened by " ++ promises_text promise)) }
+{
+    text.push_str("opened by ")?;
+    push_promises(alloc, text, promise)
 }
 
 /// Adds which promises are needed.

@@ -97,6 +97,8 @@ pub enum Reason<'s> {
 /// What a request passed on its way.
 #[derive(Clone, Copy)]
 pub enum Fact {
+    /// This promise opens it.
+    Opened(Promises),
     /// It needs these promises, and they are held.
     Needs(Promises),
     /// A path followed the link at this name of a directory.

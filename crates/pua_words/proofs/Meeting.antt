@@ -35,18 +35,19 @@ alike : {name a b : Text} → name ≡ a → name ≡ b → first a ≡ first b
 alike e n = ap first (sym e ∙ n)
 
 pub objects_read : {E : Type 0} (r : Result (Option Asked) E) (name : Text) (found : Found) → name ≡ codes "objects"
-    → ((ever how why : Bool) → IsFlag found (codes "ever") ever → IsFlag found (codes "how") how → IsFlag found (codes "why") why
-    → IfOk r (λ text. IfSome text (IsListOf ever how why (first_value found (codes "process")))))
-    → ((ever how why : Bool) → IsFlag found (codes "ever") ever → IsFlag found (codes "how") how → IsFlag found (codes "why") why
-    → (processes : Processes) → IsListText (first_value found (codes "process")) processes
-    → IfOk r (λ text. text ≡ list_meant ever how why processes)) → IfOk r (λ text. IfSome text (IsReadAs name found))
+    → ((ever how why images : Bool) → IsFlag found (codes "ever") ever → IsFlag found (codes "how") how → IsFlag found (codes "why") why
+    → IsFlag found (codes "images") images
+    → IfOk r (λ text. IfSome text (IsListOf ever how why images (first_value found (codes "process")))))
+    → ((ever how why images : Bool) → IsFlag found (codes "ever") ever → IsFlag found (codes "how") how → IsFlag found (codes "why") why
+    → IsFlag found (codes "images") images → (processes : Processes) → IsListText (first_value found (codes "process")) processes
+    → IfOk r (λ text. text ≡ list_meant ever how why images processes)) → IfOk r (λ text. IfSome text (IsReadAs name found))
 objects_read (Err e) name found is form meant = tt
 objects_read (Ok None) name found is form meant = tt
 objects_read (Ok (Some text)) name found is form meant = record {
   run = λ n. absurd (let bad : 111 ≡ 114 = alike is n in omega arith);
   tree = λ n. absurd (let bad : 111 ≡ 116 = alike is n in omega arith);
   tight = λ n. absurd (let bad : 111 ≡ 116 = alike is n in omega arith);
-  objects = λ n ever how why e h w. (form ever how why e h w, meant ever how why e h w);
+  objects = λ n ever how why images e h w i. (form ever how why images e h w i, meant ever how why images e h w i);
   why = λ n. absurd (let bad : 111 ≡ 119 = alike is n in omega arith);
   how = λ n. absurd (let bad : 111 ≡ 104 = alike is n in omega arith);
   audit = λ n. absurd (let bad : 111 ≡ 97 = alike is n in omega arith);

@@ -72,7 +72,7 @@ abbrev pub objects_app : Option ValueParser → App
 objects_app rules =
     with_rules
     (with_rules (new_app (codes "objects"))
-    (flag_rule (codes "ever") ∷ flag_rule (codes "how") ∷ flag_rule (codes "why")
+    (flag_rule (codes "ever") ∷ flag_rule (codes "how") ∷ flag_rule (codes "why") ∷ flag_rule (codes "images")
     ∷ by_default (codes "1") (option_rule (codes "process")) ∷ at_rule ∷ [])) (input_rules rules)
 
 abbrev pub why_app : Option ValueParser → Option ValueParser → App

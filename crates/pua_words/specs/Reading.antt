@@ -30,21 +30,25 @@ IsListText text (One process) = IsNumberText text process
 IsListText text (Named numbers) = ⊥
 IsListText text All = text ≡ Some (codes "all")
 
--- the list of these processes: of now or for ever, with the steps of ways or without, with reasons or without
-abbrev pub list_meant : Bool → Bool → Bool → Processes → Option Text
-list_meant ever how why processes =
-    option_map (λ columns. text.List (record { whose = processes; span = span_meant ever; columns = columns })) (columns_meant how why)
+-- the list of these processes: of now or for ever, with the steps of ways or without, with reasons or without, and of what they
+-- were before each program that they started or not
+abbrev pub list_meant : Bool → Bool → Bool → Bool → Processes → Option Text
+list_meant ever how why images processes =
+    option_map (λ columns. text.List (record { whose = processes; span = span_meant ever; columns = columns; images = images }))
+    (columns_meant how why)
 
--- a list is of now or for ever, with the steps of ways, and with reasons, as it was asked, and of the processes that the text has
-abbrev pub IsListOf : Bool → Bool → Bool → Option (List ℕ) → Text → Type 0
-IsListOf ever how why given (text.List words) =
-    (words.span ≡ span_meant ever) × (Some words.columns ≡ columns_meant how why) × IsTextOf given words.whose
-IsListOf ever how why given _ = ⊥
+-- a list is of now or for ever, with the steps of ways, with reasons, and with what processes were before, as it was asked, and of
+-- the processes that the text has
+abbrev pub IsListOf : Bool → Bool → Bool → Bool → Option (List ℕ) → Text → Type 0
+IsListOf ever how why images given (text.List words) =
+    (words.span ≡ span_meant ever) × (Some words.columns ≡ columns_meant how why) × (words.images ≡ images) × IsTextOf given words.whose
+IsListOf ever how why images given _ = ⊥
 
 -- the same, and where the text is one number or `all` it is this list and no other
-abbrev pub IsListRead : Bool → Bool → Bool → Option (List ℕ) → Text → Type 0
-IsListRead ever how why given asked =
-    IsListOf ever how why given asked × ((processes : Processes) → IsListText given processes → Some asked ≡ list_meant ever how why processes)
+abbrev pub IsListRead : Bool → Bool → Bool → Bool → Option (List ℕ) → Text → Type 0
+IsListRead ever how why images given asked =
+    IsListOf ever how why images given asked
+    × ((processes : Processes) → IsListText given processes → Some asked ≡ list_meant ever how why images processes)
 
 abbrev pub IsWhyOf : Found → WhyWords → Type 0
 IsWhyOf found words =
@@ -70,8 +74,8 @@ pub record IsReadAs (name : List ℕ) (found : Found) (text : Text) : Type 0 whe
   pub run : name ≡ codes "run" → (why : Bool) → IsFlag found (codes "why") why → text ≡ run_asked why
   pub tree : name ≡ codes "tree" → text ≡ Tree
   pub tight : name ≡ codes "tight" → (why : Bool) → IsFlag found (codes "why") why → text ≡ tight_asked why
-  pub objects : name ≡ codes "objects" → (ever how why : Bool) → IsFlag found (codes "ever") ever → IsFlag found (codes "how") how
-      → IsFlag found (codes "why") why → IsListRead ever how why (first_value found (codes "process")) text
+  pub objects : name ≡ codes "objects" → (ever how why images : Bool) → IsFlag found (codes "ever") ever → IsFlag found (codes "how") how
+      → IsFlag found (codes "why") why → IsFlag found (codes "images") images → IsListRead ever how why images (first_value found (codes "process")) text
   pub why : name ≡ codes "why" → (words : WhyWords) × (text ≡ Why words) × IsWhyOf found words
   pub how : name ≡ codes "how" → (words : HowWords) × (text ≡ How words) × IsHowOf found words
   pub audit : name ≡ codes "audit" → (words : AuditWords) × (text ≡ Audit words) × IsAuditOf found words

@@ -115,6 +115,8 @@ pub struct ListWords {
     pub span: Time,
     /// What stands after the calls of its lines.
     pub columns: Columns,
+    /// Whether each process is listed also as it was before each program that it started.
+    pub images: bool,
 }
 
 /// To which call a way is asked for, and on what, besides the inputs.

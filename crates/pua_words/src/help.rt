@@ -6,7 +6,7 @@ pub(crate) const PROGRAM_USAGE: &str =
 
 /// How a list of objects is asked for, of now or for ever, in one line.
 pub(crate) const OBJECTS_USAGE: &str =
-    "pua: usage: pua objects [--ever] [--how|--why] [--process P,...|all] [--at N] [--rules profile|openbsd] [--table FILE] TREE SCRIPT";
+    "pua: usage: pua objects [--ever] [--how|--why] [--images] [--process P,...|all] [--at N] [--rules profile|openbsd] [--table FILE] TREE SCRIPT";
 
 /// How it is asked why a request is answered as it is, in one line.
 pub(crate) const WHY_USAGE: &str =
@@ -63,6 +63,8 @@ pub(crate) const RUN_WHY: &str = "Say why, behind each answer that is not ok";
 pub(crate) const EVER_HOW: &str = "Say in how many steps a call comes, with --ever";
 
 pub(crate) const OBJECTS_WHY: &str = "Say by which promises, and by which veil";
+
+pub(crate) const IMAGES: &str = "List it also as it was before each of its execs";
 
 pub(crate) const TIGHT_WHY: &str = "Say by which line each promise and letter is needed";
 
@@ -151,7 +153,8 @@ A fault is a line on standard error. It says, or most often comes from:
                        an unknown keyword or letter; no row may have `error`
   listing: bad header  TREE and SCRIPT are exchanged
   bad line             a tab, two blanks, a blank at the end, a comment or an
-                       empty line; in SCRIPT the process was left out
+                       empty line (both fine in SCRIPT with `--rules openbsd`);
+                       in SCRIPT the process was left out
   bad number           a line was put in, and its number does not rise
   bad parent           a file has this number, or the directory comes later
   bad name, bad target, bad path
@@ -233,7 +236,8 @@ ok, places of veils and the order; = stands where nothing is left of a list.
 With `--why` it prints a line for each of them instead, by the lines of SCRIPT:
   N promises WORD needed by M  of what is left: without it line M would be
                                answered otherwise, and no line before it
-  N promises WORD spare        it is left out
+  N promises WORD spare        it is left out; with `--rules openbsd` the calls
+                               without a path that ask for it stand behind this
 The same with `execpromises` for the second argument of pledge, and with `veil`
 and a letter for unveil.
 
@@ -251,7 +255,8 @@ doing, on what stands at PATH then, wherever it is moved. It prints one of:
   lines of a script     each was answered ok behind SCRIPT, and the last is CALL
                         on this thing: `>> SCRIPT` appends them
   never                 no line of the list for ever has CALL on it: whatever P
-                        and what it forks do, it is granted to none of them
+                        and what it forks do, none of them has the rights for
+                        it; what a promise opens by itself is not among these
   never before an exec  the same, until they start a program; behind `exec open`
   no way found          a line has CALL on it, and there may be a way or none
 This is so as long as nobody else changes the tree. To exec a file that they can
@@ -291,8 +296,9 @@ Prints what `pua run` prints, then `objects P`, then the state of process P:
   execpromises LIST   the same of those of the program that it starts
   unveil locked       or given-up, where it lacks the promise `unveil`; or open:
                       it may put further veils, and the list holds for now alone
-  opening PATH CALLS  with `--rules openbsd`: what a promise opens by itself, of
-                      which no line of an object tells. No veil hides it, unless
+  opening PATH CALLS  with `--rules openbsd`: what a promise opens by itself. No
+                      line of an object tells of it, but that those for ever
+                      have the calls of tmppath. No veil hides it, unless
                       `veils` stands behind it. With a slash at the end of PATH
                       it is each path below
   veil PATH LETTERS   a line for each veil, = for no letters; PATH is where its
@@ -303,6 +309,10 @@ file, prog or link; missing, a name that is not there but has a veil of its own;
 or other, all further names of the directory PATH. The calls stand in one order,
 with commas between them. With `--process 1,2,..` the lists of these processes
 come one after another, and with `--process all` those of all that were made.
+
+With `--images` lists of what these processes were stand before those of now: of
+each line N with an exec of one of them that is ok `objects P before N`, and
+what the list of P has where the lines before N are all of SCRIPT.
 
 With `--ever` the heading is `ever P`, and a line has all calls that can ever be
 allowed on a thing, whatever process P and what it forks do: on what stands at
@@ -342,7 +352,7 @@ Example: pua objects --process all TREE SCRIPT",
   processes P and Q have other veils
                        `--ever` of several is for processes of the same veils
   objects: no list ..  `--how` is for `--ever` of one process, and so is `--why`
-                       with `--ever`"
+                       with `--ever`; `--images` goes with none of the three"
 );
 
 pub(crate) const AUDIT_OUTPUT: &str = with_calls_and_faults!(

@@ -71,8 +71,8 @@ impl From<AllocError> for Stop {
 ///
 /// Where words in a plain form are a command, it is the one that they name, of the inputs that they
 /// name, by the standard rules: `run` and `tight`, with `--why` or without; `tree`; `objects`, with
-/// its other options or without, of process 1, or after these `--process` with a number, several,
-/// or `all`; `why` and `how`, of process 1, with the call and what stands after it; and `audit
+/// `--ever`, `--how` and `--why` or without, of process 1, or after these `--process` with a
+/// number, several, or `all`; `objects --images --process` with the same; `why` and `how`, of process 1, with the call and what stands after it; and `audit
 /// --limit N`, of process 1, from the root, with the names after it. In each but `tight` the
 /// last option may be `--at` with a line's number, 0 to 999,999 in decimal. There each word beside
 /// the options begins with no hyphen.
@@ -201,6 +201,7 @@ fn objects_command<'a>(alloc: Global) -> Built<'a>
     let objects = with(objects, flag(alloc, "ever", help::EVER));
     let objects = with(objects, flag(alloc, "how", help::EVER_HOW));
     let objects = with(objects, flag(alloc, "why", help::OBJECTS_WHY));
+    let objects = with(objects, flag(alloc, "images", help::IMAGES));
     let objects = with(objects, processes(alloc));
     with_inputs(alloc, with(objects, at(alloc)))
 }
@@ -512,17 +513,19 @@ fn tight_of<'a>(why: bool) -> Text<'a>
 /// both with what its calls rest on and with ways.
 fn read_objects<'a>(alloc: Global, found: &ArgMatches<'a>) -> Result<Option<Text<'a>>, AllocError>
     ensures process { IfOk result (λ text. IfSome text AsksSoundly) }
-    ensures list { (ever how why : Bool) → IsFlag (found_of found.now) (codes "ever") ever
+    ensures list { (ever how why images : Bool) → IsFlag (found_of found.now) (codes "ever") ever
         → IsFlag (found_of found.now) (codes "how") how
         → IsFlag (found_of found.now) (codes "why") why
+        → IsFlag (found_of found.now) (codes "images") images
         → (processes : Processes)
         → IsListText (first_value (found_of found.now) (codes "process")) processes
-        → IfOk result (λ text. text ≡ list_meant ever how why processes) }
-    ensures form { (ever how why : Bool) → IsFlag (found_of found.now) (codes "ever") ever
+        → IfOk result (λ text. text ≡ list_meant ever how why images processes) }
+    ensures form { (ever how why images : Bool) → IsFlag (found_of found.now) (codes "ever") ever
         → IsFlag (found_of found.now) (codes "how") how
         → IsFlag (found_of found.now) (codes "why") why
+        → IsFlag (found_of found.now) (codes "images") images
         → IfOk result (λ text. IfSome text
-        (IsListOf ever how why (first_value (found_of found.now) (codes "process")))) }
+        (IsListOf ever how why images (first_value (found_of found.now) (codes "process")))) }
 {
     let columns = columns_of(flag_of(found, "how"), flag_of(found, "why"));
     let whose = read_whose(alloc, found.get_str("process"))?;
@@ -534,6 +537,7 @@ fn read_objects<'a>(alloc: Global, found: &ArgMatches<'a>) -> Result<Option<Text
         whose,
         span,
         columns,
+        images: flag_of(found, "images"),
     })))
 }
 

@@ -4,12 +4,14 @@ package Why::Chain;
 use strict;
 use warnings;
 use Exporter qw(import);
+use Openings qw(opening_for);
+use Tree qw(unspelled);
 use Why::World qw(above fields_of);
 
-our @EXPORT_OK = qw(chain_fault);
+our @EXPORT_OK = qw(chain_fault opening_of_case);
 
 # A letter for the first word of each line behind its side.
-my %LETTER = (needs => 'n', link => 'l', names => 'm', veil => 'v', no => 'v');
+my %LETTER = (needs => 'n', opened => 'o', link => 'l', names => 'm', veil => 'v', no => 'v');
 
 # The lines of a call with one path, with two, and without, that passes all checks.
 my ($ONE, $TWO, $NONE) = ('nl*mv', 'nl*ml*mvv', 'n');
@@ -26,6 +28,15 @@ my %COMES_TO = (
 );
 my %IS_EITHER = map { $_ => 1 } 'missing', 'no directory';
 
+# The opening that a case's request has, by the rules that know of them: its promise, and whether the veils are asked.
+sub opening_of_case {
+    my ($case) = @_;
+    my ($call, @paths) = fields_of($case->{request});
+    return if !$case->{world}->is_openbsd || @paths != 1 || $call =~ /\A(?:fork|exit|uses)\z/;
+    my $state = $case->{world}->state_of($case->{script}, $case->{process});
+    return opening_for($call, unspelled($paths[0]), split /,/, $state->{promises} // '-');
+}
+
 # What is wrong with the lines of a case, without the last: '' for nothing.
 sub chain_fault {
     my ($case, @lines) = @_;
@@ -39,6 +50,9 @@ sub chain_fault {
     my $pattern = $COMES_TO{$kind} ? $COMES_TO{$kind}{$side} : $whole;
     $pattern .= "|$BY_PATH{$side}" if $IS_EITHER{$kind};
     $pattern .= '|n' if $kind eq 'promises' && @paths == 2;
+    my $opening = opening_of_case($case);
+    $pattern =~ tr/n/o/ if $opening;
+    $pattern =~ tr/v//d if $opening && !$opening->{veils};
     return "lines $letters, and not $pattern" if $letters !~ /\A(?:$pattern)\z/;
     for my $place (0 .. $#paths) {
         my $own   = @paths == 1 ? '' : $place == 0 ? 'old: ' : 'new: ';

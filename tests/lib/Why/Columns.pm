@@ -31,7 +31,7 @@ sub columns_fault {
 # An answer goes on with a reason if it isn't ok.
 sub _answer_fault {
     my ($line, $plain) = @_;
-    return $line eq $plain || $plain !~ / ok\z/ && index($line, "$plain ") == 0 ? '' : "it is $plain";
+    return $line eq $plain || $plain !~ / ok(?: by \S+)?\z/ && index($line, "$plain ") == 0 ? '' : "it is $plain";
 }
 
 # What is wrong with a line of a list beside the one without reasons.

@@ -4,7 +4,7 @@ package Why::Facts;
 use strict;
 use warnings;
 use Exporter qw(import);
-use Why::Chain qw(chain_fault);
+use Why::Chain qw(chain_fault opening_of_case);
 use Why::Covers qw(cover_fault veil_fault);
 use Why::World qw(OBSERVER);
 
@@ -32,6 +32,7 @@ sub facts_fault {
 # What is wrong with a fact about the path that names this.
 sub _fact_fault {
     my ($case, $words, $named) = @_;
+    return _opened_fault($case, $1) if $words =~ /\Aopened by (\S+)\z/;
     return _needs_fault($case, $1) if $words =~ /\Aneeds (\S+)\z/;
     return _link_fault($case, $1, $2) if $words =~ /\Alink (\S+) to (\S+)\z/;
     return _name_fault($case, $1, $2) if $words =~ /\Anames (\S+) (\S+)\z/;
@@ -39,6 +40,21 @@ sub _fact_fault {
     return cover_fault($case, $named, '-') if $words eq 'no veils';
     return 'no fact' if $words !~ /\Aveil (\S+) on (\S+) since line (\d+)\z/;
     return cover_fault($case, $named, "$2 $1") || veil_fault($case, "$2 $1", $3);
+}
+
+# The promise opens what is asked for; and where the answer says so too, the request is refused behind a pledge without it.
+sub _opened_fault {
+    my ($case, $promise) = @_;
+    my $opening = opening_of_case($case);
+    return "$promise opens nothing here" if !$opening || $opening->{promise} ne $promise;
+    my $by = $case->{told}{by};
+    return "the answer says by $by" if defined $by && $by ne $promise;
+    return '' if $case->{told}{answer} ne 'ok';
+    my $held = $case->{world}->state_of($case->{script}, $case->{process})->{promises};
+    my $rest = join ',', grep { $_ ne $promise } split /,/, $held;
+    my $pledge = "$case->{process} pledge " . ($rest eq '' ? '=' : $rest) . ' -';
+    my $is_ok = $case->{world}->told([ @{ $case->{script} }, $pledge ], $case->{request})->{answer} eq 'ok';
+    return $is_ok == !defined $by ? '' : $is_ok ? 'without it the answer is ok too' : 'without it the answer is another';
 }
 
 # The promises are held; and behind a pledge of these alone the call isn't without promises, but behind one of these

@@ -92,7 +92,7 @@ sub _high {
 sub _drawn {
     my ($worlds) = @_;
     my $asker   = $worlds->pick(1, 1, 2, 2, 3, 3);
-    my @requests = (@REQUESTS, $worlds->uses ? @WITHOUT_PATH : ());
+    my @requests = (@REQUESTS, $worlds->uses ? @WITHOUT_PATH : (), $worlds->opens ? ('OPENING') x 12 : ());
     my $request = 'ASKER ' . $worlds->pick($worlds->number($SELDOM_IN) ? @requests : @SELDOM);
     my %drawn   = (
         ASKER    => sub { $asker },
@@ -100,6 +100,7 @@ sub _drawn {
         HIGH     => sub { _high($worlds) },
         NAME     => sub { $worlds->name },
         USED     => sub { $worlds->used },
+        OPENING  => sub { $worlds->opened_call },
         CALL     => sub { $worlds->pick(@CALLS, $worlds->{further} ? qw(connect bind bind mknod mknod chown create-rw fchmod fchown) : ()) },
         LETTERS  => sub { $worlds->pick(@LETTERS) },
         PROMISES => sub { $worlds->promises(@PROMISES) },

@@ -64,6 +64,9 @@ sub new {
     }, $class;
 }
 
+# Whether it is by OpenBSD's rules.
+sub is_openbsd { my ($world) = @_; return "@{ $world->{options} }" =~ /--rules openbsd/ ? 1 : 0 }
+
 # How often the program was started for this world, how many altered scripts were compared, and how many of
 # them were answered alike.
 sub counts { my ($world) = @_; return map { $_ => $world->{$_} } qw(starts altered alike) }
@@ -89,10 +92,10 @@ sub _asked {
     return $out;
 }
 
-# The answers to the lines of a script.
+# The answers to the lines of a script, each one word.
 sub answers {
     my ($world, $script) = @_;
-    return map { s/\A\d+ //r } $world->lines_of($script, 'run');
+    return map { (split / /)[1] } $world->lines_of($script, 'run');
 }
 
 # Whether an altered script has these answers, too.
@@ -162,12 +165,12 @@ sub shown {
 
 # What a line with reasons says: answer, reason and since, and of the reason its kind, the side of two paths
 # that it is about, and what it is about. No kind where the reason is none of the list's, or behind another
-# answer.
+# answer. Of what is ok, by which promise it was opened.
 sub told_of {
     my ($line) = @_;
+    return { answer => 'ok', by => $1 } if $line =~ /\A(?:\d+ )?ok by ([a-z]+)\z/;
     my %told;
-    my $opened = qr/, a kernel opens it by [a-z]+/;
-    @told{qw(answer reason since)} = $line =~ /\A(?:\d+ )?(\S+)(?: (.+?))?(?: since line ([1-9]\d*))?(?:$opened)?\z/
+    @told{qw(answer reason since)} = $line =~ /\A(?:\d+ )?(\S+)(?: (.+?))?(?: since line ([1-9]\d*))?\z/
         or die "no line with a reason: $line\n";
     return \%told if !defined $told{reason};
     my ($side, $words) = $told{reason} =~ /\A(?:(old|new): )?(.*)\z/;

@@ -25,12 +25,23 @@ sub spelled {
     return $bytes;
 }
 
-# The requests of a script's text, each as its fields.
+# The fields of a line before its comment; none where that is all of it, or the line is blank. A
+# comment comes after the arguments: by the profile a path may begin with `#`.
+sub fields_of {
+    my ($line) = @_;
+    return if $line =~ /\A *(?:#|\z)/;
+    my (undef, $call) = split / /, $line;
+    my $fields = 1 + ($TAKES{ $call // '' } || 0);
+    return split / /, $line =~ s/\A(\S+(?: \S+){$fields}) +#.*/$1/sr;
+}
+
+# The lines of a script's text, each as its request's fields; none where nobody asks.
 sub requests_of {
     my ($text) = @_;
-    my @requests = map { [split / /] } split /\r?\n/, $text;
+    my @requests = map { [fields_of($_)] } split /\r?\n/, $text;
     for my $number (1 .. @requests) {
         my ($process, $call, @arguments) = @{ $requests[ $number - 1 ] };
+        next if !defined $process;
         die "line $number of the script: no request\n"
             if !defined $call || !defined $TAKES{$call} || @arguments != $TAKES{$call}
             || $process !~ /\A[1-9][0-9]*\z/;
@@ -179,14 +190,14 @@ sub perform {
     return ($answers, $left);
 }
 
-# The answers to requests in a directory. Each process is told its calls by a pipe of its own, and
-# all of them answer by one; who is gone without an answer was killed.
+# The answers to requests in a directory, undef where nobody asks. Each process is told its calls by
+# a pipe of its own, and all of them answer by one; who is gone without an answer was killed.
 sub answers_to {
     my ($requests, $root, $helper) = @_;
     local $^F = 255;    # pipes stay open when the helper is started
     local $SIG{PIPE} = 'IGNORE';
     my %to;
-    for my $number (1, map { $_->[1] eq 'fork' ? $_->[2] : () } @$requests) {
+    for my $number (1, map { @$_ && $_->[1] eq 'fork' ? $_->[2] : () } @$requests) {
         next if $to{$number};
         pipe my $from, my $into or die "pipe: $!\n";
         $into->autoflush(1);
@@ -199,7 +210,7 @@ sub answers_to {
     close $teller;
     close $_->[0] for values %to;
     my $run = { pid => { 1 => $child }, used => { 1 => 1 }, to => \%to, from => $from, held => '' };
-    my @answers = map { answer_to($run, @$_) } @$requests;
+    my @answers = map { @$_ ? answer_to($run, @$_) : undef } @$requests;
     close $_->[1] for values %to;
     close $from;
     waitpid $child, 0;

@@ -170,8 +170,9 @@ fn taken_in(alloc: Global, rows: &[Row]) -> Result<Vec<Name>, AllocError> {
 }
 
 impl<'t> Planner<'t> {
-    /// Walks all that stands or could stand in a tree, by the veils of a process. The only error is
-    /// that a growth was refused.
+    /// Walks all that stands or could stand in a tree, by the veils of a process. Where tmppath
+    /// opens calls, plans may have them on any path: what they come to is seen when they are
+    /// served. The only error is that a growth was refused.
     pub fn new<T: FileTree>(
         alloc: Global,
         tree: &'t T,
@@ -183,7 +184,7 @@ impl<'t> Planner<'t> {
         Ok(Planner {
             alloc,
             process,
-            table: *table,
+            table: table.with_tmppath(),
             veils: veils_of(alloc, rows.as_slice(), process)?,
             taken: taken_in(alloc, rows.as_slice())?,
             rows,

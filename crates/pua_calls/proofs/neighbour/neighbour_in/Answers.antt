@@ -1,8 +1,7 @@
-use Rattle.pua_calls.proofs.Common.{◌≡◌, ◌∙◌, ap, sym, rules, tests, YieldsList-from_slice, same_bytes, Option}
+use Rattle.pua_calls.proofs.Common.{◌≡◌, ◌∙◌, ap, sym, rules, tests, YieldsList-from_slice, same_bytes}
 use Rattle.std.proofs.Common.{option_map}
 use Rattle.std.specs.Prelude.{find}
 use Rattle.std.proofs.lemmas.Iterator.Search.{find_from_yields_List}
-use Rattle.pua_calls.specs.declared.call.Call.{Call}
 use Rattle.pua_calls.proofs.Neighbours.{neighbour_seen}
 use Rattle.pua_calls.proofs.neighbour.neighbour_in.Goals as goal
 

@@ -1,4 +1,4 @@
-use Rattle.pua_ever.proofs.Common.{◌≡◌, ◌∙◌, ap, subst, sym, None, Some, option_map, At, Slot, Stands, None≢Some, same_Some}
+use Rattle.pua_ever.proofs.Common.{◌∙◌, ap, subst, sym, None, option_map, At, Slot, Stands, None≢Some, same_Some}
 use Rattle.pua_ever.specs.Comings.{as_list, places_on}
 use Rattle.pua_ever.specs.EverList.{IsAboutOn, thing_by}
 use Rattle.pua_ever.specs.declared.list.EverAbout.TheVariants.{Freed}

@@ -1,6 +1,5 @@
-use Rattle.pua_ever.proofs.Common.{◌≡◌, ◌∙◌, ap, sym, look, option_map, At, Others, Slot, Top, Whole, None≢Some, same_Some}
+use Rattle.pua_ever.proofs.Common.{◌∙◌, ap, sym, look, option_map, At, Others, Slot, Top, Whole, None≢Some, same_Some}
 use Rattle.pua_ever.specs.EverList.{subject_at}
-use Rattle.pua_ever.specs.declared.list.EverPlace.TheVariants as place
 use Rattle.pua_ever.proofs.ComingRows.{named_under, others_under, slot_under, whole_under}
 use Rattle.pua_ever.proofs.comings.place_under.Goals as goal
 

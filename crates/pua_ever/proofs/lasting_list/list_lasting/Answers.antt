@@ -4,7 +4,7 @@ use Rattle.std.specs.Option.{option_copied}
 use Rattle.pua_ever.specs.EverList.{AreEverTold}
 use Rattle.pua_ever.specs.LastingList.{IsBoundedExecOf}
 use Rattle.pua_ever.specs.Through.{has_exec}
-use Rattle.pua_ever.proofs.Chosen.{lasting_through, lasting_unbounded, lasting_unstarted, starts_bounded, starts_open, starts_unlisted}
+use Rattle.pua_ever.proofs.Chosen.{lasting_through, lasting_unbounded, lasting_unstarted, starts_bounded, starts_none, starts_open}
 use Rattle.pua_ever.proofs.lasting_list.list_lasting.Goals as goal
 
 pub returns-then-not-some_exec-clause-list : goal.returns-then-not-some_exec-clause-list
@@ -18,7 +18,7 @@ returns-then-not-some_exec-clause-list g c = λ whose.
     ∙ c.if-not-some_exec.true in
     record {
       rows = subst (λ lines. AreEverTold t [] c.in_ok-rows.rows.items lines []) (sym (lasting_unstarted t table h none)) told;
-      execs = c.in_ok-execs.ensures.execs ∙ sym (starts_unlisted t table h none);
+      execs = sym (starts_none t table h none);
       items = c.in_ok-rows.ensures.items;
     }
 
@@ -64,11 +64,6 @@ returns-in_err-rows-clause-refused g c =
 
 pub returns-then-not-some_exec-clause-refused : goal.returns-then-not-some_exec-clause-refused
 returns-then-not-some_exec-clause-refused g c = λ whose. c.in_ok-rows.ensures.refused
-
-pub returns-in_err-execs-clause-refused : goal.returns-in_err-execs-clause-refused
-returns-in_err-execs-clause-refused g c =
-    let p = err_from_is_err_and c.from_residual-in_err-execs.result c.from_residual-in_err-execs.ensures.1 in
-    rw (p.1, p.2) (λ whose. c.in_ok-rows.ensures.refused ∙ sym c.in_err-execs.ensures.unrefused)
 
 pub returns-in_default-clause-refused : goal.returns-in_default-clause-refused
 returns-in_default-clause-refused g c = λ whose. c.in_ok-rows.ensures.refused

@@ -42,5 +42,27 @@ returns-in-Uses-clause-exact g c =
     ∙ sym (ap (decide c.args.table.now t c.args.process.now) c.in-Uses.is)) _ _
     c.answer-in-Uses.result c.answer-in-Uses.ensures.exact
 
+pub returns-in-Comment-clause-exact : goal.returns-in-Comment-clause-exact
+returns-in-Comment-clause-exact g c =
+    let t = g.T.FileTree.content c.args.tree.now in
+    acts c.args.table.now t c.args.process.now c.args.action.now (Ok granted.NoChange)
+    (sym (ap (decide c.args.table.now t c.args.process.now) c.in-Comment.is)) _ _ c.answer-in-Comment.result
+    c.answer-in-Comment.ensures.exact
+
 pub returns-in-Unveil-clause-exact : goal.returns-in-Unveil-clause-exact
 returns-in-Unveil-clause-exact g c = rw (c.in-Unveil.is, ← c.bytes-in-Unveil.ensures) c.unveil.ensures.exact
+
+pub returns-in-OnPath-clause-exact : goal.returns-in-OnPath-clause-exact
+returns-in-OnPath-clause-exact g c = rw (c.in-OnPath.is, ← c.bytes.ensures) c.call_on.ensures.exact
+
+pub returns-in-Symlink-clause-exact : goal.returns-in-Symlink-clause-exact
+returns-in-Symlink-clause-exact g c =
+    rw (c.in-Symlink.is, ← c.bytes-in-Symlink.ensures, ← c.bytes-in-Symlink-2.ensures) c.symlink.ensures.exact
+
+pub returns-in-Rename-clause-exact : goal.returns-in-Rename-clause-exact
+returns-in-Rename-clause-exact g c =
+    rw (c.in-Rename.is, ← c.bytes-in-Rename.ensures, ← c.bytes-in-Rename-2.ensures) c.rename.ensures.exact
+
+pub returns-in-Link-clause-exact : goal.returns-in-Link-clause-exact
+returns-in-Link-clause-exact g c =
+    rw (c.in-Link.is, ← c.bytes-in-Link.ensures, ← c.bytes-in-Link-2.ensures) c.link.ensures.exact

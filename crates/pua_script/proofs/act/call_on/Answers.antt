@@ -1,12 +1,11 @@
-use Rattle.pua_script.proofs.Common.{sym, ap, ◌∙◌, OnPath}
-use Rattle.std.specs.Prelude.{Err}
-use Rattle.std.specs.Result.{result_err}
-use Rattle.pua_script.proofs.Acting.{acts}
-use Rattle.pua_script.proofs.Doing.{promises_refuse}
+use Rattle.pua_script.proofs.Common.{sym, ap, ◌∙◌, option_map}
+use Rattle.pua_script.specs.Openings.{opening_seen}
 use Rattle.pua_script.proofs.act.call_on.Goals as goal
 
-pub returns-in-Err-clause-exact : goal.returns-in-Err-clause-exact
-returns-in-Err-clause-exact g c =
-    acts c.args.table.now _ c.args.process.now (OnPath c.args.call c.args.path.now) (Err c.in-Err.refusal)
-    (sym (promises_refuse _ c.in-Err.refusal _ (sym c.promised_for.ensures.state ∙ ap result_err c.in-Err.is)))
-    _ _ c.answer.result c.answer.ensures.exact
+pub returns-in-Some-clause-exact : goal.returns-in-Some-clause-exact
+returns-in-Some-clause-exact g c =
+    c.opened.ensures.exact (sym c.opening_of.ensures ∙ ap (option_map (λ row. opening_seen row.now)) c.in-Some.is)
+
+pub returns-in-None-clause-exact : goal.returns-in-None-clause-exact
+returns-in-None-clause-exact g c =
+    c.asked.ensures.exact (sym c.opening_of.ensures ∙ ap (option_map (λ row. opening_seen row.now)) c.in-None.is)

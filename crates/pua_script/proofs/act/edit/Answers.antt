@@ -7,20 +7,19 @@ use Rattle.pua_script.specs.Decide.{Decision, change_by, if_named}
 use Rattle.pua_script.specs.Judged.{edit_by, spot_now}
 use Rattle.pua_script.specs.declared.granted.Granted.TheVariants as granted
 use Rattle.pua_script.proofs.Acting.{acts}
-use Rattle.pua_script.proofs.Doing.{promises_allow}
 use Rattle.pua_script.proofs.Editing.{edits_by, nowhere, at_spot}
 use Rattle.pua_script.proofs.act.edit.Goals as goal
 
 pub returns-in-Err-clause-exact : goal.returns-in-Err-clause-exact
-returns-in-Err-clause-exact g c = λ allowed kind.
+returns-in-Err-clause-exact g c = λ whole kind.
     let further : Found → Decision = λ object. Ok (change_by c.args.table.now c.args.call object) in
     acts c.args.table.now _ c.args.process.now (OnPath c.args.call c.args.path.now) (Err (Failed c.in-Err.errno))
     (ap (λ r. if_named (founds_seen r) further) (sym c.in-Err.is) ∙ sym (c.judge_object.ensures further)
-    ∙ sym (promises_allow _ _ allowed))
+    ∙ sym whole)
     _ _ c.answer.result c.answer.ensures.exact
 
 pub returns-in-None-clause-exact : goal.returns-in-None-clause-exact
-returns-in-None-clause-exact g c = λ allowed kind.
+returns-in-None-clause-exact g c = λ whole kind.
     let further : Found → Decision = λ object. Ok (change_by c.args.table.now c.args.call object) in
     let object = found_seen c.in-Ok.lent in
     acts c.args.table.now _ c.args.process.now (OnPath c.args.call c.args.path.now) (Ok granted.NoChange)
@@ -28,11 +27,11 @@ returns-in-None-clause-exact g c = λ allowed kind.
     ∙ ap (λ s. edit_by c.args.call s (node_named object)) (ap (option_map spot_now) (sym c.in-None.is) ∙ c.spot_named.ensures)
     ∙ edits_by c.args.table.now c.args.call object kind)
     ∙ ap (λ r. if_named (founds_seen r) further) (sym c.in-Ok.is) ∙ sym (c.judge_object.ensures further)
-    ∙ sym (promises_allow _ _ allowed))
+    ∙ sym whole)
     _ _ c.answer-in-None.result c.answer-in-None.ensures.exact
 
 pub returns-clause-exact : goal.returns-clause-exact
-returns-clause-exact g c = λ allowed kind.
+returns-clause-exact g c = λ whole kind.
     let further : Found → Decision = λ object. Ok (change_by c.args.table.now c.args.call object) in
     let object = found_seen c.in-Ok.lent in
     acts c.args.table.now _ c.args.process.now (OnPath c.args.call c.args.path.now) (Ok c.editing.result)
@@ -42,5 +41,5 @@ returns-clause-exact g c = λ allowed kind.
     c.node_named-there.ensures
     ∙ edits_by c.args.table.now c.args.call object kind)
     ∙ ap (λ r. if_named (founds_seen r) further) (sym c.in-Ok.is) ∙ sym (c.judge_object.ensures further)
-    ∙ sym (promises_allow _ _ allowed))
+    ∙ sym whole)
     _ _ c.answer-2.result c.answer-2.ensures.exact

@@ -1,4 +1,4 @@
-use Rattle.pua_script.proofs.Common.{ap, ◌∙◌}
+use Rattle.pua_script.proofs.Common.{◌∙◌}
 use Rattle.pua_path.specs.Resolution.{resolution}
 use Rattle.pua_script.proofs.Fronts.{named_plain}
 use Rattle.pua_script.proofs.judged.named_lent.Goals as goal

@@ -50,13 +50,13 @@ returns g c s done at told are dated =
     append-nil (string_bytes c.loop-fact.text) in
     let Says : WorldState → Asked → Type 0 = λ v ask. c.args.answer ≡ (apply_to v ask).0 → string_bytes c.push_answer.new.text ≡ string_bytes c.loop-fact.text
     ++ (answer_words v.table (world_of v) ask
-    ++ reason_tail c.args.rules v.table (world_of v) ask (date_of (reason v.table (world_of v) ask) c.args.dates.now.answer)) in
+    ++ reason_tail v.table (world_of v) ask (date_of (reason v.table (world_of v) ask) c.args.dates.now.answer)) in
     let answered : Says (state_after_all s done) c.args.request.now =
     subst (λ (X : Type 0). X) (λ i. Says (at i) (same i)) c.in_ok-push_answer.ensures in
     c.in_ok-push_str-2.ensures.bytes
     ∙ ap (λ text. text ++ 10 ∷ []) (answered told)
     ∙ append_assoc (string_bytes c.loop-fact.text) _ (10 ∷ [])
-    ∙ chained c.args.rules s.table (world_of s) done c.args.request.now (map fact_seen c.args.passed.now) c.args.dates.now t
+    ∙ chained s.table (world_of s) done c.args.request.now (map fact_seen c.args.passed.now) c.args.dates.now t
     (string_bytes c.loop-fact.text) (ap (λ v. v.tree) at) are dated (sym so_far)
   where
     by : (iter_rest c.loop-fact.fact-iterator.a ≡ []) ⊎ (iter_rest c.loop-fact.fact-iterator.b ≡ []) →

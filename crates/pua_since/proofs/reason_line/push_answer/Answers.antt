@@ -1,29 +1,20 @@
-use Rattle.pua_since.proofs.Common.{◌≡◌, ◌∙◌, ap, sym, ◌++◌, string_bytes, Asked, world_of}
+use Rattle.pua_since.proofs.Common.{◌∙◌, ap, sym, ◌++◌, string_bytes, Asked, world_of, date_of, reason}
 use Rattle.std.proofs.lemmas.Result.{on_ok_weaker}
-use Rattle.pua_script.specs.AnswerTexts.{answer_text}
-use Rattle.pua_why.specs.Seen.{reason_seen}
-use Rattle.pua_why.specs.Texts.{reason_text, since_text, spaced_words}
-use Rattle.pua_why.proofs.ForCallers.{pushed_so}
-use Rattle.pua_since.proofs.Answered.{okay_told, told_in_parts}
+use Rattle.pua_since.proofs.Answered.{okay_told, undone_told}
 use Rattle.pua_since.proofs.reason_line.push_answer.Goals as goal
 
 pub returns-in-Okay : goal.returns-in-Okay
-returns-in-Okay g c = pushed_so c.push_str.result _ _ _ c.push_str.ensures.bytes λ pushed told.
+returns-in-Okay g c =
     let ask : Asked = record { process = c.args.process; action = c.args.action.now } in
-    pushed ∙ ap (λ text. string_bytes c.args.text.now ++ text) (sym (okay_told c.args.rules c.args.world.now.table (world_of c.args.world.now) ask c.args.line (sym c.in-Okay.is ∙
-    told)))
+    on_ok_weaker c.push_okay.result (λ pushed told.
+    pushed ∙ ap (λ text. string_bytes c.args.text.now ++ text)
+    (sym (okay_told c.args.world.now.table (world_of c.args.world.now) ask c.args.line (sym c.in-Okay.is ∙ told)))) c.push_okay.ensures
 
-pub returns : goal.returns
-returns g c =
+pub returns-in_default : goal.returns-in_default
+returns-in_default g c =
     let ask : Asked = record { process = c.args.process; action = c.args.action.now } in
-    let dated : string_bytes c.push_since.new.text ≡ string_bytes c.push_words.new.text ++ since_text c.date_of.result =
-    c.in_ok-push_since.ensures in
-    let answered : string_bytes c.write.new.self ≡ string_bytes c.args.text.now ++ answer_text c.args.answer =
-    c.in_ok-write.ensures.bytes in
-    let worded : string_bytes c.push_words.new.text ≡ string_bytes c.write.new.self
-    ++ spaced_words (reason_text c.args.world.now.tree (reason_seen c.in-Ok.reason)) = c.in_ok-push_words.ensures in
-    on_ok_weaker c.push_opener.result (λ opened told.
-    told_in_parts c.args.rules c.args.world.now.table (world_of c.args.world.now) ask c.args.line c.args.answer (reason_seen c.in-Ok.reason)
-    (string_bytes c.args.text.now) (string_bytes c.write.new.self) (string_bytes c.push_words.new.text) (string_bytes c.push_since.new.text)
-    (string_bytes c.push_opener.new.text) told (c.in-Ok.ensures told) answered worded
-    (dated ∙ ap (λ line. string_bytes c.push_words.new.text ++ since_text line) c.date_of.ensures) opened) c.push_opener.ensures
+    let table = c.args.world.now.table in
+    let w = world_of c.args.world.now in
+    on_ok_weaker c.push_undone.result (λ pushed told.
+    pushed told ∙ ap (λ text. string_bytes c.args.text.now ++ text)
+    (undone_told table w ask (date_of (reason table w ask) c.args.line) c.args.answer c.in_default.not-Okay told)) c.push_undone.ensures

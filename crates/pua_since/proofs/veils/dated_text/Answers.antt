@@ -5,7 +5,7 @@ use Rattle.pua_since.proofs.Veiled.{veils_at}
 use Rattle.pua_since.proofs.veils.dated_text.Goals as goal
 
 pub returns : goal.returns
-returns g c read told =
+returns g c rules read told =
     let table : CallTable = c.args.world.now.table in
     let w = world_of c.args.world.now in
     let asks = c.args.requests.now in
@@ -15,7 +15,7 @@ returns g c read told =
     in
     let places : ArePlacesOf c.watch_lines.new.watches.watches.items 0 asks c.args.answers.now c.as_slice.result.now =
     subst (λ at. ArePlacesOf c.watch_lines.new.watches.watches.items 0 asks c.args.answers.now at) (sym c.as_slice.ensures.value)
-    (c.in_ok-places.ensures.places c.args.rules read told) in
+    (c.in_ok-places.ensures.places rules read told) in
     let served : AreWatched table w asks [] kept = c.in_ok-text.ensures.watched told placed in
     let own : AreVeilsAt kept.watches.items (length asks) (map veil_seen c.args.veils.now) c.in_ok-own.own.items =
     veils_kept c.watch_veils.new.watches.watches.items kept.watches.items (length asks)

@@ -1,4 +1,4 @@
-use Rattle.pua_texts.proofs.Common.{List, ℕ, [], Ok, Err, refl, sym, ap, subst, ◌∙◌, err_from_is_err_and, Tree, Passes}
+use Rattle.pua_texts.proofs.Common.{[], Ok, Err, refl, sym, ap, subst, ◌∙◌, err_from_is_err_and, Tree, Passes}
 use Rattle.std.proofs.lemmas.List.{nil_from_length}
 use Rattle.pua_texts.specs.ListLines.{list_text, lists_text}
 use Rattle.pua_texts.proofs.Passing.{passes_none, passes_front, passing_fails, passing_last, passing_more}
@@ -8,8 +8,7 @@ pub returns-in_err-add_text : goal.returns-in_err-add_text
 returns-in_err-add_text g c =
     let p = err_from_is_err_and c.from_residual.result c.from_residual.ensures.1 in
     rw p.1 (passes_front c.args.front.now (lists_text c.args.places.now.tree c.args.lists.now.items) _ [] [] p.0 _ _ _ _
-    (subst (λ (t : List ℕ). Passes t (Err p.0) c.args.block.now [] (g.S.Sink.written c.args.sink.now) (g.S.Sink.written c.add_text.new.sink)
-    (g.S.Sink.failed c.args.sink.now) (g.S.Sink.failed c.add_text.new.sink)) c.as_bytes.ensures.value c.in_err-add_text.ensures))
+    c.in_err-add_text.ensures)
 
 pub loop-list-init : goal.loop-list-init
 loop-list-init g c = record {
@@ -17,9 +16,7 @@ loop-list-init g c = record {
   lists = record {
     done = c.args.front.now;
     parts = refl;
-    passes = subst (λ (t : List ℕ). Passes t (Ok tt) c.args.block.now c.add_text.new.self (g.S.Sink.written c.args.sink.now)
-        (g.S.Sink.written c.add_text.new.sink) (g.S.Sink.failed c.args.sink.now) (g.S.Sink.failed c.add_text.new.sink))
-        c.as_bytes.ensures.value c.in_ok-add_text.ensures;
+    passes = c.in_ok-add_text.ensures;
   };
 }
 

@@ -10,7 +10,7 @@ loop-place-init c = c.new-text.ensures.items
 
 pub loop-place-preserved : goal.loop-place-preserved
 loop-place-preserved c =
-    text_step (λ line. line.now) c.deref-line-items.result.now c.args.requests.now c.loop-place.place
+    text_step (λ line. line.now) c.deref-line-items.result.now c.args.rules c.args.requests.now c.loop-place.place
     _ _ _ _ _ c.loop-place-test.true c.loop-place.invariant
     (elim c.if-place-gt0.branch [
       | then-place-gt0+in_ok-push w ↦ inl (w.if-place-gt0.true, ap (λ t. t.items) w.text-is ∙ w.in_ok-push.ensures.items)
@@ -20,6 +20,6 @@ loop-place-preserved c =
 pub returns : goal.returns
 returns c =
     c.loop-place.invariant
-    ∙ text_done (λ line. line.now) c.deref-line-items.result.now c.args.requests.now c.loop-place.place c.loop-place-test.false
-    ∙ ap (λ ls. join_with_byte 10 (lines_text c.args.requests.now ls))
+    ∙ text_done (λ line. line.now) c.deref-line-items.result.now c.args.rules c.args.requests.now c.loop-place.place c.loop-place-test.false
+    ∙ ap (λ ls. join_with_byte 10 (lines_text c.args.rules c.args.requests.now ls))
     (ap (map (λ line. line.now)) c.deref-line-items.ensures.value ∙ c.in_ok-lines.ensures)

@@ -6,4 +6,4 @@ use Rattle.pua_tight.proofs.text.thinned_text.Given as goal
 -- the lines so far
 abbrev pub invariant-loop-place : goal.invariant-loop-place
 invariant-loop-place l =
-    l.text.items ≡ join_with_byte 10 (take l.place (lines_text l.requests (map (λ line. line.now) l.line-items)))
+    l.text.items ≡ join_with_byte 10 (take l.place (lines_text l.rules l.requests (map (λ line. line.now) l.line-items)))

@@ -16,4 +16,4 @@ returns-clause-done c =
     text_made c.args.rules c.args.table.now wanted.table.now c.args.tree_bytes.now c.args.script_bytes.now wanted.tree wanted.answers.items
     c.in_ok-wanted.requests.items c.tighten.new.requests.items c.in_ok-wanted.ensures.table c.in_ok-wanted.ensures.given
     c.in_ok-tighten.ensures c.in_ok-thinned_text.field-0.items
-    (c.in_ok-thinned_text.ensures ∙ ap (λ l. thinned_text l c.args.script_bytes.now) c.as_slice.ensures.value)
+    (c.in_ok-thinned_text.ensures ∙ ap (λ l. thinned_text c.args.rules l c.args.script_bytes.now) c.as_slice.ensures.value)

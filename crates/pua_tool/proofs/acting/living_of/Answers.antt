@@ -1,5 +1,5 @@
 use Rattle.pua_tool.proofs.Common.{◌++◌, List, sym, ap, ◌∙◌, arith}
-use Rattle.std.proofs.Common.{append-nil, drop}
+use Rattle.std.proofs.Common.{append-nil}
 use Rattle.std.proofs.Math.ListN.{drop_of_length-le}
 use Rattle.pua_texts.specs.Members.{named_by}
 use Rattle.pua_texts.specs.TogetherLines.{living}

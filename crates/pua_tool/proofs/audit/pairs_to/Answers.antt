@@ -1,3 +1,4 @@
+use Rattle.pua_tool.proofs.Common.{map, line_seen}
 use Rattle.pua_tool.proofs.Common.{◌≡◌, ℕ, List, ◌++◌, Ok, Err, ap, subst, sym, ◌∙◌, err_from_is_err_and, ◌>>=◌, kept_at, Tells, as_audit}
 use Rattle.pua_tool.proofs.Common.{as_replayed}
 use Rattle.std.specs.Prelude.{ok_or}
@@ -30,7 +31,7 @@ returns g c =
     let same : beginning_of done.world.tree done.table h w ≡ Ok b =
     (λ i. beginning_of (sym c.tree.ensures i) (sym c.table.ensures i) h w) ∙ begins.1 in
     let front : c.as_str.result.now ≡ front_of w.after w.process done.answers = c.as_str.ensures.value ∙ c.in-Ok.ensures ∙
-    ap (front_of w.after w.process) c.as_slice.ensures.value in
+    ap (λ told. front_of w.after w.process (map line_seen told)) c.as_slice.ensures.value in
     let text = pairs_after w done.answers b in
     let written : Tells text c.write_audit.result (g.S.Sink.written c.args.sink.now) (g.S.Sink.written c.write_audit.new.sink)
     (g.S.Sink.failed c.args.sink.now) (g.S.Sink.failed c.write_audit.new.sink) =

@@ -1,10 +1,10 @@
-use Rattle.pua_tool.proofs.Common.{◌≡◌, ℕ, ◌∷◌, ◌++◌, [], ◌∙◌, List, ap, arith, map, subst, sym, with_end}
+use Rattle.pua_tool.proofs.Common.{ℕ, ◌∷◌, ◌++◌, [], ◌∙◌, List, ap, arith, map, subst, sym, with_end}
 use Rattle.std.proofs.Common.{◌+◌, take}
 use Rattle.std.proofs.lemmas.List.{map-append, take_all}
 use Rattle.std.specs.Prelude.{string_bytes}
+use Rattle.pua_calls.specs.TmpTable.{tmp_table}
 use Rattle.pua_ever.specs.EverLines.{line_with}
 use Rattle.pua_ever.specs.EverList.{IsRowOn}
-use Rattle.pua_ever.specs.Comings.{places_on}
 use Rattle.pua_texts.specs.WhyLines.{world_left}
 use Rattle.pua_tool.specs.EverColumns.{AreTexts, IsTextOf}
 use Rattle.pua_tool.specs.EverWhyTexts.{column_on}
@@ -26,7 +26,7 @@ loop-row-preserved g c =
           λ about is.
           c.in_ok-column.ensures p number h holder execs ruled are
           ∙ ap (λ places. with_end (column_on p number h execs places (line_with [] about row.line).calls))
-          (under_there (g.T.FileTree.content c.args.tree.now) t c.args.table.now p.table holder row about c.comes_under-under.result same ruled
+          (under_there (g.T.FileTree.content c.args.tree.now) t c.args.table.now (tmp_table p.table) holder row about c.comes_under-under.result same ruled
           (c.comes_under-under.ensures about) here is) in
           subst (λ (texts : List (List ℕ)). AreTexts p number h holder execs (take (i + 1) rows) texts)
           (sym (ap (map string_bytes) c.in_ok-push.ensures.items ∙ map-append string_bytes c.loop-row.columns.items (c.in_ok-column.column ∷ [])))

@@ -1,5 +1,3 @@
-use Rattle.pua_tool.proofs.Common.{◌∙◌, ap}
-use Rattle.std.specs.Prelude.{not}
 use Rattle.pua_tool.proofs.EverColumns.{has_some_is}
 use Rattle.pua_tool.proofs.ever_columns.has_some.Goals as goal
 

@@ -1,11 +1,10 @@
-use Rattle.pua_tool.proofs.Common.{◌≡◌, ℕ, ◌∷◌, ◌++◌, [], List, ◌∙◌, ap, arith, map, refl, subst, sym, ProcessState}
+use Rattle.pua_tool.proofs.Common.{◌∷◌, ◌++◌, [], ◌∙◌, ap, arith, map, refl, subst, sym}
 use Rattle.std.proofs.Common.{◌+◌, get_or, None, take}
 use Rattle.std.proofs.lemmas.List.{take_all}
 use Rattle.std.specs.List.{AllZip}
-use Rattle.std.specs.Prelude.{string_bytes}
 use Rattle.pua_calls.specs.Calls.{rule_of}
+use Rattle.pua_calls.specs.TmpTable.{tmp_table}
 use Rattle.pua_calls.specs.Promises.{holds}
-use Rattle.pua_policy.specs.declared.place.Place.{Place}
 use Rattle.pua_texts.specs.WhyLines.{world_left}
 use Rattle.pua_tool.specs.EverColumns.{IsKept, dated_text}
 use Rattle.pua_tool.specs.declared.ever_columns.Kept.{Kept}
@@ -34,7 +33,7 @@ loop-veil-preserved g c =
           let own : IsKept p number holder (shown veil) kept = record {
             place = refl;
             lets = λ call. c.let_through-lets.ensures call ∙ ap (λ table. holds veil.1.now (rule_of table call).perms) ruled;
-            taking = c.taking-taking.ensures t p.table holder comings;
+            taking = c.taking-taking.ensures t (tmp_table p.table) holder comings;
             text = c.in_ok-text.ensures.text ∙ (λ j. dated_text ((now.tree ∙ same) j) veil.0.now veil.1.now (line j));
           } in
           subst (λ ks. AllZip (IsKept p number holder) (map shown (take (i + 1) veils)) ks) (sym c.in_ok-push.ensures.items)

@@ -1,8 +1,10 @@
+use Rattle.pua_tool.proofs.Common.{line_seen}
 use Rattle.pua_tool.proofs.Common.{◌≡◌, ◌≢◌, ℕ, List, [], ◌++◌, ◌∙◌, map, ap, sym, subst, refl, None, Ok, ProcessState, Tree, CallTable}
 use Rattle.pua_tool.proofs.Common.{answer_lines, err_from_is_err_and, OutOfMemory, Write, unless_reason, AnswersTo}
 use Rattle.std.specs.List.{AllByRecursion}
 use Rattle.std.specs.Prelude.{string_bytes}
 use Rattle.pua_tree.specs.Tree.{WellFormed}
+use Rattle.pua_calls.specs.TmpTable.{tmp_table}
 use Rattle.pua_ever.specs.EverList.{IsRowOn}
 use Rattle.pua_ever.specs.LastingList.{IsBoundedExecOf, IsLasting}
 use Rattle.pua_ever.specs.Refusals.{refusal}
@@ -13,6 +15,7 @@ use Rattle.pua_tool.specs.RowColumns.{AreColumns, done_behind}
 use Rattle.pua_tool.specs.declared.fault.ToolFault.TheVariants.{NoProcess}
 use Rattle.pua_tool.proofs.EverHowTexts.{fault_after, list_after, no_process, refused_after}
 use Rattle.pua_tool.proofs.RowColumns.{columns_told, lines_told}
+use Rattle.pua_tool.proofs.TmpTables.{refused_too}
 use Rattle.pua_tool.proofs.ever_how.list_to.Goals as goal
 
 pub returns-in_default : goal.returns-in_default
@@ -39,8 +42,10 @@ returns-in-Err g c =
     let n : ℕ = behind.number in
     let fault = c.fault_of.result in
     let h = c.in-Some.process.now in
-    let whose = subst (IsBoundedExecOf c.table-table.result.now h) (sym c.as_ref.ensures.value) c.in_ok-both.ensures in
-    let reason = (λ i. refusal (sym c.table-table.ensures i) h) ∙ c.in-Err.ensures.refused whose in
+    let wide : CallTable = c.with_tmppath-wide.result in
+    let ruled : wide ≡ tmp_table done.table = c.with_tmppath-wide.ensures ∙ ap tmp_table c.table.ensures in
+    let whose = subst (IsBoundedExecOf wide h) (sym c.as_ref.ensures.value) c.in_ok-both.ensures in
+    let reason = sym (refused_too done.table h) ∙ (λ i. refusal (sym ruled i) h) ∙ c.in-Err.ensures.refused whose in
     fault_after behind.rules done n g.S.Sink.written g.S.Sink.failed fault c.args.sink.now c.fault_of.ensures.unwritten
     (λ other. refused_after behind.rules done n h fault (sym c.in-Some.ensures)
     (λ text. ap (λ reason. unless_reason n reason text) reason ∙ c.fault_of.ensures.told text other))
@@ -82,28 +87,30 @@ returns g c =
     let done = done_behind behind in
     let n : ℕ = behind.number in
     let h : ProcessState = c.in-Some.process.now in
-    let table : CallTable = c.table-table.result.now in
+    let wide : CallTable = c.with_tmppath-wide.result in
+    let table : CallTable = tmp_table done.table in
     let t : Tree = c.tree-tree.result.now in
-    let ruled : table ≡ done.table = c.table-table.ensures in
+    let ruled : wide ≡ table = c.with_tmppath-wide.ensures ∙ ap tmp_table c.table.ensures in
     let at : t ≡ done.world.tree = c.tree-tree.ensures in
-    let whose = subst (IsBoundedExecOf table h) (sym c.as_ref.ensures.value) c.in_ok-both.ensures in
+    let whose = subst (IsBoundedExecOf wide h) (sym c.as_ref.ensures.value) c.in_ok-both.ensures in
     let list = c.in-Ok.list in
     let rows : List EverRow = list.rows.items in
     let texts : List (List ℕ) = map string_bytes c.in_ok-columns.columns.items in
     let lasting = c.in-Ok.ensures.list whose in
     let there = subst (λ (table : CallTable). IsLasting done.world.tree table h list) ruled
-    (subst (λ (t : Tree). IsLasting t table h list) at lasting) in
+    (subst (λ (t : Tree). IsLasting t wide h list) at lasting) in
     let on = subst (λ (rows : List EverRow). AllByRecursion (IsRowOn done.world.tree h) rows) (sym c.as_slice.ensures.value) there.items in
     let columns = subst (λ (rows : List EverRow). AreColumns behind.rules done n h rows texts) c.as_slice.ensures.value
     (c.in_ok-columns.ensures.columns on) in
-    let lines = lines_told behind.rules done n h [] rows texts (ever_lasting done.world.tree done.table h) there.rows columns in
+    let lines = lines_told behind.rules done n h [] rows texts (ever_lasting done.world.tree table h) there.rows columns in
     let own = columns_told behind.rules done n h (subst WellFormed at c.known.ensures) lines.told lines.lines_are lines.columns in
-    let none : refusal done.table h ≡ None = (λ i. refusal (sym ruled i) h) ∙ c.in-Ok.ensures.refused whose in
+    let none : refusal done.table h ≡ None =
+    sym (refused_too done.table h) ∙ (λ i. refusal (sym ruled i) h) ∙ c.in-Ok.ensures.refused whose in
     let front : c.as_str.result.now ≡ answer_lines 1 done.answers = c.as_str.ensures.value ∙ c.in_ok-front.ensures ∙
-    ap (answer_lines 1) c.as_slice-2.ensures.value in
-    let told : List ℕ = ever_list_with behind.rules done.table done.world.tree n h lines.told in
+    ap (λ told. answer_lines 1 (map line_seen told)) c.as_slice-2.ensures.value in
+    let told : List ℕ = ever_list_with behind.rules table done.world.tree n h lines.told in
     let text : List ℕ = answer_lines 1 done.answers ++ told in
-    let listed = c.in_ok-lists.ensures t table lines.told lasting.execs (subst (λ (t : Tree). AreToldWith t [] rows texts lines.told) (sym at) lines.are) in (
+    let listed = c.in_ok-lists.ensures t wide lines.told lasting.execs (subst (λ (t : Tree). AreToldWith t [] rows texts lines.told) (sym at) lines.are) in (
       Ok text,
       list_after behind.rules done n h told (Ok text) (sym c.in-Some.ensures) none
           (record { lines = lines.told; are = lines.lines_are; columns = own; is = refl }) refl,

@@ -12,8 +12,8 @@ returns-clause-dated c =
     let date = veil_date p.table p.world p.asks in
     if_ok c.dated_text.result
     (λ dated given. λ read is.
-    let said = given (read ∙ ap Ok (sym asks)) (c.as_slice-answers.ensures.value ∙ is.answers ∙ ap (answers_to p.table p.world) (sym asks)) in (
-      said.0 ∙ (λ i. reason_lines c.args.rules (record { table = p.table; world = p.world; asks = asks i })),
+    let said = given c.args.rules (read ∙ ap Ok (sym asks)) (c.as_slice-answers.ensures.value ∙ is.answers ∙ ap (answers_to p.table p.world) (sym asks)) in (
+      said.0 ∙ (λ i. reason_lines (record { table = p.table; world = p.world; asks = asks i })),
       said.1
           ∙ (λ i. map (veil_date p.table p.world (asks i)) (map veil_seen c.as_slice-veils.result.now))
           ∙ ap (λ veils. map date (map veil_seen veils)) c.as_slice-veils.ensures.value

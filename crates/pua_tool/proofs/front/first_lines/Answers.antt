@@ -1,4 +1,4 @@
-use Rattle.std.proofs.Common.{◌-◌, ◌+◌, ◌<◌, ◌≡◌, ◌≤◌, ◌∙◌, ℕ, List, Some, ap, arith, length, drop, subst, sym}
+use Rattle.std.proofs.Common.{◌-◌, ◌+◌, ◌<◌, ◌≡◌, ◌∙◌, ℕ, List, Some, ap, arith, length, drop, subst, sym}
 use Rattle.std.proofs.lemmas.Bool.{eqb-false, eqb-true}
 use Rattle.pua_tool.specs.Fronts.{line_size, lines_size}
 use Rattle.pua_tool.proofs.Fronts.{Leads, begun, ends, goes_on, lacks, some_left}

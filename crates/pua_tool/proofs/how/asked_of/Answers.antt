@@ -1,4 +1,4 @@
-use Rattle.pua_tool.proofs.Common.{◌≡◌, ◌∙◌, ap, refl, sym, subst, Err, Tree, ToolFault, as_replayed, err_from_is_err_and}
+use Rattle.pua_tool.proofs.Common.{◌≡◌, ◌∙◌, ap, sym, subst, Err, Tree, ToolFault, as_replayed, err_from_is_err_and}
 use Rattle.pua_calls.specs.Calls.{call_in}
 use Rattle.pua_ever.specs.Refusals.{refusal}
 use Rattle.pua_tool.specs.HowTexts.{things_asked, way_wanted}

@@ -1,9 +1,12 @@
-use Rattle.pua_tool.proofs.Common.{sym, subst}
+use Rattle.pua_tool.proofs.Common.{sym, subst, CallTable}
 use Rattle.pua_ever.specs.LastingList.{IsBoundedExecOf}
+use Rattle.pua_how.specs.Outlooks.{IsOutlook}
 use Rattle.pua_tool.proofs.how.outlook_of.Goals as goal
 
 pub returns-clause-told : goal.returns-clause-told
 returns-clause-told g c =
     let h = c.args.process.now in
-    let table = c.args.table.now in
-    c.find_outlook.ensures table h (c.in-Ok.ensures.list (subst (IsBoundedExecOf table h) (sym c.as_ref.ensures.value) c.in_ok-both.ensures))
+    let wide = c.with_tmppath-wide.result in
+    subst (λ (table : CallTable). IsOutlook (g.T.FileTree.content c.args.tree.now) table h c.args.things.now c.args.call c.find_outlook.result)
+    c.with_tmppath-wide.ensures
+    (c.find_outlook.ensures wide h (c.in-Ok.ensures.list (subst (IsBoundedExecOf wide h) (sym c.as_ref.ensures.value) c.in_ok-both.ensures)))

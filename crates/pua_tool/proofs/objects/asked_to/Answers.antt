@@ -1,3 +1,4 @@
+use Rattle.pua_tool.proofs.Common.{map, line_seen}
 use Rattle.pua_tool.proofs.Common.{◌≡◌, ◌++◌, ◌∙◌, Ok, List, ℕ, ap, subst, err_from_is_err_and, answer_lines, as_replayed, AnswersTo}
 use Rattle.pua_texts.specs.ListLines.{lists_text}
 use Rattle.pua_texts.specs.ObjectLines.{lists_of}
@@ -18,7 +19,7 @@ returns g c =
     let done = as_replayed c.args.replay.now in
     let numbers : List ℕ = c.in_ok-numbers.numbers.items in
     let front : c.as_str.result.now ≡ answer_lines 1 done.answers = c.as_str.ensures.value ∙ c.in_ok-front.ensures ∙
-    ap (answer_lines 1) c.as_slice.ensures.value in
+    ap (λ told. answer_lines 1 (map line_seen told)) c.as_slice.ensures.value in
     let listed : lists_text done.world.tree c.in_ok-lists.lists.items ≡ lists_of c.args.rules done.table done.world numbers =
     c.in_ok-lists.ensures ∙ ap (lists_of c.args.rules done.table done.world) c.as_slice-2.ensures.value in
     next_answers g.S.Sink.written g.S.Sink.failed (numbers_asked done.world c.args.whose.now)

@@ -1,9 +1,9 @@
-use Rattle.pua_tool.proofs.Common.{List, ℕ, ◌++◌}
+use Rattle.pua_tool.proofs.Common.{Ok, List, ℕ, ◌++◌, subst, AnswersTo}
 use Rattle.pua_texts.specs.ListLines.{lists_text}
 use Rattle.pua_tool.proofs.objects.put_lists.Goals as goal
 
 pub returns : goal.returns
-returns g c =
-    let text : List ℕ = c.args.front.now ++ lists_text (g.T.FileTree.content c.args.tree.now) c.args.lists.items in
-    c.told.ensures text (g.S.Sink.written c.args.sink.now) (g.S.Sink.written c.write_lists.new.sink) (g.S.Sink.failed c.args.sink.now)
-    (g.S.Sink.failed c.write_lists.new.sink) c.write_lists.ensures
+returns g c = subst
+    (λ (b : List ℕ). AnswersTo g.S.Sink.written g.S.Sink.failed (Ok (b ++ lists_text (g.T.FileTree.content c.args.tree.now) c.args.lists.items))
+    c.put_behind.result c.args.sink.now c.put_behind.new.sink)
+    c.as_bytes.ensures.value c.put_behind.ensures

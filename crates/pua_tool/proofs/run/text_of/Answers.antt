@@ -1,3 +1,4 @@
+use Rattle.pua_tool.proofs.Common.{map, line_seen}
 use Rattle.pua_tool.proofs.Common.{◌≡◌, ◌≢◌, Ok, Err, ap, sym, ◌∙◌, err_from_is_err_and, ◌>>=◌, answer_lines, choice_of, OutOfMemory}
 use Rattle.pua_tool.specs.Texts.{run_text}
 use Rattle.pua_tool.proofs.run.text_of.Goals as goal
@@ -14,4 +15,4 @@ returns-in_err-replay-clause-refused c =
 pub returns-in-Ok-clause-done : goal.returns-in-Ok-clause-done
 returns-in-Ok-clause-done c =
     (λ i. c.in_ok-replay.ensures.done i >>= λ done. Ok (answer_lines 1 done.answers))
-    ∙ ap Ok (sym (c.in-Ok.ensures ∙ ap (answer_lines 1) c.as_slice.ensures.value))
+    ∙ ap Ok (sym (c.in-Ok.ensures ∙ ap (λ told. answer_lines 1 (map line_seen told)) c.as_slice.ensures.value))

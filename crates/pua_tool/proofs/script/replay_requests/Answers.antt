@@ -1,10 +1,10 @@
-use Rattle.pua_tool.proofs.Common.{◌≡◌, ap, ◌∙◌, List, world_of}
-use Rattle.pua_script.specs.Worlds.{WorldState, run_to}
-use Rattle.pua_script.specs.declared.answer.Answer.{Answer}
+use Rattle.pua_tool.proofs.Common.{ap, ◌∙◌, told_to, world_of}
+use Rattle.pua_script.specs.Worlds.{WorldState, state_after_all}
 use Rattle.pua_tool.proofs.script.replay_requests.Goals as goal
 
 pub returns-clause-done : goal.returns-clause-done
 returns-clause-done c =
-    let served : ◌≡◌ {A = List Answer × WorldState} _ _ =
-    c.in-Ok-run.ensures.served ∙ ap (λ (s : WorldState). run_to s c.args.requests.now) c.in-Ok.ensures in
-    ap (λ (ran : List Answer × WorldState). record { table = ran.1.table; answers = ran.0; world = world_of ran.1 }) served
+    let asks = c.args.requests.now in
+    let said = c.in-Ok-run_told.ensures.told ∙ ap (λ (s : WorldState). told_to s.table (world_of s) asks) c.in-Ok.ensures in
+    let left = c.in-Ok-run_told.ensures.left ∙ ap (λ (s : WorldState). state_after_all s asks) c.in-Ok.ensures in
+    λ i. record { table = (left i).table; answers = said i; world = world_of (left i) }

@@ -6,4 +6,4 @@ use Rattle.pua_tool.proofs.tight_why.lines_of.Given as goal
 
 -- the lines so far are added, and the others are still to come
 abbrev pub invariant-loop-word : goal.invariant-loop-word
-invariant-loop-word l = string_bytes l.text ++ lines_left l.words l.word-index ≡ use_lines l.words
+invariant-loop-word l = string_bytes l.text ++ lines_left l.rules l.words l.word-index ≡ use_lines l.rules l.words

@@ -1,4 +1,4 @@
-use Rattle.pua_tool.proofs.Common.{◌∙◌, Ok, List, ap, sym, subst, err_from_is_err_and, as_replayed, AnswersTo}
+use Rattle.pua_tool.proofs.Common.{◌∙◌, Ok, List, ap, sym, err_from_is_err_and, as_replayed}
 use Rattle.pua_texts.specs.Members.{named_by}
 use Rattle.pua_texts.specs.declared.members.Member.{Member}
 use Rattle.pua_tool.specs.TogetherTexts.{all_made, numbers_in, together_of}

@@ -10,4 +10,4 @@ returns c = if_ok c.chain_text.result (λ text told is.
     let asks : c.requests-requests.result.now ≡ p.asks = c.requests-requests.ensures in
     told (c.as_slice-answers.ensures.value ∙ is.answers ∙ ap (answers_to p.table p.world) (sym asks))
     (is.after ∙ ap (state_after_all c.args.worlds.now.before) (sym asks))
-    ∙ (λ i. chain_lines c.args.rules (record { table = p.table; world = p.world; asks = asks i }) c.args.request.now)) c.chain_text.ensures
+    ∙ (λ i. chain_lines (record { table = p.table; world = p.world; asks = asks i }) c.args.request.now)) c.chain_text.ensures

@@ -1,6 +1,5 @@
-use Rattle.pua_calls.proofs.Common.{◌∷◌, ◌∙◌, [], ap, length, sym}
-use Rattle.std.specs.Prelude.{◌++◌, ◌+◌, take}
-use Rattle.pua_calls.specs.Calls.{about, call_name}
+use Rattle.pua_calls.proofs.Common.{ap, length, sym}
+use Rattle.pua_calls.specs.Calls.{about}
 use Rattle.pua_calls.specs.Facts.{seen_facts}
 use Rattle.pua_calls.proofs.FactRows.{row_of, line_of, standard_below, openbsd_below, other_below, perms_below}
 use Rattle.pua_calls.proofs.call.Call.facts.Goals as goal

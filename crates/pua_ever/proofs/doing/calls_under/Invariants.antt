@@ -1,9 +1,0 @@
-use Rattle.pua_ever.proofs.Common.{◌≡◌, Call, Object, empty_tree, has, list_any, object_seen}
-use Rattle.pua_ever.specs.JointCovers.{allows_under, numbered}
-use Rattle.pua_ever.proofs.doing.calls_under.Given as goal
-
-abbrev pub invariant-loop-bit : goal.invariant-loop-bit
-invariant-loop-bit l = record {
-  told : (judged : Object) → l.object ≡ object_seen empty_tree judged → (call : Call) →
-      has l.calls call ≡ list_any (allows_under l.table l.process l.covers judged call) (numbered l.bit);
-}

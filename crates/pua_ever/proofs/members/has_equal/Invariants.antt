@@ -1,8 +1,0 @@
-use Rattle.pua_ever.proofs.Common.{take}
-use Rattle.std.specs.List.{Contains}
-use Rattle.pua_ever.specs.JointMembers.{states}
-use Rattle.pua_ever.proofs.members.has_equal.Given as goal
-
--- none so far is equal
-abbrev pub invariant-loop-other : goal.invariant-loop-other
-invariant-loop-other l = record { none : Contains (states (take l.other-index l.kept)) l.process → ⊥ }

@@ -1,6 +1,0 @@
-use Rattle.pua_ever.proofs.Common.{map, take}
-use Rattle.pua_ever.specs.JointMembers.{AreSmall, veil_now}
-use Rattle.pua_ever.proofs.members.know_perms.Given as goal
-
-abbrev pub invariant-loop-veil : goal.invariant-loop-veil
-invariant-loop-veil l = record { small : AreSmall (map veil_now (take l.veil-index l.veils)) }

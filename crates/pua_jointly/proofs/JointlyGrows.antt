@@ -1,0 +1,91 @@
+-- Who has more help has no less in its list.
+use Rattle.std.specs.Prelude.{ℕ, List, Some}
+use Rattle.std.specs.List.{Contains}
+use Rattle.pua_tree.specs.Tree.{Tree}
+use Rattle.pua_calls.specs.Calls.{CallTable}
+use Rattle.pua_policy.specs.States.{ProcessState}
+use Rattle.pua_policy.specs.Verdict.{Object}
+use Rattle.pua_policy.specs.declared.answer.Cover.{Cover}
+use Rattle.pua_ever.specs.Ever.{Thing}
+use Rattle.pua_jointly.proofs.Common.{inl, inr, At, Comes, NewFile, Slot, Stands}
+use Rattle.pua_jointly.specs.Jointly.{Fact, Can, stays_in, moved_in, born_in, not_above_root, not_above_up, not_above_made, dir_own, dir_root}
+use Rattle.pua_jointly.specs.Jointly.{dir_within, name_own, name_within, free_none, free_made, free_dir, free_other, way_in_by_c}
+use Rattle.pua_jointly.specs.Jointly.{way_in_by_name, way_in_by_turn, writes_at, makes_at, stays_at, moved_at, born_at, Shows, shows_dir}
+use Rattle.pua_jointly.specs.Jointly.{shows_emptied, shows_others, shows_row, shows_name, shows_new_dir, shows_new_others, shows_new_file}
+use Rattle.pua_jointly.specs.Jointly.{shows_new_link, CanTurn, IsJointlyStarted, IsTurned, JointListsGrow, JointlyGrows}
+
+module _ (t : Tree) (table : CallTable) (crew more : List ProcessState) (within : (a : ProcessState) → Contains crew a → Contains more a) where
+  pub grows : {fact : Fact} → Can t table crew fact → Can t table more fact
+  grows (stays_in name h1 h2) = stays_in name h1 h2
+  grows (moved_in a k h1 h2 h3 h4 h5) = moved_in a k (within _ h1) (grows h2) h3 (grows h4) (grows h5)
+  grows (born_in h1 h2 h3) = born_in (within _ h1) (grows h2) (grows h3)
+  grows (not_above_root h1) = not_above_root h1
+  grows (not_above_up p h1 h2 h3) = not_above_up p h1 (grows h2) (grows h3)
+  grows (not_above_made) = not_above_made
+  grows (dir_own h1 h2) = dir_own h1 h2
+  grows (dir_root h1) = dir_root h1
+  grows (dir_within p h1 h2 h3) = dir_within p h1 (grows h2) (grows h3)
+  grows (name_own h1 h2) = name_own h1 h2
+  grows (name_within h1 h2) = name_within h1 (grows h2)
+  grows (free_none h1) = free_none h1
+  grows (free_made) = free_made
+  grows (free_dir a d k h1 h2 h3 h4 h5 h6) = free_dir a d k (within _ h1) h2 h3 h4 (grows h5) h6
+  grows (free_other a x k h1 h2 h3 h4 h5 h6) = free_other a x k (within _ h1) h2 h3 h4 (grows h5) h6
+  grows (way_in_by_c k h1 h2) = way_in_by_c k (grows h1) h2
+  grows (way_in_by_name name perms h1 h2 h3 h4) = way_in_by_name name perms h1 h2 h3 (grows h4)
+  grows (way_in_by_turn y perms other k h1 h2 h3 h4 h5 h6 h7 h8) =
+      way_in_by_turn y perms other k (grows h1) h2 h3 (λ name x at. grows (h4 name x at)) (grows h5) h6 h7 (grows h8)
+  grows (writes_at k h1 h2 h3) = writes_at k (grows h1) h2 (grows h3)
+  grows (makes_at d name k h1 h2 h3) = makes_at d name k (grows h1) (grows h2) h3
+  grows (stays_at x h1 h2) = stays_at x h1 h2
+  grows (moved_at a d name k h1 h2 h3 h4 h5) = moved_at a d name k (within _ h1) (grows h2) (grows h3) h4 (grows h5)
+  grows (born_at h1 h2 h3) = born_at (within _ h1) (grows h2) (grows h3)
+
+  pub shows_more : {a : ProcessState} {thing : Thing} {cover : Cover} {object : Object} → Shows t table crew a thing cover object →
+      Shows t table more a thing cover object
+  shows_more (shows_dir can) = shows_dir (grows can)
+  shows_more (shows_emptied other can free) = shows_emptied other (grows can) (λ name x at. grows (free name x at))
+  shows_more (shows_others can) = shows_others (grows can)
+  shows_more (shows_row d other at lies over) = shows_row d other at (grows lies) (grows over)
+  shows_more (shows_name is own free) = shows_name is own (grows free)
+  shows_more (shows_new_dir maker can) = shows_new_dir maker (grows can)
+  shows_more (shows_new_others maker can) = shows_new_others maker (grows can)
+  shows_more (shows_new_file maker d name lies over) = shows_new_file maker d name (grows lies) (grows over)
+  shows_more (shows_new_link maker d name lies over) = shows_new_link maker d name (grows lies) (grows over)
+
+pub jointly_grows : JointlyGrows
+jointly_grows t table crew more within a thing call can = record {
+  cover = can.cover;
+  object = can.object;
+  shows = shows_more t table crew more within can.shows;
+  named = can.named;
+  allowed = can.allowed;
+}
+
+module _ (t : Tree) (table : CallTable) (crew more : List ProcessState) (within : (a : ProcessState) → Contains crew a → Contains more a) where
+  started_more : (a : ProcessState) (thing : Thing) → IsJointlyStarted t table crew a thing → IsJointlyStarted t table more a thing
+  started_more a thing is = record { cover = is.cover; shows = shows_more t table crew more within is.shows; allowed = is.allowed }
+
+  turned_more : (node : ℕ) → IsTurned t table crew node → IsTurned t table more node
+  turned_more node is = record {
+    agent = is.agent;
+    among = within is.agent is.among;
+    row = is.row;
+    at = is.at;
+    file = is.file;
+    call = is.call;
+    turns = is.turns;
+    allowed = jointly_grows t table crew more within is.agent (Stands (At (Slot is.row.0 is.row.1 (Some node)))) is.call is.allowed;
+  }
+
+  turn_more : (thing : Thing) → CanTurn t table crew thing → CanTurn t table more thing
+  turn_more (Stands (At (Slot dir name (Some node)))) can = turned_more node can
+  turn_more (Comes NewFile) can = tt
+  turn_more _ none = absurd none
+
+pub joint_lists_grow : JointListsGrow
+joint_lists_grow t table crew more within a thing call listed = elim listed [
+  | inl can ↦ inl (jointly_grows t table crew more within a thing call can)
+  | inr program ↦
+      inr (program.0, started_more t table crew more within a thing program.1, turn_more t table crew more within thing program.2)
+]

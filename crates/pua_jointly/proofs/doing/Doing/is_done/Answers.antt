@@ -1,0 +1,12 @@
+use Rattle.pua_jointly.proofs.Common.{◌∙◌, ap, empty_tree, refl, sym}
+use Rattle.pua_ever.specs.Ever.{is_made_by}
+use Rattle.pua_policy.specs.Verdict.{IsMissing}
+use Rattle.pua_ever.specs.EverLines.{new_of}
+use Rattle.pua_jointly.specs.JointCovers.{does}
+use Rattle.pua_jointly.proofs.doing.Doing.is_done.Goals as goal
+
+pub returns-in-Making : goal.returns-in-Making
+returns-in-Making c =
+    c.is_made_by.ensures
+    ∙ (λ z. is_made_by (λ call. c.allowed.ensures empty_tree IsMissing refl call z) (new_of c.in-Making.made))
+    ∙ ap (λ doing. does c.args.table.now c.args.process.now doing c.args.cover) (sym c.in-Making.is)

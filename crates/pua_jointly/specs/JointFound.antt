@@ -1,0 +1,81 @@
+-- The covers of things that the table of a crew has, and what is found of several processes.
+use Rattle.std.specs.Prelude.{◌≡◌, ◌<◌, ◌+◌, ◌&&◌, ◌==◌, ℕ, Bool, List, Some, false, get_or, length, nat_lt, if◌then◌else◌}
+use Rattle.std.specs.Int.Bits.{bit_or}
+use Rattle.std.specs.List.{fold, list_any}
+use Rattle.pua_tree.specs.Tree.{Tree}
+use Rattle.pua_calls.specs.Calls.{CallTable}
+use Rattle.pua_policy.specs.States.{ProcessState}
+use Rattle.pua_policy.specs.Verdict.{IsFile}
+use Rattle.pua_ever.specs.Ever.{New, is_some_file, turning_calls}
+use Rattle.pua_jointly.specs.JointCovers.{allows_under, numbered}
+use Rattle.pua_jointly.specs.JointFacts.{watches}
+use Rattle.pua_jointly.specs.JointMembers.{SameMembers}
+use Rattle.pua_jointly.specs.JointOld.{over_word}
+use Rattle.pua_jointly.specs.JointPlace.{new_bit}
+use Rattle.pua_jointly.specs.JointRounds.{has_one, stays_in}
+use Rattle.pua_jointly.specs.Closing.{IsClosed}
+use Rattle.pua_jointly.specs.JointSetup.{FollowsTold, IsWorkedOut, count_told, crew_told, dirs_of, layout_told}
+use Rattle.pua_jointly.specs.JointTable.{HasFacts}
+use Rattle.pua_jointly.specs.JointWords.{covers_in, word_at}
+use Rattle.pua_jointly.specs.declared.crew.Agent.{Agent}
+use Rattle.pua_jointly.specs.declared.crew.Crew.{Crew}
+use Rattle.pua_jointly.specs.declared.crew.Entry.{Entry}
+use Rattle.pua_jointly.specs.declared.facts.Facts.{Facts}
+
+-- of the directories that processes make
+abbrev pub made_in : Crew → List ℕ → Agent → ℕ → ℕ
+made_in c told of seat = if nat_lt c.shape.last seat then covers_in (word_at told c.columns seat of.place) else 0
+
+abbrev pub made_words : Crew → List ℕ → Agent → ℕ
+made_words c told of = fold (λ word seat. bit_or word (made_in c told of seat)) 0 c.seats.items
+
+-- of what others carry, by the row and the bit that say so
+abbrev pub carried_by : Crew → List ℕ → Agent → ℕ → ℕ → Agent → ℕ
+carried_by c told of row bit by =
+    if has_one (word_at told c.columns row by.place) bit then covers_in (word_at told c.columns by.drops of.place) else 0
+
+abbrev pub carried_covers : Crew → List ℕ → Agent → ℕ → ℕ → ℕ
+carried_covers c told of row bit = fold (λ word by. bit_or word (carried_by c told of row bit by)) 0 c.agents.items
+
+-- of what stands at a name
+abbrev pub entry_word : Crew → List ℕ → Agent → Entry → ℕ
+entry_word c told of entry =
+    bit_or (over_word of.process.now told c.columns entry.dir entry.name.now of.place) (carried_covers c told of entry.row 0)
+
+-- of what processes make that is no directory
+abbrev pub born_in : Crew → List ℕ → Agent → New → Agent → ℕ
+born_in c told of new by =
+    if has_one (word_at told c.columns c.makers by.place) (new_bit new) then covers_in (word_at told c.columns by.drops of.place) else 0
+
+abbrev pub seat_carried : Crew → List ℕ → Agent → New → ℕ → ℕ
+seat_carried c told of new seat = if nat_lt c.shape.last seat then carried_covers c told of seat (19 + new_bit new) else 0
+
+abbrev pub new_covers : Crew → List ℕ → Agent → New → ℕ
+new_covers c told of new =
+    bit_or (fold (λ word by. bit_or word (born_in c told of new by)) 0 c.agents.items)
+    (fold (λ word seat. bit_or word (seat_carried c told of new seat)) 0 c.seats.items)
+
+-- a call by which the file at a name can come to be a program is allowed to one of the processes
+abbrev pub turned_by : CallTable → Crew → List ℕ → Entry → Agent → Bool
+turned_by table c told entry of =
+    list_any (λ call. list_any (allows_under table of.process.now (entry_word c told of entry) IsFile call) (numbered 18)) turning_calls
+
+abbrev pub turns : CallTable → Crew → List ℕ → Entry → Bool
+turns table c told entry = is_some_file (Some entry.kind) && list_any (turned_by table c told entry) c.agents.items
+
+abbrev pub turns_in : CallTable → Crew → List ℕ → ℕ → Entry → Bool
+turns_in table c told node entry = (entry.node == node) && turns table c told entry
+
+-- the numbers below a count of which some name passes a test
+abbrev pub AreMarked : (ℕ → Entry → Bool) → List Entry → ℕ → List Bool → Type 0
+AreMarked test entries count marked = (n : ℕ) → n < count → get_or marked n false ≡ list_any (test n) entries
+
+-- what was found is what several processes can come to do
+pub record AreFacts (t : Tree) (table : CallTable) (crew : List ProcessState) (facts : Facts) : Type 0 where
+  pub worked : IsWorkedOut t table facts.crew
+  pub members : SameMembers crew (crew_told facts.crew)
+  pub full : length facts.told.items ≡ count_told facts.crew
+  pub closed : IsClosed (FollowsTold t table facts.crew) facts.told.items
+  pub has : HasFacts t table (crew_told facts.crew) (watches t (crew_told facts.crew)) (layout_told facts.crew) facts.told.items
+  pub held : AreMarked (stays_in facts.crew facts.told.items) facts.crew.entries.items (dirs_of facts.crew) facts.held.items
+  pub turned : AreMarked (turns_in table facts.crew facts.told.items) facts.crew.entries.items (dirs_of facts.crew) facts.turned.items

@@ -1,0 +1,126 @@
+-- What follows from the table of a crew, word by word, as the code finds it.
+use Rattle.std.specs.Prelude.{◌≡◌, ◌<◌, ◌+◌, ◌*◌, ◌^◌, ◌==◌, ◌&&◌, ◌||◌, not, ℕ, Bool, List, Some, length, get_or, slice_get}
+use Rattle.std.specs.Prelude.{if◌then◌else◌}
+use Rattle.std.specs.Int.{bit_at}
+use Rattle.std.specs.Int.Bits.{bit_and, bit_or}
+use Rattle.std.specs.List.{fold, list_any}
+use Rattle.pua_tree.specs.declared.node.Kind.{Kind}
+use Rattle.pua_tree.specs.declared.node.Kind.TheVariants as kind
+use Rattle.pua_calls.specs.Calls.{CallTable}
+use Rattle.pua_policy.specs.States.{ProcessState}
+use Rattle.pua_policy.specs.declared.answer.Cover.{Cover}
+use Rattle.pua_jointly.specs.Closing.{has_bit}
+use Rattle.pua_ever.specs.Ever.{New, NewDir, NewOthers, NewFile, NewLink, can_move, can_link}
+use Rattle.pua_jointly.specs.Jointly.{may_take}
+use Rattle.pua_jointly.specs.JointFacts.{makes_under}
+use Rattle.pua_jointly.specs.JointPlace.{cover_bit}
+use Rattle.pua_jointly.specs.declared.crew.Agent.{Agent}
+
+-- the word at a row and a column of a table with so many columns
+abbrev pub word_at : List ℕ → ℕ → ℕ → ℕ → ℕ
+word_at told columns row column = get_or told (row * columns + column) 0
+
+-- the covers of a word
+abbrev pub covers_in : ℕ → ℕ
+covers_in word = bit_and word 262143
+
+-- the covers of a directory by the veils of one process, if another one can come to put a directory into it
+abbrev pub landed_at : List ℕ → ℕ → ℕ → ℕ → ℕ → ℕ
+landed_at told columns by agent seat =
+    if bit_at (word_at told columns seat by) 18 == 1 then covers_in (word_at told columns seat agent) else 0
+
+-- those of all directories
+abbrev pub landing_word : List ℕ → ℕ → ℕ → ℕ → List ℕ → ℕ
+landing_word told columns by agent seats = fold (λ word seat. bit_or word (landed_at told columns by agent seat)) 0 seats
+
+-- some cover of a word is one of these
+abbrev pub meets : ℕ → ℕ → Bool
+meets word covers = not (bit_and word covers == 0)
+
+-- covers of which a test holds
+pub record AreCovers (covers : ℕ) (test : Cover → Bool) : Type 0 where
+  pub all : (k : Cover) → cover_bit k < 18 → (bit_at covers (cover_bit k) == 1) ≡ test k
+  pub only : (bit : ℕ) → has_bit covers bit → bit < 18
+  pub small : covers < 2 ^ 32
+
+-- the covers under which a process can make something, and carry something
+abbrev pub making : Agent → New → ℕ
+making agent NewDir = agent.making_dirs
+making agent NewOthers = agent.making_dirs
+making agent NewFile = agent.making_files
+making agent NewLink = agent.making_links
+
+abbrev pub carrying : Agent → Kind → ℕ
+carrying agent kind.Link = agent.carrying_links
+carrying agent _ = agent.carrying
+
+-- what is asked of a process of the crew, by its place: itself, the rows of where it can put directories and other things, and
+-- the covers under which it can do something
+pub record IsAgent (table : CallTable) (dirs many i : ℕ) (b : ProcessState) (agent : Agent) : Type 0 where
+  pub process : agent.process.now ≡ b
+  pub place : agent.place ≡ i
+  pub landing : agent.landing ≡ dirs + (many + i)
+  pub drops : agent.drops ≡ dirs + (many + (many + i))
+  pub moving : AreCovers agent.moving (can_move table b)
+  pub carries : (kind : Kind) → AreCovers (carrying agent kind) (λ k. can_move table b k || can_link table b (Some kind) k)
+  pub makes : (new : New) → AreCovers (making agent new) (makes_under table b new)
+  pub takes : agent.may_take ≡ may_take table b
+
+-- of each process, by its place
+pub record AreAgents (table : CallTable) (crew : List ProcessState) (dirs : ℕ) (agents : List Agent) : Type 0 where
+  pub each : (i : ℕ) (b : ProcessState) → slice_get crew i ≡ Some b →
+      (agent : Agent) × (slice_get agents i ≡ Some agent) × IsAgent table dirs (length crew) i b agent
+  pub only : (i : ℕ) (agent : Agent) → slice_get agents i ≡ Some agent →
+      (b : ProcessState) × (slice_get crew i ≡ Some b) × IsAgent table dirs (length crew) i b agent
+
+-- a process can move a directory
+abbrev pub moves_at : List ℕ → ℕ → ℕ → Agent → Bool
+moves_at told columns seat agent = meets (word_at told columns seat agent.place) agent.moving
+
+-- the covers under which those come that can move a directory
+abbrev pub moved_at : List ℕ → ℕ → ℕ → ℕ → Agent → ℕ
+moved_at told columns seat of agent =
+    if moves_at told columns seat agent then covers_in (word_at told columns agent.landing of) else 0
+
+abbrev pub moved_word : List ℕ → ℕ → List Agent → ℕ → ℕ → ℕ
+moved_word told columns agents seat of = fold (λ word agent. bit_or word (moved_at told columns seat of agent)) 0 agents
+
+-- the same of a watched directory, whose column says where it can come to stand
+abbrev pub apart_at : List ℕ → ℕ → ℕ → ℕ → ℕ → ℕ → ℕ
+apart_at told columns by watch of into =
+    if (bit_at (word_at told columns into by) 18 == 1) && (bit_at (word_at told columns into watch) 0 == 1)
+    then covers_in (word_at told columns into of) else 0
+
+abbrev pub apart_by : List ℕ → ℕ → List ℕ → ℕ → ℕ → ℕ → Agent → ℕ
+apart_by told columns seats seat watch of agent =
+    if moves_at told columns seat agent
+    then fold (λ word into. bit_or word (apart_at told columns agent.place watch of into)) 0 seats else 0
+
+abbrev pub apart_word : List ℕ → ℕ → List Agent → List ℕ → ℕ → ℕ → ℕ → ℕ
+apart_word told columns agents seats seat watch of =
+    fold (λ word agent. bit_or word (apart_by told columns seats seat watch of agent)) 0 agents
+
+-- the covers of what a process makes, by the row of what each can make: where it is made, and where it is moved
+abbrev pub born_at : List ℕ → ℕ → ℕ → Agent → ℕ → ℕ
+born_at told columns makers maker of =
+    if bit_at (word_at told columns makers maker.place) 0 == 1 then covers_in (word_at told columns maker.landing of) else 0
+
+abbrev pub made_word : List ℕ → ℕ → List Agent → ℕ → ℕ → Agent → ℕ → ℕ
+made_word told columns agents makers seat maker of =
+    bit_or (moved_word told columns agents seat of) (born_at told columns makers maker of)
+
+-- the covers with `c`
+abbrev pub with_c : ℕ
+with_c = 261121
+
+-- the covers of a directory by the veils of one process, if another one has `c` on it
+abbrev pub dropped_at : List ℕ → ℕ → ℕ → ℕ → ℕ → ℕ
+dropped_at told columns by agent seat =
+    if meets (word_at told columns seat by) with_c then covers_in (word_at told columns seat agent) else 0
+
+abbrev pub dropped_word : List ℕ → ℕ → ℕ → ℕ → List ℕ → ℕ
+dropped_word told columns by agent seats = fold (λ word seat. bit_or word (dropped_at told columns by agent seat)) 0 seats
+
+-- some directory has one of these covers
+abbrev pub some_meets : List ℕ → ℕ → ℕ → ℕ → List ℕ → Bool
+some_meets told columns agent covers seats = list_any (λ seat. meets (word_at told columns seat agent) covers) seats

@@ -1,0 +1,87 @@
+-- Worked rows on what processes with veils of their own can ever touch together, in the tree of the rows through execs.
+use Rattle.std.specs.Prelude.{◌≡◌, ◌+◌, true, List, [], ◌∷◌, Some, None, codes}
+use Rattle.pua_path.specs.declared.found.Found.TheVariants.{Slot, Whole}
+use Rattle.pua_path.specs.declared.found.Way.TheVariants.{Named}
+use Rattle.pua_calls.specs.Promises.{rpath, wpath, cpath, exec, unix, reading, writing, executing, creating}
+use Rattle.pua_calls.specs.Calls.{openbsd_table, standard_table}
+use Rattle.pua_calls.specs.declared.call.Call.TheVariants as call
+use Rattle.pua_policy.specs.States.{ProcessState, new_process}
+use Rattle.pua_policy.specs.declared.place.Place.TheVariants as place
+use Rattle.pua_objects.specs.Objects.{At}
+use Rattle.pua_ever.specs.Ever.{Thing, Stands}
+use Rattle.pua_ever.specs.ThroughExamples.{started_tree}
+use Rattle.pua_ever.specs.declared.lasting_list.ExecBound.TheVariants.{Bounded, Never, Open}
+use Rattle.pua_jointly.specs.JointRefusals.{first_refusal}
+use Rattle.pua_jointly.specs.JointPrograms.{agents_by, started_of, worst}
+use Rattle.pua_jointly.specs.Jointly.{IsJointlyAllowed, IsJointlyListed, as_started}
+use Rattle.pua_ever.specs.declared.refusal.EverRefusal.TheVariants.{CanUnveil}
+
+-- who moves from /in to /out and reads nothing, and who reads in /out and sees nothing else
+abbrev pub mover : ProcessState
+mover = record new_process {
+  promises = Some cpath;
+  veils = (place.Dir 1, creating) ∷ (place.Dir 2, creating) ∷ [];
+  locked = true;
+}
+
+abbrev pub reader : ProcessState
+reader = record new_process { promises = Some rpath; veils = (place.Dir 2, reading) ∷ []; locked = true }
+
+abbrev pub crew : List ProcessState
+crew = mover ∷ reader ∷ []
+
+-- who writes in /out, and who executes there: by itself, the first starts nothing, and the second writes nothing
+abbrev pub writer : ProcessState
+writer = record new_process { promises = Some wpath; veils = (place.Dir 2, writing) ∷ []; locked = true }
+
+abbrev pub runner : ProcessState
+runner = record new_process { promises = Some exec; veils = (place.Dir 2, executing) ∷ []; locked = true }
+
+abbrev pub three : List ProcessState
+three = mover ∷ writer ∷ runner ∷ []
+
+-- who may take /p away, and who binds a socket there once it is gone: it holds no promise to take a name away
+abbrev pub remover : ProcessState
+remover = record new_process { promises = Some cpath; veils = (place.Slot 0 (codes "p"), creating) ∷ []; locked = true }
+
+abbrev pub binder : ProcessState
+binder = record new_process { promises = Some unix; veils = (place.Slot 0 (codes "p"), writing + creating) ∷ []; locked = true }
+
+-- who moves from /in to the name k in /out alone, of which the reader has no veil
+abbrev pub placer : ProcessState
+placer = record new_process {
+  promises = Some cpath;
+  veils = (place.Dir 1, creating) ∷ (place.Slot 2 (codes "k"), creating) ∷ [];
+  locked = true;
+}
+
+-- who executes there too, and hands down a promise
+abbrev pub starter : ProcessState
+starter = record runner { execpromises = Some rpath }
+
+-- the file s in /in
+abbrev pub file_in : Thing
+file_in = Stands (At (Slot 1 (codes "s") (Some 3)))
+
+pub record JointlyRows : Type 0 where
+  -- the reader comes to read what the mover brings, which has no promise to read it
+  pub brought : IsJointlyAllowed started_tree standard_table crew reader file_in call.OpenRead
+  pub unread : IsJointlyAllowed started_tree standard_table crew mover file_in call.OpenRead → ⊥
+  -- and one starts what another made a program, where a third brought it
+  pub turned : IsJointlyListed started_tree standard_table three runner file_in call.Exec
+  -- one uses a name that another one frees, and alone could not
+  pub freed : IsJointlyAllowed started_tree openbsd_table (remover ∷ binder ∷ []) binder (Stands (At (Slot 0 (codes "p") None))) call.Bind
+  -- one reads what another put at a name that it has a veil on, which the first hasn't
+  pub placed : IsJointlyAllowed started_tree standard_table (placer ∷ reader ∷ []) reader file_in call.OpenRead
+  -- a directory that is moved comes under the veils over where it stands then
+  pub followed : IsJointlyAllowed started_tree standard_table crew reader (Stands (At (Whole 1 (Named 0 (codes "in"))))) call.OpenRead
+  -- who can put veils still is named by its place
+  pub second : first_refusal standard_table 0 (mover ∷ new_process ∷ []) ≡ Some (1, CanUnveil)
+  -- what is started holds what was handed down, under the same veils; nothing bounded is, where nothing was
+  pub started : started_of standard_table starter ≡ Some (as_started starter rpath)
+  pub unbounded : started_of standard_table runner ≡ None
+  -- it counts where that is said
+  pub counts : agents_by standard_table (record { process = starter; execs = Bounded }) ≡ starter ∷ as_started starter rpath ∷ []
+  pub silent : agents_by standard_table (record { process = starter; execs = Never }) ≡ starter ∷ []
+  -- one alone makes the lists of all open
+  pub all_open : worst (record { process = starter; execs = Bounded } ∷ record { process = runner; execs = Open } ∷ []) ≡ Open

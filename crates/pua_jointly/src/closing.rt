@@ -1,0 +1,79 @@
+//! The least that steps lead to, in a table of words with a bit for each fact.
+
+ghost use Rattle.std.specs.Prelude.{◌≡◌, ℕ, ◌<◌, get_or, length, true, false, IfOk};
+ghost use Rattle.pua_jointly.specs.Closing.{IsClosed, AreReached, room};
+
+use pua_tree::OutOfMemory;
+use std::alloc::{AllocError, Global};
+
+/// What follows from the facts of a table, word by word.
+pub(crate) trait Steps {
+    ghost use Rattle.std.specs.Prelude.{◌≡◌, ℕ, ◌<◌, List, length};
+    ghost use Rattle.pua_jointly.specs.Closing.{has_bit};
+
+    /// What has to be known of it.
+    ghost known: { Self → Type 0 };
+
+    /// How many words the table has.
+    ghost count: { Self → ℕ };
+
+    /// That a fact of a word follows from the facts of a table.
+    ghost follows: { Self → List ℕ → ℕ → ℕ → Type 0 };
+
+    /// The facts of a word that follow.
+    fn next(&self, told: &[u32], at: usize) -> u32
+        requires known { known self.now }
+        requires full { length told.now ≡ count self.now }
+        requires within { at < count self.now }
+        ensures only { (bit : ℕ) → has_bit result bit → follows self.now told.now at bit }
+        ensures all { (bit : ℕ) → follows self.now told.now at bit → has_bit result bit };
+}
+
+/// The least table of so many words from which nothing more follows. The only error is that a
+/// growth was refused.
+pub(crate) fn close<S: Steps>(
+    alloc: Global,
+    steps: &S,
+    count: usize,
+) -> Result<Vec<u32>, OutOfMemory>
+    requires known { S.known steps.now }
+    requires count { count ≡ S.count steps.now }
+    ensures full { IfOk result (λ told. length told.items ≡ count) }
+    ensures closed { IfOk result (λ told. IsClosed (S.follows steps.now) told.items) }
+    ensures reached { IfOk result (λ told. AreReached (S.follows steps.now) told.items) }
+{
+    let Ok(mut told) = no_facts(alloc, count) else {
+        return Err(OutOfMemory);
+    };
+    while add_all(steps, &mut told) {}
+    Ok(told)
+}
+
+/// So many words without a fact. The only error is that a growth was refused.
+fn no_facts(alloc: Global, count: usize) -> Result<Vec<u32>, AllocError>
+    ensures full { IfOk result (λ told. length told.items ≡ count) }
+    ensures none { IfOk result (λ told. (at : ℕ) → get_or told.items at 0 ≡ 0) }
+{
+    vec![in alloc; 0; count]
+}
+
+/// Adds to each word what follows; answers whether that was anything.
+fn add_all<S: Steps>(steps: &S, told: &mut Vec<u32>) -> bool
+    requires known { S.known steps.now }
+    requires full { length told.now.items ≡ S.count steps.now }
+    ensures full { length told.new.items ≡ length told.old.items }
+    ensures reached { AreReached (S.follows steps.now) told.old.items →
+        AreReached (S.follows steps.now) told.new.items }
+    ensures closed { result ≡ false → IsClosed (S.follows steps.now) told.new.items }
+    ensures fewer { result ≡ true → room told.new.items < room told.old.items }
+{
+    let mut is_changed = false;
+    for at in 0..told.len() {
+        let word = told[at] | steps.next(told, at);
+        if word != told[at] {
+            told[at] = word;
+            is_changed = true;
+        }
+    }
+    is_changed
+}

@@ -1,0 +1,161 @@
+//! What is asked of several processes and of the tree while their facts are found.
+
+ghost use Rattle.std.specs.Prelude.{◌≡◌, Some};
+ghost use Rattle.pua_tree.specs.Tree.{is_dir_kind, spot_cmp};
+ghost use Rattle.pua_ever.specs.EverLines.{new_of};
+ghost use Rattle.pua_jointly.specs.JointSetting.{AreInOrder, IsEntryIn, entry_of};
+ghost use Rattle.pua_jointly.specs.JointWords.{carrying as carrying_of, making as making_of};
+
+use crate::shape::Shape;
+use pua_ever::Made;
+use pua_policy::Process;
+use pua_tree::{Kind, Name, NodeId};
+use std::cmp::Ordering;
+
+/// What is asked of a process of the crew. Covers are kept as bits.
+#[derive(Clone, Copy)]
+pub(crate) struct Agent<'t> {
+    /// The process.
+    pub(crate) process: &'t Process,
+    /// Its place in the crew.
+    pub(crate) place: usize,
+    /// The row of where it can put directories.
+    pub(crate) landing: usize,
+    /// The row of where it can put other things.
+    pub(crate) drops: usize,
+    /// Whether it may take a name away.
+    pub(crate) may_take: bool,
+    /// The covers under which it can move something.
+    pub(crate) moving: u32,
+    /// Those under which it can move a file or program, or give it a further name.
+    pub(crate) carrying: u32,
+    /// Those under which it can do so with a link.
+    pub(crate) carrying_links: u32,
+    /// Those under which it can make a directory.
+    pub(crate) making_dirs: u32,
+    /// Those under which it can make a file.
+    pub(crate) making_files: u32,
+    /// Those under which it can make a link.
+    pub(crate) making_links: u32,
+}
+
+impl Agent<'_> {
+    /// The covers under which it can make something.
+    pub(crate) fn making(&self, made: Made) -> u32
+        ensures { result ≡ making_of self.now (new_of made) }
+    {
+        match made {
+            Made::Dir | Made::Others => self.making_dirs,
+            Made::File => self.making_files,
+            Made::Link => self.making_links,
+        }
+    }
+
+    /// Those under which it can move a thing that is no directory, or give it a further name.
+    pub(crate) fn carrying(&self, kind: Kind) -> u32
+        ensures { result ≡ carrying_of self.now kind }
+    {
+        match kind {
+            Kind::Link => self.carrying_links,
+            Kind::Dir | Kind::File | Kind::Prog => self.carrying,
+        }
+    }
+}
+
+/// One of the processes, and what it starts, if that counts.
+#[derive(Clone, Copy)]
+pub(crate) struct Group<'a, 'c> {
+    /// The process.
+    pub(crate) own: &'a Agent<'c>,
+    /// What it starts.
+    pub(crate) program: Option<&'a Agent<'c>>,
+}
+
+/// A name at which something stands.
+#[derive(Clone, Copy)]
+pub(crate) struct Entry<'t> {
+    /// Its row in the table.
+    pub(crate) row: usize,
+    /// The directory.
+    pub(crate) dir: NodeId,
+    /// The name.
+    pub(crate) name: &'t Name,
+    /// What stands there.
+    pub(crate) node: NodeId,
+    /// What that is.
+    pub(crate) kind: Kind,
+}
+
+impl Entry<'_> {
+    /// Whether a directory stands there.
+    pub(crate) fn is_dir(&self) -> bool
+        ensures { result ≡ is_dir_kind (Some self.now.kind) }
+    {
+        match self.kind {
+            Kind::Dir => true,
+            Kind::File | Kind::Prog | Kind::Link => false,
+        }
+    }
+
+    /// How its name compares with this one: by directory and then by bytes.
+    fn cmp_spot(&self, dir: NodeId, name: &Name) -> Ordering
+        ensures { result ≡ spot_cmp (entry_of self.now) (dir, name.now) }
+    {
+        self.dir.cmp(&dir).then_with(|| self.name.cmp(name))
+    }
+}
+
+/// What stands at a name, of names in order.
+pub(crate) fn entry_at<'e, 't>(
+    entries: &'e [Entry<'t>],
+    dir: NodeId,
+    name: &Name,
+) -> Option<&'e Entry<'t>>
+    ensures { AreInOrder entries.now → IsEntryIn entries.now (dir, name.now) result }
+{
+    let Ok(place) = entries.binary_search_by(|entry| entry.cmp_spot(dir, name)) else {
+        return None;
+    };
+    Some(&entries[place])
+}
+
+/// A name at which one of the crew has a veil, in a directory that stands.
+#[derive(Clone, Copy)]
+pub(crate) struct Mark<'t> {
+    /// The directory.
+    pub(crate) dir: NodeId,
+    /// The name.
+    pub(crate) name: &'t Name,
+    /// The row of what stands there, if anything does.
+    pub(crate) row: Option<usize>,
+}
+
+/// A watched directory.
+#[derive(Clone, Copy)]
+pub(crate) struct Watch {
+    /// The directory.
+    pub(crate) dir: NodeId,
+    /// Its column in the table.
+    pub(crate) column: usize,
+}
+
+/// What the facts of a crew are found by.
+#[derive(Drop)]
+pub(crate) struct Crew<'t> {
+    /// How much the table is of.
+    pub(crate) shape: Shape,
+    /// How many words a row has.
+    pub(crate) columns: usize,
+    /// The row of what each process can make.
+    pub(crate) makers: usize,
+    /// The processes.
+    pub(crate) agents: Vec<Agent<'t>>,
+    /// The rows of directories, and of what each process makes.
+    pub(crate) seats: Vec<usize>,
+    /// The names at which something stands.
+    pub(crate) entries: Vec<Entry<'t>>,
+    /// The names with veils.
+    pub(crate) marks: Vec<Mark<'t>>,
+    /// The watched directories.
+    pub(crate) watches: Vec<Watch>,
+}

@@ -1,0 +1,244 @@
+//! The calls that the facts of several processes give one of them.
+
+ghost use Rattle.std.specs.Prelude.{◌≡◌, ◌&&◌, ◌||◌, ◌==◌, ℕ, List, Option, Some, false, get_or};
+ghost use Rattle.std.specs.Prelude.{not, true};
+ghost use Rattle.std.specs.List.{Contains};
+ghost use Rattle.pua_tree.specs.Tree.{Tree, is_dir, look};
+ghost use Rattle.pua_calls.specs.CallSets.{has, keeps_link};
+ghost use Rattle.pua_calls.specs.declared.call.Call.{Call as AnyCall};
+ghost use Rattle.pua_path.specs.Fits.{is_link_kind};
+ghost use Rattle.pua_path.specs.declared.found.Way.{Way};
+ghost use Rattle.pua_path.specs.declared.found.Found.TheVariants.{Slot, Whole};
+ghost use Rattle.pua_objects.specs.Items.{IsItemOn, SubjectFits};
+ghost use Rattle.pua_objects.specs.Objects.{At, Others, Subject as About};
+ghost use Rattle.pua_policy.specs.States.{ProcessState};
+ghost use Rattle.pua_ever.specs.Ever.{Comes, Stands};
+ghost use Rattle.pua_ever.specs.EverLines.{new_of};
+ghost use Rattle.pua_ever.specs.Prospects.{own_given};
+ghost use Rattle.pua_jointly.specs.JointCalls.{AreCallsOf, AreCallsOfOne, AreFreeCalls, AreOwnCalls};
+ghost use Rattle.pua_jointly.specs.JointCalls.{AreOwnCallsOfOne, HasAgents, IsOf};
+ghost use Rattle.pua_jointly.specs.Jointly.{agents_of};
+ghost use Rattle.pua_jointly.specs.JointSetting.{AreInOrder, IsEntryIn};
+
+use crate::crew::{Agent, Entry, Group, entry_at};
+use crate::doing::calls_under;
+use crate::facts::Facts;
+use pua_calls::{CallTable, Calls};
+use pua_ever::{Made, on_new_file, own_name};
+use pua_objects::{Item, Subject};
+use pua_policy::{Cover, Object, Place, judge};
+use pua_tree::{Kind, Name, NodeId};
+
+impl Facts<'_> {
+    /// The calls of a process and of what it starts on what an item is about.
+    pub(crate) fn all_calls_on(
+        &self,
+        of: &Group<'_, '_>,
+        table: &CallTable,
+        item: &Item<'_>,
+    ) -> Calls
+        ensures { (t : Tree) (crew : List ProcessState) (a : ProcessState) (given : Option ℕ)
+            (about : About) → HasAgents t table.now crew self.now a given of.now →
+            SubjectFits t about → IsItemOn t a about item.now →
+            AreCallsOfOne t table.now crew (agents_of (a, given)) (Stands about) result }
+    {
+        let own = self.calls_on(of.own, table, item);
+        let Some(program) = of.program else {
+            return own;
+        };
+        own.union(self.calls_on(program, table, item))
+    }
+
+    /// Those on the name at which an item stands, once that is taken away.
+    pub(crate) fn all_calls_on_freed(
+        &self,
+        of: &Group<'_, '_>,
+        table: &CallTable,
+        item: &Item<'_>,
+    ) -> Calls
+        ensures { (t : Tree) (crew : List ProcessState) (a : ProcessState) (given : Option ℕ)
+            (about : About) → HasAgents t table.now crew self.now a given of.now →
+            SubjectFits t about → IsItemOn t a about item.now →
+            AreOwnCallsOfOne t table.now crew (agents_of (a, given))
+            (own_given item.now.subject item.now.object) result }
+    {
+        let own = self.calls_on_freed(of.own, table, item);
+        let Some(program) = of.program else {
+            return own;
+        };
+        own.union(self.calls_on_freed(program, table, item))
+    }
+
+    /// Those on what can be made.
+    pub(crate) fn all_calls_on_made(
+        &self,
+        of: &Group<'_, '_>,
+        table: &CallTable,
+        made: Made,
+    ) -> Calls
+        ensures { (t : Tree) (crew : List ProcessState) (a : ProcessState) (given : Option ℕ) →
+            HasAgents t table.now crew self.now a given of.now →
+            AreCallsOfOne t table.now crew (agents_of (a, given)) (Comes (new_of made)) result }
+    {
+        let own = self.calls_on_made(of.own, table, made);
+        let Some(program) = of.program else {
+            return own;
+        };
+        own.union(self.calls_on_made(program, table, made))
+    }
+
+    /// The calls on what an item is about.
+    fn calls_on(&self, of: &Agent<'_>, table: &CallTable, item: &Item<'_>) -> Calls
+        ensures { (t : Tree) (crew : List ProcessState) (a : ProcessState) (about : About) →
+            IsOf t table.now crew self.now a of.now → SubjectFits t about →
+            IsItemOn t a about item.now → AreCallsOf t table.now crew a (Stands about) result }
+    {
+        match item.subject {
+            Subject::Root => self.calls_on_dir(of, table, NodeId::ROOT),
+            Subject::Dir(dir, _, _) => self.calls_on_dir(of, table, dir),
+            Subject::Others(dir) => self.calls_on_others(of, table, dir),
+            Subject::Name(dir, name) => self.calls_on_name(of, table, dir, name),
+        }
+    }
+
+    /// Those on a directory: rmdir too, where it can come to be empty and is not the root.
+    fn calls_on_dir(&self, of: &Agent<'_>, table: &CallTable, dir: NodeId) -> Calls
+        ensures { (t : Tree) (crew : List ProcessState) (a : ProcessState) (way : Way) →
+            IsOf t table.now crew self.now a of.now → is_dir t dir ≡ true →
+            AreCallsOf t table.now crew a (Stands (At (Whole dir way))) result }
+    {
+        let covers = self.on_dir(of, dir);
+        let lasting = calls_under(of.process, table, covers, Object::Node(Kind::Dir));
+        if !self.is_removable(dir) {
+            return lasting;
+        }
+        let emptied = calls_under(of.process, table, covers, Object::Removable);
+        lasting.union(emptied)
+    }
+
+    /// Whether a directory can come to be empty, and is not the root.
+    fn is_removable(&self, dir: NodeId) -> bool
+        ensures { result ≡ (not (dir == 0) && not (get_or self.now.held.items dir false)) }
+    {
+        dir != NodeId::ROOT && self.is_emptied(dir)
+    }
+
+    /// Those on the further names of a directory.
+    fn calls_on_others(&self, of: &Agent<'_>, table: &CallTable, dir: NodeId) -> Calls
+        ensures { (t : Tree) (crew : List ProcessState) (a : ProcessState) →
+            IsOf t table.now crew self.now a of.now → is_dir t dir ≡ true →
+            AreCallsOf t table.now crew a (Stands (Others dir)) result }
+    {
+        calls_under(of.process, table, self.on_dir(of, dir), Object::Missing)
+    }
+
+    /// Those on a name at which no directory stands.
+    fn calls_on_name(&self, of: &Agent<'_>, table: &CallTable, dir: NodeId, name: &Name) -> Calls
+        ensures { (t : Tree) (crew : List ProcessState) (a : ProcessState) →
+            IsOf t table.now crew self.now a of.now → is_dir t dir ≡ true →
+            ((x : _) → look t dir name.now ≡ Some x → is_dir t x ≡ false) →
+            AreCallsOf t table.now crew a
+            (Stands (At (Slot dir name.now (look t dir name.now)))) result }
+    {
+        match self.entry(dir, name) {
+            Some(entry) => self.calls_on_entry(of, table, entry),
+            None => calls_on_free(of, table, dir, name),
+        }
+    }
+
+    /// Those on what stands at a name and is no directory: exec too on a file that can be made a
+    /// program.
+    pub(crate) fn calls_on_entry(
+        &self,
+        of: &Agent<'_>,
+        table: &CallTable,
+        entry: &Entry<'_>,
+    ) -> Calls
+        ensures { (t : Tree) (crew : List ProcessState) (a : ProcessState) →
+            IsOf t table.now crew self.now a of.now →
+            Contains self.now.crew.entries.items entry.now → is_dir t entry.now.node ≡ false →
+            AreCallsOf t table.now crew a
+            (Stands (At (Slot entry.now.dir entry.now.name.now (Some entry.now.node)))) result }
+    {
+        let covers = self.on_entry(of, entry);
+        let calls = calls_under(of.process, table, covers, Object::Node(entry.kind));
+        if !self.is_turned(entry.node) {
+            return kept_by(entry.kind, calls);
+        }
+        let started = calls_under(of.process, table, covers, Object::Node(Kind::Prog));
+        on_new_file(calls, started)
+    }
+
+    /// Those on the name at which an item stands, once that is taken away; none where it has no
+    /// veil of its own, or what stands there can't be taken away.
+    fn calls_on_freed(&self, of: &Agent<'_>, table: &CallTable, item: &Item<'_>) -> Calls
+        ensures { (t : Tree) (crew : List ProcessState) (a : ProcessState) (about : About) →
+            IsOf t table.now crew self.now a of.now → SubjectFits t about →
+            IsItemOn t a about item.now → AreOwnCalls t table.now crew a
+            (own_given item.now.subject item.now.object) result }
+    {
+        let Some(own) = own_name(item) else {
+            return Calls::NONE;
+        };
+        let Some(entry) = self.entry(own.0, own.1) else {
+            return Calls::NONE;
+        };
+        if !self.crew.is_taken(&self.told, entry.row) {
+            return Calls::NONE;
+        }
+        calls_on_free(of, table, own.0, own.1)
+    }
+
+    /// Those on what can be made.
+    pub(crate) fn calls_on_made(&self, of: &Agent<'_>, table: &CallTable, made: Made) -> Calls
+        ensures { (t : Tree) (crew : List ProcessState) (a : ProcessState) →
+            IsOf t table.now crew self.now a of.now →
+            AreCallsOf t table.now crew a (Comes (new_of made)) result }
+    {
+        match made {
+            Made::Dir => calls_under(of.process, table, self.on_made_dir(of), Object::Removable),
+            Made::Others => calls_under(of.process, table, self.on_made_dir(of), Object::Missing),
+            Made::File => {
+                let covers = self.on_made(of, Made::File);
+                let calls = calls_under(of.process, table, covers, Object::Node(Kind::File));
+                let started = calls_under(of.process, table, covers, Object::Node(Kind::Prog));
+                on_new_file(calls, started)
+            }
+            Made::Link => {
+                let covers = self.on_made(of, Made::Link);
+                let calls = calls_under(of.process, table, covers, Object::Node(Kind::Link));
+                calls.keeping()
+            }
+        }
+    }
+
+    /// What stands at a name.
+    fn entry(&self, dir: NodeId, name: &Name) -> Option<&Entry<'_>>
+        ensures { AreInOrder self.now.crew.entries.items →
+            IsEntryIn self.now.crew.entries.items (dir, name.now) result }
+    {
+        entry_at(&self.crew.entries, dir, name)
+    }
+}
+
+/// The calls on what is of a kind: on a link those that keep it.
+fn kept_by(kind: Kind, calls: Calls) -> Calls
+    ensures { (call : AnyCall) → has result call
+        ≡ ((keeps_link call || not (is_link_kind (Some kind))) && has calls call) }
+{
+    if kind == Kind::Link {
+        calls.keeping()
+    } else {
+        calls
+    }
+}
+
+/// Those on a name where nothing stands, by its own veil; none where it has none.
+fn calls_on_free(of: &Agent<'_>, table: &CallTable, dir: NodeId, name: &Name) -> Calls
+    ensures { AreFreeCalls table.now of.now.process.now dir name.now result }
+{
+    match of.process.kept(&Place::Slot(dir, *name)) {
+        Some(perms) => judge::allowed(of.process, table, Cover::Only(perms), Object::Missing),
+        None => Calls::NONE,
+    }
+}

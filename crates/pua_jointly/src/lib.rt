@@ -1,0 +1,29 @@
+//! What several processes with veils and promises of their own can ever touch together.
+#![tactic(auto)]
+
+mod closing;
+mod counting;
+mod crew;
+mod doing;
+mod facts;
+mod fault;
+mod finding;
+mod joint_calls;
+mod joint_list;
+mod laws;
+mod made;
+mod members;
+mod old;
+mod rounds;
+mod setup;
+mod shape;
+mod starting;
+mod words;
+
+pub use counting::{Actor, Counted, find_counted, worst};
+pub use facts::Facts;
+pub use fault::FactsFault;
+pub use finding::find_facts;
+pub use joint_list::list_jointly;
+pub use laws::{crew_table_law, jointly_examples, jointly_law};
+pub use starting::started;

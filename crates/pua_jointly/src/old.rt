@@ -1,0 +1,91 @@
+//! The covers of a directory of the beginning that follow from the table of a crew.
+
+ghost use Rattle.std.specs.Prelude.{◌≡◌};
+ghost use Rattle.pua_jointly.specs.JointOld.{above_word, cover_word, old_word, over_word, root_word};
+
+use crate::words::covers_at;
+use pua_policy::{Cover, Place, Process};
+use pua_tree::{FileTree, Kind, Name, NodeId};
+
+/// The covers of a directory by the veils of one process, where those are known under which it
+/// comes when it is moved. A veil on a directory that stands no more covers nothing.
+pub(crate) fn old<T: FileTree>(
+    tree: &T,
+    process: &Process,
+    told: &[u32],
+    columns: usize,
+    dir: NodeId,
+    of: usize,
+    moved: u32,
+) -> u32
+    ensures { result
+        ≡ old_word (T.content tree.now) process.now told.now columns dir of moved }
+{
+    match process.kept(&Place::Dir(dir)) {
+        Some(perms) if tree.kind(dir) == Some(Kind::Dir) => bit_of(Cover::Only(perms)),
+        Some(_) => 0,
+        None => on_root(process, dir) | above(tree, told, columns, dir, of) | moved,
+    }
+}
+
+/// The covers by the veils of one process of a name at which no directory stands, in a directory
+/// that stands.
+pub(crate) fn over(
+    process: &Process,
+    told: &[u32],
+    columns: usize,
+    dir: NodeId,
+    name: &Name,
+    of: usize,
+) -> u32
+    ensures { result ≡ over_word process.now told.now columns dir name.now of }
+{
+    match process.kept(&Place::Slot(dir, *name)) {
+        Some(perms) => bit_of(Cover::Only(perms)),
+        None => covers_at(told, columns, dir.number() as usize, of),
+    }
+}
+
+/// The cover of the root, where no veil is on it.
+fn on_root(process: &Process, dir: NodeId) -> u32
+    ensures { result ≡ root_word process.now dir }
+{
+    if dir != NodeId::ROOT {
+        return 0;
+    }
+    if process.is_veiled() {
+        bit_of(Cover::Nothing)
+    } else {
+        bit_of(Cover::All)
+    }
+}
+
+/// The bits in a column of the directory above.
+pub(crate) fn above<T: FileTree>(
+    tree: &T,
+    told: &[u32],
+    columns: usize,
+    dir: NodeId,
+    of: usize,
+) -> u32
+    ensures { result ≡ above_word (T.content tree.now) told.now columns dir of }
+{
+    if dir == NodeId::ROOT {
+        return 0;
+    }
+    match tree.parent(dir) {
+        Some(parent) => covers_at(told, columns, parent.number() as usize, of),
+        None => 0,
+    }
+}
+
+/// A cover alone.
+fn bit_of(cover: Cover) -> u32
+    ensures { result ≡ cover_word cover }
+{
+    match cover {
+        Cover::All => 1,
+        Cover::Nothing => 2,
+        Cover::Only(perms) => 1 << (perms.bits() + 2),
+    }
+}

@@ -1,0 +1,328 @@
+//! What is worked out of several processes and a tree before their facts are found.
+
+ghost use Rattle.std.specs.Prelude.{◌≡◌, ◌≢◌, ◌<◌, ◌+◌, ◌^◌, Some, None, map, length};
+ghost use Rattle.std.specs.Prelude.{IfOk, IfSome, MatchOption};
+ghost use Rattle.std.specs.List.{fold, list_any};
+ghost use Rattle.pua_tree.specs.LentRows.{lent_entry};
+ghost use Rattle.pua_tree.specs.Tree.{WellFormed, kind_at};
+ghost use Rattle.pua_ever.specs.Laws.{dir_of_place};
+ghost use Rattle.pua_jointly.specs.JointFacts.{watches_by};
+ghost use Rattle.pua_jointly.specs.JointMembers.{Each, SameMembers, states, veil_now};
+ghost use Rattle.pua_jointly.specs.JointSetting.{AreInOrder, AreMarksOf, AreWatched, IsEntryAt};
+ghost use Rattle.pua_jointly.specs.JointSetting.{IsMarkOf, IsRowIn};
+ghost use Rattle.pua_jointly.specs.JointSetting.{HasRoom, IsSize, entry_of, greater as greater_of};
+ghost use Rattle.pua_jointly.specs.JointSetting.{mark_spot, row_number, veil_number};
+ghost use Rattle.pua_jointly.specs.JointSetup.{IsWorkedOut, crew_told};
+ghost use Rattle.pua_jointly.specs.JointTable.{numbers};
+ghost use Rattle.pua_jointly.specs.JointWords.{IsAgent};
+
+use crate::crew::{Agent, Crew, Entry, Mark, Watch, entry_at};
+use crate::doing::{Doing, covers_for, may_take};
+use crate::members::{all_veils, distinct, know_perms};
+use crate::shape::Shape;
+use pua_calls::{CallTable, Perms};
+use pua_ever::{Made, has_c};
+use pua_policy::{Cover, Place, Process};
+use pua_tree::{FileTree, Kind, LentRow, Name, NodeId, OutOfMemory};
+use std::alloc::{AllocError, Global};
+
+/// How many words a row of the table has, and where its kinds of rows end.
+#[derive(Clone, Copy)]
+pub(crate) struct Size {
+    /// How many words a row has.
+    columns: usize,
+    /// The row after those of directories and of what each process makes.
+    seats: usize,
+    /// The row of what each process can make.
+    makers: usize,
+}
+
+/// Works out what the facts of several processes are found by: of equal ones there is one. The only
+/// error is that a growth was refused, or that the table of facts would have more rows than can be
+/// numbered.
+pub(crate) fn work_out<'t, T: FileTree>(
+    alloc: Global,
+    tree: &'t T,
+    processes: &[&'t Process],
+    table: &CallTable,
+) -> Result<Crew<'t>, OutOfMemory>
+    ensures worked { IfOk result (λ crew. IsWorkedOut (T.content tree.now) table.now crew) }
+    ensures members { IfOk result (λ crew. SameMembers (states processes.now) (crew_told crew)) }
+{
+    tree.known();
+    let members = distinct(alloc, processes)?;
+    let veils = all_veils(alloc, &members)?;
+    know_perms(&veils);
+    let rows = tree.rows(alloc)?;
+    let shape = Shape {
+        agents: members.len(),
+        last: last_number(&rows, &veils),
+    };
+    let watches = find_watches(alloc, tree, shape, &veils)?;
+    let Some(size) = size_of(shape, rows.len(), watches.len()) else {
+        return Err(OutOfMemory);
+    };
+    let agents = ask_agents(alloc, &members, table, shape, size)?;
+    let entries = find_entries(alloc, tree, &rows, size)?;
+    let marks = find_marks(alloc, tree, &entries, &veils)?;
+    let seats = all_seats(alloc, size)?;
+    Ok(Crew {
+        shape,
+        columns: size.columns,
+        makers: size.makers,
+        agents,
+        seats,
+        entries,
+        marks,
+        watches,
+    })
+}
+
+/// The greatest number of a node in a row, and of a directory in which a row or a veil is.
+fn last_number(rows: &[LentRow<'_>], veils: &[(&Place, &Perms)]) -> u32
+    ensures { result ≡ fold (λ last veil. greater_of last (veil_number veil))
+        (fold (λ last row. greater_of last (row_number row)) 0 rows.now) veils.now }
+{
+    let of_rows = rows
+        .iter()
+        .fold(0, |last, row| greater(last, number_in(row)));
+    veils
+        .iter()
+        .fold(of_rows, |last, veil| greater(last, number_of(veil.0)))
+}
+
+/// The greater number of a row: its directory's or its node's.
+fn number_in(row: &LentRow<'_>) -> u32
+    ensures { result ≡ row_number row.now }
+{
+    greater(row.dir.number(), row.node.number())
+}
+
+/// The number of a place's directory.
+fn number_of(place: &Place) -> u32
+    ensures { result ≡ dir_of_place place.now }
+{
+    let (Place::Dir(dir) | Place::Slot(dir, _)) = place;
+    dir.number()
+}
+
+/// The greater of two numbers.
+fn greater(one: u32, other: u32) -> u32
+    ensures { result ≡ greater_of one other }
+{
+    if one < other { other } else { one }
+}
+
+/// How many words a row has, and where rows are, if all can be numbered.
+fn size_of(shape: Shape, names: usize, watched: usize) -> Option<Size>
+    ensures { IfSome result (IsSize shape names watched) }
+{
+    let columns = shape.agents.checked_add(1)?.checked_add(watched)?;
+    let seats = shape.agents.checked_add(shape.last as usize + 1)?;
+    let drops = seats.checked_add(shape.agents)?;
+    let makers = drops.checked_add(shape.agents)?;
+    let _names = makers.checked_add(1)?.checked_add(names)?;
+    Some(Size {
+        columns,
+        seats,
+        makers,
+    })
+}
+
+/// What is asked of each process. The only error is that a growth was refused.
+fn ask_agents<'t>(
+    alloc: Global,
+    members: &[&'t Process],
+    table: &CallTable,
+    shape: Shape,
+    size: Size,
+) -> Result<Vec<Agent<'t>>, AllocError>
+    requires room { HasRoom shape size }
+    requires many { length members.now ≡ shape.agents }
+    ensures crew { IfOk result (λ agents.
+        map (λ agent. agent.process.now) agents.items ≡ states members.now) }
+    ensures each { IfOk result (λ agents. Each (λ i agent.
+        IsAgent table.now (shape.last + 1) shape.agents i agent.process.now agent) agents.items) }
+{
+    let mut agents = Vec::new(alloc);
+    for (place, process) in members.iter().enumerate() {
+        agents.push(agent(process, table, place, shape, size))?;
+    }
+    Ok(agents)
+}
+
+/// What is asked of the process at a place of the crew.
+fn agent<'t>(
+    process: &'t Process,
+    table: &CallTable,
+    place: usize,
+    shape: Shape,
+    size: Size,
+) -> Agent<'t>
+    requires room { HasRoom shape size }
+    requires low { place < shape.agents }
+    ensures is { IsAgent table.now (shape.last + 1) shape.agents place process.now result }
+    ensures process { result.process.now ≡ process.now }
+{
+    Agent {
+        process,
+        place,
+        landing: size.seats + place,
+        drops: size.seats + shape.agents + place,
+        may_take: may_take(process, table),
+        moving: covers_for(process, table, Doing::Moving),
+        carrying: covers_for(process, table, Doing::Carrying(Kind::File)),
+        carrying_links: covers_for(process, table, Doing::Carrying(Kind::Link)),
+        making_dirs: covers_for(process, table, Doing::Making(Made::Dir)),
+        making_files: covers_for(process, table, Doing::Making(Made::File)),
+        making_links: covers_for(process, table, Doing::Making(Made::Link)),
+    }
+}
+
+/// The names at which something stands. The only error is that a growth was refused.
+fn find_entries<'t, T: FileTree>(
+    alloc: Global,
+    tree: &T,
+    rows: &[LentRow<'t>],
+    size: Size,
+) -> Result<Vec<Entry<'t>>, AllocError>
+    requires rows { map lent_entry rows.now ≡ (T.content tree.now).rows }
+    requires room { size.makers + 1 + length rows.now < 2 ^ 64 }
+    requires tree { WellFormed (T.content tree.now) }
+    ensures rows { IfOk result (λ entries.
+        map entry_of entries.items ≡ map (λ row. row.0) (T.content tree.now).rows) }
+    ensures each { IfOk result (λ entries.
+        Each (IsEntryAt (T.content tree.now) (size.makers + 1)) entries.items) }
+{
+    let mut entries = Vec::new(alloc);
+    for (place, row) in rows.iter().enumerate() {
+        let entry = entry(tree, row, size.makers + 1 + place);
+        let Ok(()) = entries.push(entry) else {
+            return Err(AllocError);
+        };
+    }
+    Ok(entries)
+}
+
+/// What is asked of a name at which something stands, with its row in the table.
+fn entry<'t, T: FileTree>(tree: &T, at: &LentRow<'t>, row: usize) -> Entry<'t>
+    requires { kind_at (T.content tree.now) at.now.node ≢ None }
+    ensures row { result.row ≡ row }
+    ensures spot { entry_of result ≡ (at.now.dir, at.now.name.now) }
+    ensures node { result.node ≡ at.now.node }
+    ensures kind { kind_at (T.content tree.now) at.now.node ≡ Some result.kind }
+{
+    let Some(kind) = tree.kind(at.node) else {
+        unreachable!()
+    };
+    Entry {
+        row,
+        dir: at.dir,
+        name: at.name,
+        node: at.node,
+        kind,
+    }
+}
+
+/// The names with veils in directories that stand. The only error is that a growth was refused.
+fn find_marks<'t, T: FileTree>(
+    alloc: Global,
+    tree: &T,
+    entries: &[Entry<'_>],
+    veils: &[(&'t Place, &'t Perms)],
+) -> Result<Vec<Mark<'t>>, AllocError>
+    requires { AreInOrder entries.now }
+    ensures { IfOk result (λ marks.
+        AreMarksOf (T.content tree.now) entries.now (map veil_now veils.now) marks.items) }
+{
+    let mut marks = Vec::new(alloc);
+    for veil in veils {
+        let Some(mark) = mark_at(tree, entries, veil.0) else {
+            continue;
+        };
+        let Ok(()) = marks.push(mark) else {
+            return Err(AllocError);
+        };
+    }
+    Ok(marks)
+}
+
+/// The name at which a veil is, if it is at a name in a directory that stands.
+fn mark_at<'t, T: FileTree>(tree: &T, entries: &[Entry<'_>], place: &'t Place) -> Option<Mark<'t>>
+    requires { AreInOrder entries.now }
+    ensures { MatchOption result (mark_spot (T.content tree.now) place.now ≡ None)
+        (IsMarkOf (T.content tree.now) entries.now place.now) }
+{
+    match place {
+        Place::Slot(dir, name) if tree.kind(*dir) == Some(Kind::Dir) => Some(Mark {
+            dir: *dir,
+            name,
+            row: row_of(entries, *dir, name),
+        }),
+        _ => None,
+    }
+}
+
+/// The row of what stands at a name, if anything does.
+fn row_of(entries: &[Entry<'_>], dir: NodeId, name: &Name) -> Option<usize>
+    requires { AreInOrder entries.now }
+    ensures { IsRowIn entries.now (dir, name.now) result }
+{
+    let entry = entry_at(entries, dir, name)?;
+    Some(entry.row)
+}
+
+/// The watched directories. The only error is that a growth was refused.
+fn find_watches<T: FileTree>(
+    alloc: Global,
+    tree: &T,
+    shape: Shape,
+    veils: &[(&Place, &Perms)],
+) -> Result<Vec<Watch>, AllocError>
+    requires { shape.agents < 2 ^ 63 }
+    ensures { IfOk result (λ watches.
+        AreWatched (T.content tree.now) shape.agents (shape.last + 1) (map veil_now veils.now)
+        watches.items) }
+{
+    let mut watches = Vec::new(alloc);
+    for number in 0..shape.last as usize + 1 {
+        let dir = NodeId::new(number as u32);
+        if is_watched(tree, dir, veils) {
+            let column = shape.agents + 1 + watches.len();
+            watches.push(Watch { dir, column })?;
+        }
+    }
+    Ok(watches)
+}
+
+/// Whether a directory is watched, by all veils.
+fn is_watched<T: FileTree>(tree: &T, dir: NodeId, veils: &[(&Place, &Perms)]) -> bool
+    ensures { result
+        ≡ list_any (λ veil. watches_by (T.content tree.now) dir (veil_now veil)) veils.now }
+{
+    veils.iter().any(|veil| watches(tree, dir, veil.0, *veil.1))
+}
+
+/// Whether a directory is watched for a veil: it is another one's that is below it, or its own with
+/// `c`.
+fn watches<T: FileTree>(tree: &T, dir: NodeId, place: &Place, perms: Perms) -> bool
+    ensures { result ≡ watches_by (T.content tree.now) dir (place.now, perms) }
+{
+    match place {
+        Place::Slot(_, _) => false,
+        Place::Dir(other) if *other == dir => has_c(Cover::Only(perms)),
+        Place::Dir(other) => tree.is_within(*other, dir),
+    }
+}
+
+/// The rows of directories, and of what each process makes. The only error is that a growth was
+/// refused.
+fn all_seats(alloc: Global, size: Size) -> Result<Vec<usize>, AllocError>
+    ensures { IfOk result (λ seats. seats.items ≡ numbers size.seats) }
+{
+    let mut seats = Vec::new(alloc);
+    for seat in 0..size.seats {
+        seats.push(seat)?;
+    }
+    Ok(seats)
+}
