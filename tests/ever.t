@@ -496,7 +496,7 @@ sub refusals {
     is_refused('two processes, one of which can still unveil,', { script => "1 fork 2\n1 unveil - -\n" },
         'pua: process 2 can still unveil', '--process', '1,2');
     is_refused('two processes with other veils', { script => "1 fork 2\n2 unveil / r\n1 unveil - -\n2 unveil - -\n" },
-        'pua: processes 1 and 2 have other veils', '--process', 'all');
+        'pua: processes 1 and 2 have other veils: ask with --beside', '--process', 'all');
     for my $call (@NEED_C) {
         my $files = { script => "1 unveil - -\n", table => table_without_c($call) };
         my @rules = $call =~ /\A(?:bind|mknod|create-rw)\z/ ? ('--rules', 'openbsd') : ();

@@ -272,10 +272,11 @@ process 4 ever: veils 1, locked; read 0, written 0, executed 1, made 0, removed 
     programs that it starts have no sandbox: 1 can be executed
 OUT
 
-# What goes from one process to another.
+# What the help of others adds, and what goes from one to another: several outputs, one after another.
 my $STATE = "process alive\nrules openbsd\npromises rpath,stdio\nexecpromises -\nunveil given-up\n";
+my $ALONE = "ever 2\n${STATE}veil /cache r\ndir /cache stat,lstat,open-r,chdir\nfile /cache/x stat,lstat,open-r\nlink /cache/l lstat\n";
 my $MAIN  = 'stat,lstat,open-r,open-w,open-rw,create,unlink,create-rw';
-tells('what goes from one to another', <<"END", split /\n/, <<'OUT');
+tells('help of others', <<"END", split /\n/, <<'OUT');
 1 ok
 2 ok by dns
 3 killed
@@ -288,25 +289,50 @@ file /cache/y $MAIN
 prog /cache/p unlink
 link /cache/l lstat,readlink,unlink
 file new $MAIN
-ever 2
+1 ok
+2 ok by dns
+3 killed
+${ALONE}1 ok
+2 ok by dns
+3 killed
+ever 2 beside 1
 ${STATE}veil /cache r
+file /etc/arin stat,lstat,open-r
 dir /cache stat,lstat,open-r,chdir
 file /cache/x stat,lstat,open-r
 link /cache/l lstat,readlink
-ever 3
+dir new stat,open-r
+file new stat
+1 ok
+2 ok by dns
+3 killed
+ever 2 beside 3,7
+${STATE}veil /cache r
+dir /cache stat,lstat,open-r,chdir
+file /cache/x stat,lstat,open-r
+link /cache/l lstat
+ever 3 beside 1,2
 ${STATE}exec open
 veil /cache x
 file /cache/y stat,open-r
 prog /cache/p exec
 file /cache/x open-r
+ever 2 beside 7
+${STATE}veil /cache r
+dir /cache stat,lstat,open-r,chdir,rmdir
+file /cache/x stat,lstat,open-r
+link /cache/l lstat
 END
 answers: killed 1, ok 2
 process 1 ever: veils 1, given-up; read 5, written 3, executed 0, made 1, removed 6
 process 2 ever: veils 1, given-up; read 3, written 0, executed 0, made 0, removed 0
-process 3 ever: veils 1, given-up; read 2, written 0, executed 1, made 0, removed 0
+process 3 ever beside 1,2: veils 1, given-up; read 2, written 0, executed 1, made 0, removed 0
     the list holds until a program is started
+process 2: with 1: 4 lines, 7 calls more
+process 2: with 3,7: none more
+process 2: with 7: 1 line, 1 call more
 prog /cache/p: 3 exec, 1 unlink
-dir /cache: 2 open-r, 1 rmdir
+dir /cache: 1 open-r, 2 open-r, 1 rmdir, 2 rmdir
 file /cache/x: 2 open-r, 3 open-r, 1 open-w,open-rw,create,unlink,create-rw
 file /cache/y: 3 open-r, 1 open-w,open-rw,create,unlink,create-rw
 link /cache/l: 2 readlink, 1 unlink

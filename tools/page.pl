@@ -267,7 +267,8 @@ sub add_list {
     my %was = map { join(' ', @$_[0, 1]) => $_->[2] } $now ? @{ $now->{objects} } : ();
     push @$page, "<h2>What process $list->{process} "
         . (defined $list->{before} ? "could touch before line $list->{before}"
-            : $list->{ever} ? 'can ever touch' : 'can touch') . "</h2>\n";
+            : $list->{ever} ? 'can ever touch' : 'can touch')
+        . (defined $list->{beside} ? " beside $list->{beside}" : '') . "</h2>\n";
     push @$page, "<p>What the list of now does not have is <b class=\"more\">marked</b>.</p>\n"
         if $now || $list->{steps};
     add_state($page, $tree, $list);

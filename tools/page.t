@@ -116,6 +116,9 @@ my @site = ('1 dir 0 www', '2 dir 1 site', '3 file 2 index', '4 file 1 key', '5 
         'what can be made, reasons and further calls are shown');
     like($page, qr{<h2>What process 1 can ever touch</h2>}, 'the heading says for ever');
     like($page, qr{<li><code>limits none</code> </li>}, 'a line of the state that is not known stands as it is');
+    $page = page_of('helped', \@site, ['1 ok', 'ever 1', 'process alive', 'ever 1 beside 2,3', 'process alive', 'file /www/key open-r']);
+    is_deeply([$page =~ m{<h2>(.*)</h2>}g], ['What process 1 can ever touch', 'What process 1 can ever touch beside 2,3'],
+        'the heading says beside whom');
 }
 
 # The steps of ways in a list for ever.

@@ -11,7 +11,7 @@ our @EXPORT_OK = qw(lists_of state_of);
 
 # The answers of a text, in the order of the script's lines; and its lists, by the number of the process.
 # A list has the lines of its state; its lines, each a kind, a path (or `new`), a list of calls, and the
-# steps to calls where they are told; and its text without the heading.
+# steps to calls where they are told; its text without the heading; and beside whom it is.
 sub lists_of {
     my ($text) = @_;
     my ($answers, @lists) = all_lists_of('a text', split /\n/, $text);
@@ -30,7 +30,7 @@ sub _list {
         push @lines, { text => "@$_", kind => $kind, path => $path, calls => [ split /,/, $calls ], steps => $steps };
     }
     my $text = join '', map { "$_\n" } @{ $list->{state} }, map { $_->{text} } @lines;
-    return { state => $list->{state}, lines => \@lines, text => $text };
+    return { state => $list->{state}, lines => \@lines, text => $text, beside => $list->{beside} };
 }
 
 sub is_alive { return !state_of($_[0])->{ended} }

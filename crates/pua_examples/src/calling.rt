@@ -232,6 +232,7 @@ pub(crate) fn list(
         span: Time::Now,
         columns: Columns::Plain,
         images: false,
+        beside: None,
     };
     let table = TableChoice::STANDARD;
     list_to(alloc, tree, lines, table, &list, &mut sink)?;

@@ -28,6 +28,18 @@ fn process_0_among_several(alloc: Global, words: &[&str]) {
     }
 }
 
+/// Nor does one help that has it.
+fn process_0_helping(alloc: Global, words: &[&str]) {
+    let Ok(command) = read_words(alloc, words) else {
+        return;
+    };
+    if let Text::List(words) = &command.text
+        && let Some(Processes::One(0)) = &words.beside
+    {
+        unreachable!()
+    }
+}
+
 /// A list of objects has a line of its own.
 fn program_line_for_objects(alloc: Global) {
     if let Err(Stop::Usage(UsageLine::Program)) = read_words(alloc, &["objects"]) {

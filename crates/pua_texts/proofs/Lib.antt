@@ -13,6 +13,7 @@ pub mod EverLines
 pub mod EverHowLines
 pub mod MembersNext
 pub mod TogetherList
+pub mod BesideList
 pub mod OpeningLines
 pub mod States
 pub mod StateLaw

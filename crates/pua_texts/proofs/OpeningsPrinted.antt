@@ -26,6 +26,7 @@ use Rattle.pua_texts.specs.Lines.{with_end}
 use Rattle.pua_texts.specs.States.{HasOpening, OpeningsArePrinted, execs_told, held_lines, living_lines, opening_set, openings_told}
 use Rattle.pua_texts.specs.States.{own_lines, unveiled_line}
 use Rattle.pua_texts.specs.declared.state.Heading.{Heading}
+use Rattle.pua_texts.specs.declared.state.Time.{Time}
 use Rattle.pua_texts.specs.declared.state.Time.TheVariants.{Now, Ever}
 use Rattle.pua_texts.proofs.StateLaw.{passing}
 
@@ -136,12 +137,15 @@ in_own head h o lives has =
     parts : (a p e b line c u : List ℕ) → a ++ p ++ (e ++ (b ++ line ++ c) ++ u) ≡ (a ++ p ++ e ++ b) ++ line ++ (c ++ u)
     parts a p e b line c u = search (append_assoc)
 
+told : (rules : Rules) (time : Time) (h : ProcessState) (o : Opening) → (about_rules rules).has_openings ≡ true →
+    Contains openings o → holds_named (opening_set time h) (promises_of o.promise) ≡ true → HasOpening (openings_told rules time h) o
+told rules time h o by_these there has =
+    subst (λ (b : Bool). HasOpening (if b then opening_lines (keywords_of (opening_set time h)) else []) o) (sym by_these)
+    (line_of_held (opening_set time h) o there has)
+
 each : (head : Heading) (h : ProcessState) (o : Opening) → is_ended h ≡ false → (about_rules head.rules).has_openings ≡ true →
     Contains openings o → holds_named (opening_set head.time h) (promises_of o.promise) ≡ true → HasOpening (own_lines head h) o
-each head h o lives by_these there has =
-    in_own head h o lives
-    (subst (λ (b : Bool). HasOpening (if b then opening_lines (keywords_of (opening_set head.time h)) else []) o) (sym by_these)
-    (line_of_held (opening_set head.time h) o there has))
+each head h o lives by_these there has = in_own head h o lives (told head.rules head.time h o by_these there has)
 
 now : (head : Heading) (table : CallTable) (h : ProcessState) (call : Call) (text : List ℕ) (o : Opening) →
     table.whose ≡ head.rules → head.time ≡ Now → opening_of table h call text ≡ Some o →
@@ -187,4 +191,4 @@ ever head execs h call text lives at by_these may =
     )
 
 pub openings_are_printed : OpeningsArePrinted
-openings_are_printed = record { each = each; now = now; ever = ever }
+openings_are_printed = record { told = told; each = each; now = now; ever = ever }

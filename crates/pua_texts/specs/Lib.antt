@@ -6,6 +6,7 @@ pub mod ObjectLines
 pub mod EverLines
 pub mod EverHowLines
 pub mod TogetherLines
+pub mod BesideLines
 pub mod WhyLines
 -- Notes: what the code has of lists, what a writing leaves, and what is put at once.
 pub mod Lists

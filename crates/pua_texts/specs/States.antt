@@ -170,10 +170,12 @@ StateIsPrinted = (head : Heading) (h : ProcessState) → is_ended h ≡ false �
 abbrev pub HasOpening : List ℕ → Opening → Type 0
 HasOpening lines o = (before : List ℕ) × (after : List ℕ) × (lines ≡ before ++ opening_line o ++ after)
 
--- by rules that know of openings, of a process that has not ended: each opening of a promise by which something is opened at such a time
--- has its line; so what is opened to the process has its line in what a list says of it now, and whatever a promise that it holds opens
--- has one in a list for ever
+-- by rules that know of openings each opening of a promise by which something is opened at such a time has its line, also among what a
+-- list says of a process that has not ended; so what is opened to the process has its line in what a list says of it now, and whatever a
+-- promise that it holds opens has one in a list for ever
 pub record OpeningsArePrinted : Type 0 where
+  pub told : (rules : Rules) (time : Time) (h : ProcessState) (o : Opening) → (about_rules rules).has_openings ≡ true →
+      Contains openings o → holds_named (opening_set time h) (promises_of o.promise) ≡ true → HasOpening (openings_told rules time h) o
   pub each : (head : Heading) (h : ProcessState) (o : Opening) → is_ended h ≡ false → (about_rules head.rules).has_openings ≡ true →
       Contains openings o → holds_named (opening_set head.time h) (promises_of o.promise) ≡ true → HasOpening (own_lines head h) o
   pub now : (head : Heading) (table : CallTable) (h : ProcessState) (call : Call) (text : List ℕ) (o : Opening) →

@@ -6,6 +6,7 @@
 
 mod answers;
 mod audit_list;
+mod beside_list;
 mod block;
 mod calls_text;
 mod copies;
@@ -34,11 +35,12 @@ mod why_lists;
 
 pub use answers::{answer_text, front_text};
 pub use audit_list::{AuditList, write_audit};
+pub use beside_list::begin_beside;
 pub use ever_list::{begin_ever, begin_ever_with};
 pub use fault::TextFault;
 pub use laws::state_law;
 pub use lists::write_lists;
-pub use members::{Joined, Member};
+pub use members::{Helped, Joined, Member};
 pub use object_lists::{begin_image, begin_objects};
 pub use process_list::ProcessList;
 pub use together_list::begin_together;

@@ -30,7 +30,7 @@ pub(crate) fn states_text(
 }
 
 /// Adds the numbers of processes with commas between them.
-fn push_numbers(text: &mut String, members: &[Member<'_>]) -> Result<(), AllocError>
+pub(crate) fn push_numbers(text: &mut String, members: &[Member<'_>]) -> Result<(), AllocError>
     ensures { OnOk result (string_bytes text.new ≡ string_bytes text.old
         ++ with_commas (map (λ member. decimal member.0) (named_by members.now))) }
 {

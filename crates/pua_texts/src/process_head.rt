@@ -80,7 +80,10 @@ impl<'t> ProcessHead<'t> {
 }
 
 /// The veils of a process that has not ended.
-fn veils_of_living(alloc: Global, process: &Process) -> Result<Vec<(&Place, &Perms)>, OutOfMemory>
+pub(crate) fn veils_of_living(
+    alloc: Global,
+    process: &Process,
+) -> Result<Vec<(&Place, &Perms)>, OutOfMemory>
     ensures { IfOk result (λ veils.
         map (λ veil. (veil.0.now, veil.1.now)) veils.items ≡ living_veils process.now) }
 {

@@ -160,7 +160,7 @@ fn push_rules(text: &mut String, rules: Rules) -> Result<(), AllocError>
 }
 
 /// Adds what becomes of a list for ever at an exec, where one can succeed.
-fn push_execs(text: &mut String, time: Time) -> Result<(), AllocError>
+pub(crate) fn push_execs(text: &mut String, time: Time) -> Result<(), AllocError>
     ensures { OnOk result (string_bytes text.new ≡ string_bytes text.old ++ execs_told time) }
 {
     match time {
@@ -171,7 +171,7 @@ fn push_execs(text: &mut String, time: Time) -> Result<(), AllocError>
 }
 
 /// Adds what promises open by themselves, of which the standard rules know nothing.
-fn push_opened(
+pub(crate) fn push_opened(
     alloc: Global,
     text: &mut String,
     rules: Rules,
@@ -204,7 +204,7 @@ fn opening_promises(time: Time, process: &Process) -> Promises
 }
 
 /// Adds that there are no veils, where the process keeps none.
-fn push_unveiled(text: &mut String, process: &Process) -> Result<(), AllocError>
+pub(crate) fn push_unveiled(text: &mut String, process: &Process) -> Result<(), AllocError>
     ensures { OnOk result (string_bytes text.new
         ≡ string_bytes text.old ++ unveiled_line process.now) }
 {
@@ -215,7 +215,7 @@ fn push_unveiled(text: &mut String, process: &Process) -> Result<(), AllocError>
 }
 
 /// Adds a line of a label and a value.
-fn push_line(text: &mut String, label: &str, value: &str) -> Result<(), AllocError>
+pub(crate) fn push_line(text: &mut String, label: &str, value: &str) -> Result<(), AllocError>
     ensures { OnOk result (string_bytes text.new ≡ string_bytes text.old ++ with_end (label.now
         ++ value.now)) }
 {

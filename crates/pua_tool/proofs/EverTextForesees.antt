@@ -75,7 +75,7 @@ starts_bounded : (t : Tree) (table : CallTable) (h : ProcessState) (handed : ℕ
 starts_bounded t table h handed some bound = rw (some, bound) refl
 
 -- one of two sets is within both
-within_one : (table : CallTable) (h last : ProcessState) (handed : ℕ) → HoldsOne table h handed last →
+pub within_one : (table : CallTable) (h last : ProcessState) (handed : ℕ) → HoldsOne table h handed last →
     AreWithin (held_set last) (bit_or (held_set h) handed)
 within_one table h last handed (inl own) = λ set sound holding.
     holds_through (bit_or (held_set h) handed) (held_set h) set (first_of (held_set h) handed) (own.0 set sound holding)

@@ -25,6 +25,10 @@ pub mod EverHowTexts
 pub mod ActingNext
 pub mod TogetherTexts
 pub mod Several
+pub mod BesideFound
+pub mod BesideTexts
+pub mod BesideOkays
+pub mod BesideWritten
 pub mod Never
 pub mod PathlessLines
 pub mod TightTexts

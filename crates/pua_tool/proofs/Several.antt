@@ -35,7 +35,7 @@ use Rattle.pua_tool.proofs.Tables.{tables_need_no_error}
 use Rattle.pua_tool.proofs.TmpTables.{joined_too}
 use Rattle.pua_tool.proofs.TogetherTexts.{fault_listed, fault_veils}
 
-abbrev Member : Type 0
+abbrev pub Member : Type 0
 Member = ℕ × ProcessState
 
 abbrev states : List Member → List ProcessState
@@ -43,13 +43,13 @@ states members = map (λ member. member.1) members
 
 -- ---- those that are asked for
 
-abbrev Keeps : World → Member → Type 0
+abbrev pub Keeps : World → Member → Type 0
 Keeps w member = kept_at w member.0 ≡ Some member.1
 
 abbrev then_more : ℕ → Option ProcessState → Result (List Member) ToolFault → Result (List Member) ToolFault
 then_more process made rest = ok_or made NoProcess >>= λ h. rest >>= λ rest. Ok ((process, h) ∷ rest)
 
-are_made : (w : World) (ns : List ℕ) (members : List Member) → all_made w ns ≡ Ok members →
+pub are_made : (w : World) (ns : List ℕ) (members : List Member) → all_made w ns ≡ Ok members →
     (numbers members ≡ ns) × AllByRecursion (Keeps w) members
 are_made w [] members e = subst (λ ms. (numbers ms ≡ []) × AllByRecursion (Keeps w) ms) (same_Ok [] members e) (refl, tt)
 are_made w (n ∷ ns) members e = by (kept_at w n) refl (all_made w ns) (are_made w ns) e
@@ -65,10 +65,10 @@ are_made w (n ∷ ns) members e = by (kept_at w n) refl (all_made w ns) (are_mad
         (ap (λ others. n ∷ others) k.0, (is, k.1))
 
 -- nothing refuses the list of each of them
-abbrev IsUnrefused : CallTable → World → Member → Type 0
+abbrev pub IsUnrefused : CallTable → World → Member → Type 0
 IsUnrefused table w member = Keeps w member × (refusal table member.1 ≡ None)
 
-are_unrefused : (table : CallTable) (w : World) (members : List Member) → first_refused table members ≡ None →
+pub are_unrefused : (table : CallTable) (w : World) (members : List Member) → first_refused table members ≡ None →
     AllByRecursion (Keeps w) members → AllByRecursion (IsUnrefused table w) members
 are_unrefused table w [] none all = tt
 are_unrefused table w (m ∷ ms) none all = by (refusal table m.1) refl none (λ e. are_unrefused table w ms e all.1)
@@ -80,10 +80,10 @@ are_unrefused table w (m ∷ ms) none all = by (refusal table m.1) refl none (λ
 
 -- ---- those that live
 
-abbrev Acts : CallTable → World → Member → Type 0
+abbrev pub Acts : CallTable → World → Member → Type 0
 Acts table w member = IsUnrefused table w member × (is_ended member.1 ≡ false)
 
-those_living : (table : CallTable) (w : World) (members : List Member) → AllByRecursion (IsUnrefused table w) members →
+pub those_living : (table : CallTable) (w : World) (members : List Member) → AllByRecursion (IsUnrefused table w) members →
     AllByRecursion (Acts table w) (living members)
 those_living table w [] all = tt
 those_living table w (m ∷ ms) all = by (is_ended m.1) refl (those_living table w ms all.1)

@@ -10,6 +10,7 @@ use Rattle.pua_texts.specs.Lines.{with_end}
 use Rattle.pua_tool.specs.declared.fault.ToolFault.{ToolFault}
 use Rattle.pua_tool.specs.declared.fault.ToolFault.TheVariants.{Listing, Script, Request, NoProcess, Audit, Write, OutOfMemory, Table, CanUnveil}
 use Rattle.pua_tool.specs.declared.fault.ToolFault.TheVariants.{LacksC, RenameLacksC, LinkLacksC, OtherVeils, SeveralWhy, NowHow, SeveralHow, EverImages, WhyImages}
+use Rattle.pua_tool.specs.declared.fault.ToolFault.TheVariants.{NowBeside, WhyBeside, HowBeside, ImagesBeside}
 use Rattle.pua_tool.specs.declared.fault.ToolFault.TheVariants.{NoLine, HowCall, HowPath, HowThing, HowLink, TooManyNames}
 
 -- the line of an input that is to blame, if one is, and what is wrong
@@ -41,13 +42,17 @@ fault_line (LacksC call) = codes "pua: table: " ++ call_name call ++ with_end (c
 fault_line RenameLacksC = with_end (codes "pua: table: rename: no c")
 fault_line LinkLacksC = with_end (codes "pua: table: link: no c")
 fault_line (OtherVeils first other) =
-    codes "pua: processes " ++ decimal first ++ codes " and " ++ decimal other ++ with_end (codes " have other veils")
+    codes "pua: processes " ++ decimal first ++ codes " and " ++ decimal other ++ with_end (codes " have other veils: ask with --beside")
 fault_line TooManyNames = with_end (codes "pua: tree: too many names")
 fault_line SeveralWhy = with_end (codes "pua: objects: no list for ever of several with --why")
 fault_line NowHow = with_end (codes "pua: objects: no list of now with --how")
 fault_line SeveralHow = with_end (codes "pua: objects: no list of several with --how")
 fault_line EverImages = with_end (codes "pua: objects: no list for ever with --images")
 fault_line WhyImages = with_end (codes "pua: objects: no list with --why and --images")
+fault_line NowBeside = with_end (codes "pua: objects: no list of now with --beside")
+fault_line WhyBeside = with_end (codes "pua: objects: no list with --why and --beside")
+fault_line HowBeside = with_end (codes "pua: objects: no list with --how and --beside")
+fault_line ImagesBeside = with_end (codes "pua: objects: no list with --images and --beside")
 fault_line (NoLine line) = codes "pua: script: " ++ blame_line (Some line) (codes "no such line")
 fault_line HowCall = with_end (codes "pua: how: bad call")
 fault_line HowPath = with_end (codes "pua: how: bad path")

@@ -3,6 +3,7 @@ pub mod Texts
 pub mod ObjectTexts
 pub mod EverTexts
 pub mod TogetherTexts
+pub mod BesideTexts
 pub mod WhyTexts
 pub mod EverWhyTexts
 pub mod HowTexts
@@ -25,6 +26,7 @@ pub mod Alike
 pub mod Listed
 pub mod Forever
 pub mod Several
+pub mod BesideWritten
 pub mod Never
 pub mod Reasoned
 pub mod Fewest
@@ -42,5 +44,6 @@ pub mod Ended
 pub mod Pieces
 pub mod TwoWorlds
 pub mod Questions
+pub mod BesideFound
 pub mod RowColumns
 pub mod EverColumns

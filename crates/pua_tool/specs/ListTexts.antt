@@ -1,5 +1,5 @@
 -- The text of a list, whosever it is, of whatever time, with whatever columns, and what refuses it.
-use Rattle.std.specs.Prelude.{◌≡◌, ℕ, Bool, true, false, List, Result, Err}
+use Rattle.std.specs.Prelude.{◌≡◌, ℕ, Bool, true, false, List, Option, Some, None, Result, Err}
 use Rattle.pua_words.specs.declared.command.Columns.{Columns}
 use Rattle.pua_words.specs.declared.command.Columns.TheVariants.{Plain, Why, How}
 use Rattle.pua_words.specs.declared.command.ListWords.{ListWords}
@@ -8,6 +8,7 @@ use Rattle.pua_words.specs.declared.command.Processes.TheVariants.{One}
 use Rattle.pua_words.specs.declared.command.Time.{Time}
 use Rattle.pua_words.specs.declared.command.Time.TheVariants.{Now, Ever}
 use Rattle.pua_tool.specs.Texts.{Chosen}
+use Rattle.pua_tool.specs.BesideTexts.{IsBesideText}
 use Rattle.pua_tool.specs.ObjectTexts.{objects_text}
 use Rattle.pua_tool.specs.WhyTexts.{objects_why_text}
 use Rattle.pua_tool.specs.EverTexts.{ever_text}
@@ -17,6 +18,7 @@ use Rattle.pua_tool.specs.TogetherTexts.{together_text}
 use Rattle.pua_tool.specs.EverHowTexts.{IsEverHowText}
 use Rattle.pua_tool.specs.declared.fault.ToolFault.{ToolFault}
 use Rattle.pua_tool.specs.declared.fault.ToolFault.TheVariants.{EverImages, NowHow, SeveralHow, SeveralWhy, WhyImages}
+use Rattle.pua_tool.specs.declared.fault.ToolFault.TheVariants.{HowBeside, ImagesBeside, NowBeside, WhyBeside}
 
 -- the list for ever of one process, or of several together
 abbrev pub lasting_text : Chosen → List ℕ → List ℕ → Processes → Result (List ℕ) ToolFault
@@ -54,5 +56,22 @@ abbrev pub IsListWith : Bool → Time → Columns → Processes → Chosen → L
 IsListWith false span columns whose choice tree script answer = IsListBy span columns whose choice tree script answer
 IsListWith true span columns whose choice tree script answer = with_images_text span columns whose choice tree script ≡ answer
 
+-- with the help of others: for ever alone, and without columns
+abbrev pub IsHelpedBy : Time → Columns → Processes → Processes → Chosen → List ℕ → List ℕ → Result (List ℕ) ToolFault → Type 0
+IsHelpedBy Now columns whose helping choice tree script answer = Err NowBeside ≡ answer
+IsHelpedBy Ever Why whose helping choice tree script answer = Err WhyBeside ≡ answer
+IsHelpedBy Ever How whose helping choice tree script answer = Err HowBeside ≡ answer
+IsHelpedBy Ever Plain whose helping choice tree script answer = IsBesideText choice tree script whose helping answer
+
+-- and without what processes were
+abbrev pub IsHelpedWith : Bool → Time → Columns → Processes → Processes → Chosen → List ℕ → List ℕ → Result (List ℕ) ToolFault → Type 0
+IsHelpedWith true span columns whose helping choice tree script answer = Err ImagesBeside ≡ answer
+IsHelpedWith false span columns whose helping choice tree script answer = IsHelpedBy span columns whose helping choice tree script answer
+
+abbrev pub IsListOf : Option Processes → Bool → Time → Columns → Processes → Chosen → List ℕ → List ℕ → Result (List ℕ) ToolFault → Type 0
+IsListOf None images span columns whose choice tree script answer = IsListWith images span columns whose choice tree script answer
+IsListOf (Some helping) images span columns whose choice tree script answer =
+    IsHelpedWith images span columns whose helping choice tree script answer
+
 abbrev pub IsListText : Chosen → List ℕ → List ℕ → ListWords → Result (List ℕ) ToolFault → Type 0
-IsListText choice tree script list answer = IsListWith list.images list.span list.columns list.whose choice tree script answer
+IsListText choice tree script list answer = IsListOf list.beside list.images list.span list.columns list.whose choice tree script answer

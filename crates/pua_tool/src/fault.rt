@@ -62,6 +62,14 @@ pub enum ToolFault {
     EverImages,
     /// There is no list with reasons and with what processes were.
     WhyImages,
+    /// There is no list of now with the help of others.
+    NowBeside,
+    /// There is no list with the help of others and with what lets calls through.
+    WhyBeside,
+    /// There is no list with the help of others and with ways, since a way is of one.
+    HowBeside,
+    /// There is no list with the help of others and with what processes were.
+    ImagesBeside,
     /// The tree that the script leaves has more names than a listing has lines: over 1,000,000, the
     /// root counted as one.
     TooManyNames,
@@ -144,7 +152,7 @@ impl ToolFault {
             ToolFault::LinkLacksC => one("pua: table: link: no c"),
             ToolFault::OtherVeils(first, other) => {
                 let (first, other) = (Number(first), Number(other));
-                let rest = " have other veils";
+                let rest = " have other veils: ask with --beside";
                 five("pua: processes ", first, " and ", other, rest)
             }
             ToolFault::TooManyNames => one("pua: tree: too many names"),
@@ -153,6 +161,10 @@ impl ToolFault {
             ToolFault::SeveralHow => one("pua: objects: no list of several with --how"),
             ToolFault::EverImages => one("pua: objects: no list for ever with --images"),
             ToolFault::WhyImages => one("pua: objects: no list with --why and --images"),
+            ToolFault::NowBeside => one("pua: objects: no list of now with --beside"),
+            ToolFault::WhyBeside => one("pua: objects: no list with --why and --beside"),
+            ToolFault::HowBeside => one("pua: objects: no list with --how and --beside"),
+            ToolFault::ImagesBeside => one("pua: objects: no list with --images and --beside"),
             ToolFault::NoLine(line) => blamed("pua: script: ", (Some(line), "no such line")),
             ToolFault::HowCall => one("pua: how: bad call"),
             ToolFault::HowPath => one("pua: how: bad path"),

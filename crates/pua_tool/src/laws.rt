@@ -3,6 +3,7 @@
 
 ghost use Rattle.std.specs.Prelude.{◌≡◌};
 ghost use Rattle.pua_tool.specs.Alike.{AnswersAlike, LinesAlike};
+ghost use Rattle.pua_tool.specs.BesideWritten.{BesideAsWritten};
 ghost use Rattle.pua_tool.specs.EverHowExamples.{EverHowRows};
 ghost use Rattle.pua_tool.specs.Examples.{FaultTextRows, FrontRows, HowTextRows, ReasonTextRows};
 ghost use Rattle.pua_tool.specs.Examples.{TextRows, TightTextRows};
@@ -23,6 +24,7 @@ ghost use Rattle.pua_script.specs.Futures.{RulesNarrow};
 ghost use Rattle.pua_script.specs.Tightening.{OthersLeave, OthersLeaveAlways};
 
 use pua_ever::{through_law, together_law};
+use pua_jointly::jointly_law;
 use pua_listing::read_back_law;
 use pua_objects::{completeness_law, soundness_law};
 use pua_script::{bytes_law, openings_law, pasts_law};
@@ -112,6 +114,23 @@ pub fn together_text_law()
     ensures { TogetherAsWritten }
 {
     together_law();
+}
+
+/// Where there is a text of lists for ever with the help of others, it is the answers and a list of
+/// each process that is asked for, which is complete: whatever the process, those of the others that
+/// live, and what they fork ask for, as long as nobody else changes the tree, and all that they
+/// start is bounded or no exec of theirs succeeds, each call that is then allowed to the process or
+/// to one of its family has a line in its list; also where the table with tmppath alone allows it,
+/// by which the lists go. A call that is then answered ok to one of that family and has no such line
+/// is on a path that a promise opens, which has its line `opening`. What each process says of execs
+/// is so, with the fewest programs that count.
+pub fn beside_text_law()
+    ensures { BesideAsWritten }
+{
+    openings_law();
+    state_law();
+    through_law();
+    jointly_law();
 }
 
 /// Where there is a text of a run with reasons, or of the list of a process with them, each line's

@@ -5,6 +5,7 @@
 mod acting;
 mod advised;
 mod audit;
+mod beside;
 mod cli;
 mod columns;
 mod ever;
@@ -14,6 +15,7 @@ mod ever_how;
 mod ever_why;
 mod fault;
 mod front;
+mod helped;
 mod how;
 mod images;
 mod job;
@@ -46,9 +48,9 @@ pub use fault::ToolFault;
 pub use how::how_to;
 pub use job::Job;
 pub use laws::{
-    column_examples, confined, ever_text_law, front_law, headline_law, images_text_law, narrowing,
-    never_text_law, objects_text_law, reasons_text_law, text_examples, tight_text_law,
-    together_text_law, tree_examples, tree_text_law, trees_alike,
+    beside_text_law, column_examples, confined, ever_text_law, front_law, headline_law,
+    images_text_law, narrowing, never_text_law, objects_text_law, reasons_text_law, text_examples,
+    tight_text_law, together_text_law, tree_examples, tree_text_law, trees_alike,
 };
 pub use lists::list_to;
 pub use pua_io::{

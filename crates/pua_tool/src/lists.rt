@@ -2,10 +2,12 @@
 
 ghost use Rattle.std.specs.Prelude.{ℕ, List, Result};
 ghost use Rattle.pua_tool.specs.Answers.{AnswersTo};
-ghost use Rattle.pua_tool.specs.ListTexts.{IsListBy, IsListText, IsWaysText, lasting_text};
+ghost use Rattle.pua_tool.specs.ListTexts.{IsHelpedBy, IsHelpedWith, IsListBy, IsListText};
+ghost use Rattle.pua_tool.specs.ListTexts.{IsListWith, IsWaysText, lasting_text};
 ghost use Rattle.pua_tool.specs.ListTexts.{lasting_why_text, with_images_text};
 ghost use Rattle.pua_tool.specs.Texts.{choice_of};
 
+use crate::beside::beside_to;
 use crate::ever::ever_to;
 use crate::ever_how::ever_how_to;
 use crate::ever_why::ever_why_to;
@@ -60,6 +62,13 @@ use std::alloc::Global;
 /// to them or to what they fork, by what they do together. A process that has ended adds nothing to
 /// the list.
 ///
+/// With the help of others there is a list for ever of each process that is asked for, one after
+/// another. Its heading is `ever P beside Q,R,..`, with the numbers of those that help but P itself,
+/// or `ever P` where there is no other. Its lines are as in a list for ever of P, with each call that
+/// can ever be allowed to P by what it and those of the others that live do together, whatever veils
+/// they have. `exec bounded` says that one of them can start a program, and that the list is of all
+/// that is started, too; `exec open` that what one of them starts isn't bounded.
+///
 /// With what processes were, a list stands before those of now for each line by which one of the
 /// processes that are asked for started a program and was answered `ok`, in the order of these
 /// lines: `objects P before LINE`, and behind this heading what the list of now of that process has
@@ -78,12 +87,13 @@ use std::alloc::Global;
 /// left.
 ///
 /// The first that holds of these is answered before anything is written: `SeveralWhy`, `NowHow`,
-/// `SeveralHow`, `EverImages` or `WhyImages`, where there is no such list; `Table`, `Listing` and
-/// `Script`; `NoProcess`; of a list for ever that of `CanUnveil`, `LacksC`, `RenameLacksC` and
-/// `LinkLacksC` which the first process has that has one; and of a list of several `OtherVeils`, of
-/// the first that lives and the first after it that lives and has another place with a veil, or
-/// other letters at one. So is `OutOfMemory`, wherever a growth was refused. `Write` is answered
-/// only where a put failed in this call, and a front of the text is then written.
+/// `SeveralHow`, `EverImages`, `WhyImages`, `ImagesBeside`, `NowBeside`, `WhyBeside` or `HowBeside`,
+/// where there is no such list; `Table`, `Listing` and `Script`; `NoProcess`; of a list for ever
+/// that of `CanUnveil`, `LacksC`, `RenameLacksC` and `LinkLacksC` which the first process has that
+/// has one, those whose lists are asked for before those that help; and of a list of several
+/// `OtherVeils`, of the first that lives and the first after it that lives and has another place
+/// with a veil, or other letters at one. So is `OutOfMemory`, wherever a growth was refused. `Write`
+/// is answered only where a put failed in this call, and a front of the text is then written.
 pub fn list_to<S: Sink>(
     alloc: Global,
     tree_bytes: &[u8],
@@ -94,6 +104,73 @@ pub fn list_to<S: Sink>(
 ) -> Result<(), ToolFault>
     ensures text { (answer : Result (List ℕ) ToolFault)
         × IsListText (choice_of table.entry) tree_bytes.now script_bytes.now list.now answer
+        × AnswersTo S.written S.failed answer result sink.old sink.new }
+{
+    match &list.beside {
+        Some(helping) => { helped_to(alloc, tree_bytes, script_bytes, table, list, helping, sink) }
+        None => unhelped_to(alloc, tree_bytes, script_bytes, table, list, sink),
+    }
+}
+
+/// Writes a list for ever with the help of others.
+fn helped_to<S: Sink>(
+    alloc: Global,
+    tree_bytes: &[u8],
+    script_bytes: &[u8],
+    table: TableChoice<'_>,
+    list: &ListWords,
+    helping: &Processes,
+    sink: &mut S,
+) -> Result<(), ToolFault>
+    ensures text { (answer : Result (List ℕ) ToolFault)
+        × IsHelpedWith list.now.images list.now.span list.now.columns list.now.whose helping.now
+        (choice_of table.entry) tree_bytes.now script_bytes.now answer
+        × AnswersTo S.written S.failed answer result sink.old sink.new }
+{
+    if list.images {
+        return Err(ToolFault::ImagesBeside);
+    }
+    plain_helped_to(alloc, tree_bytes, script_bytes, table, list, helping, sink)
+}
+
+/// Writes such a list without what processes were.
+fn plain_helped_to<S: Sink>(
+    alloc: Global,
+    tree_bytes: &[u8],
+    script_bytes: &[u8],
+    table: TableChoice<'_>,
+    list: &ListWords,
+    helping: &Processes,
+    sink: &mut S,
+) -> Result<(), ToolFault>
+    ensures text { (answer : Result (List ℕ) ToolFault)
+        × IsHelpedBy list.now.span list.now.columns list.now.whose helping.now
+        (choice_of table.entry) tree_bytes.now script_bytes.now answer
+        × AnswersTo S.written S.failed answer result sink.old sink.new }
+{
+    let (tree, script, whose) = (tree_bytes, script_bytes, &list.whose);
+    match (list.span, list.columns) {
+        (Time::Now, _) => Err(ToolFault::NowBeside),
+        (Time::Ever, Columns::Why) => Err(ToolFault::WhyBeside),
+        (Time::Ever, Columns::How) => Err(ToolFault::HowBeside),
+        (Time::Ever, Columns::Plain) => {
+            beside_to(alloc, tree, script, table, whose, helping, sink)
+        }
+    }
+}
+
+/// Writes a list without the help of others.
+fn unhelped_to<S: Sink>(
+    alloc: Global,
+    tree_bytes: &[u8],
+    script_bytes: &[u8],
+    table: TableChoice<'_>,
+    list: &ListWords,
+    sink: &mut S,
+) -> Result<(), ToolFault>
+    ensures text { (answer : Result (List ℕ) ToolFault)
+        × IsListWith list.now.images list.now.span list.now.columns list.now.whose
+        (choice_of table.entry) tree_bytes.now script_bytes.now answer
         × AnswersTo S.written S.failed answer result sink.old sink.new }
 {
     if list.images {

@@ -18,7 +18,7 @@ use Rattle.pua_words.specs.Plain.{IsMadeOf, Meanings, IsMeantBy, means}
 use Rattle.pua_words.specs.Reading.{HasInputsOf, IsCommandOf, IsListRead}
 use Rattle.pua_words.specs.declared.command.Command.{Command}
 use Rattle.pua_words.specs.declared.command.Processes.TheVariants.{One}
-use Rattle.pua_words.proofs.ClapFinds.{audit_meets, HasFlags, images_meet, Meets, process_meets, how_meets, objects_meets, pua_is_simple, run_meets, tight_meets, tree_meets, why_meets}
+use Rattle.pua_words.proofs.ClapFinds.{audit_meets, beside_meet, HasFlags, images_meet, Meets, process_meets, how_meets, objects_meets, pua_is_simple, run_meets, tight_meets, tree_meets, why_meets}
 
 some_is : {A : Type 0} {a b : A} → Some a ≡ Some b → a ≡ b
 some_is {A} {a} {b} e = ap (λ (o : Option A). unwrap_or o a) e
@@ -120,14 +120,16 @@ fields_are text found arguments fields call is_call is_more read =
 is_one : IsNumberText (Some (codes "1")) 1
 is_one = search rules
 
--- a list with these options, of the processes that a word has
-list_read : {m : ArgMatches} {command : Command} (ever how why images : Bool) (process : Text) (k : IsCommandOf m command)
-    → k.name ≡ codes "objects" → (rows : List Row) → rows_of k.found ≡ rows → HasFlags ever how why images process rows
-    → IsListRead ever how why images (Some process) command.text
-list_read {command = command} ever how why images process k name rows are has =
-    subst (λ (t : Option Text). IsListRead ever how why images t command.text) (value_is k.found _ rows _ are has.4)
+-- a list with these options, of the processes that a word has, with the help of those that another has
+list_read : {m : ArgMatches} {command : Command} (ever how why images : Bool) (help : Option Text) (process : Text) (k : IsCommandOf m command)
+    → k.name ≡ codes "objects" → (rows : List Row) → rows_of k.found ≡ rows → HasFlags ever how why images help process rows
+    → IsListRead ever how why images help (Some process) command.text
+list_read {command = command} ever how why images help process k name rows are has =
+    subst (λ (t : Option Text). IsListRead ever how why images help t command.text) (value_is k.found _ rows _ are has.5)
+    (subst (λ (t : Option Text). IsListRead ever how why images t (first_value k.found (codes "process")) command.text)
+    (value_is k.found _ rows _ are has.4)
     (k.text.objects name ever how why images (flag_is k.found _ rows _ are has.0) (flag_is k.found _ rows _ are has.1)
-    (flag_is k.found _ rows _ are has.2) (flag_is k.found _ rows _ are has.3))
+    (flag_is k.found _ rows _ are has.2) (flag_is k.found _ rows _ are has.3)))
 
 pub meant : (p : Parsers) (m : ArgMatches) (command : Command) (words : List Text)
     → subcommand_rows_of m ≡ subcommand_of (pua_app p) words → IsCommandOf m command → Meanings words command
@@ -147,17 +149,21 @@ meant p m command words met k = record {
         f.is_made,
         (f.is_command.text.objects f.name_is ever how why false (flag_is f.is_command.found _ f.rows _ f.rows_are f.has.0)
             (flag_is f.is_command.found _ f.rows _ f.rows_are f.has.1) (flag_is f.is_command.found _ f.rows _ f.rows_are f.has.2)
-            (flag_is f.is_command.found _ f.rows _ f.rows_are f.has.3)).1 (One 1)
-            (subst (λ (t : Option Text). IsNumberText t 1) (sym (value_is f.is_command.found _ f.rows _ f.rows_are f.has.4)) is_one),
+            (flag_is f.is_command.found _ f.rows _ f.rows_are f.has.3)).1 (value_is f.is_command.found _ f.rows _ f.rows_are f.has.4)
+            (One 1) (subst (λ (t : Option Text). IsNumberText t 1) (sym (value_is f.is_command.found _ f.rows _ f.rows_are f.has.5)) is_one),
       );
   of_process = λ ever how why process at tree script is is_process is_at is_tree is_script.
       let f =
       found_by p m command words _ _ at tree script _ met k is (process_meets p ever how why process at tree script is_process is_at is_tree is_script) in
-      (f.is_made, list_read ever how why false process f.is_command f.name_is f.rows f.rows_are f.has);
+      (f.is_made, list_read ever how why false None process f.is_command f.name_is f.rows f.rows_are f.has);
   images = λ process at tree script is is_process is_at is_tree is_script.
       let f =
       found_by p m command words _ _ at tree script _ met k is (images_meet p process at tree script is_process is_at is_tree is_script) in
-      (f.is_made, list_read false false false true process f.is_command f.name_is f.rows f.rows_are f.has);
+      (f.is_made, list_read false false false true None process f.is_command f.name_is f.rows f.rows_are f.has);
+  beside = λ process help at tree script is is_process is_help is_at is_tree is_script.
+      let f =
+      found_by p m command words _ _ at tree script _ met k is (beside_meet p process help at tree script is_process is_help is_at is_tree is_script) in
+      (f.is_made, list_read true false false false (Some help) process f.is_command f.name_is f.rows f.rows_are f.has);
   how = λ at tree script call path is is_at is_tree is_script is_call is_path.
       let f =
       found_by p m command words _ _ at tree script _ met k is (how_meets p at tree script call path is_at is_tree is_script is_call is_path) in

@@ -37,17 +37,24 @@ alike e n = ap first (sym e ∙ n)
 pub objects_read : {E : Type 0} (r : Result (Option Asked) E) (name : Text) (found : Found) → name ≡ codes "objects"
     → ((ever how why images : Bool) → IsFlag found (codes "ever") ever → IsFlag found (codes "how") how → IsFlag found (codes "why") why
     → IsFlag found (codes "images") images
-    → IfOk r (λ text. IfSome text (IsListOf ever how why images (first_value found (codes "process")))))
+    → IfOk r (λ text. IfSome text
+    (IsListOf ever how why images (first_value found (codes "beside")) (first_value found (codes "process")))))
     → ((ever how why images : Bool) → IsFlag found (codes "ever") ever → IsFlag found (codes "how") how → IsFlag found (codes "why") why
-    → IsFlag found (codes "images") images → (processes : Processes) → IsListText (first_value found (codes "process")) processes
-    → IfOk r (λ text. text ≡ list_meant ever how why images processes)) → IfOk r (λ text. IfSome text (IsReadAs name found))
-objects_read (Err e) name found is form meant = tt
-objects_read (Ok None) name found is form meant = tt
-objects_read (Ok (Some text)) name found is form meant = record {
+    → IsFlag found (codes "images") images → first_value found (codes "beside") ≡ None → (processes : Processes)
+    → IsListText (first_value found (codes "process")) processes
+    → IfOk r (λ text. text ≡ list_meant ever how why images None processes))
+    → ((ever how why images : Bool) → IsFlag found (codes "ever") ever → IsFlag found (codes "how") how → IsFlag found (codes "why") why
+    → IsFlag found (codes "images") images → (beside : Processes) → IsListText (first_value found (codes "beside")) beside
+    → (processes : Processes) → IsListText (first_value found (codes "process")) processes
+    → IfOk r (λ text. text ≡ list_meant ever how why images (Some beside) processes)) → IfOk r (λ text. IfSome text (IsReadAs name found))
+objects_read (Err e) name found is form meant helped = tt
+objects_read (Ok None) name found is form meant helped = tt
+objects_read (Ok (Some text)) name found is form meant helped = record {
   run = λ n. absurd (let bad : 111 ≡ 114 = alike is n in omega arith);
   tree = λ n. absurd (let bad : 111 ≡ 116 = alike is n in omega arith);
   tight = λ n. absurd (let bad : 111 ≡ 116 = alike is n in omega arith);
-  objects = λ n ever how why images e h w i. (form ever how why images e h w i, meant ever how why images e h w i);
+  objects = λ n ever how why images e h w i.
+      (form ever how why images e h w i, meant ever how why images e h w i, helped ever how why images e h w i);
   why = λ n. absurd (let bad : 111 ≡ 119 = alike is n in omega arith);
   how = λ n. absurd (let bad : 111 ≡ 104 = alike is n in omega arith);
   audit = λ n. absurd (let bad : 111 ≡ 97 = alike is n in omega arith);

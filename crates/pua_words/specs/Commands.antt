@@ -28,6 +28,11 @@ MayBeAsked (One process) = IsProcessNumber process
 MayBeAsked (Named numbers) = All IsProcessNumber numbers.items
 MayBeAsked processes.All = ⊤
 
+-- and so it is of those with whose help it is, if that of some is asked for
+abbrev pub MayHelp : Option Processes → Type 0
+MayHelp None = ⊤
+MayHelp (Some processes) = MayBeAsked processes
+
 -- the text has these numbers in decimal, with commas between them
 abbrev pub AreIn : Option (List ℕ) → List ℕ → Type 0
 AreIn None numbers = ⊥
@@ -69,13 +74,14 @@ AreFieldsOf (Some call) arguments fields = fields ≡ call ∷ arguments
 abbrev pub HasNoNumbers : Option (List ℕ) → Type 0
 HasNoNumbers text = (numbers : List ℕ) → AreIn text numbers → ⊥
 
--- an audit, a way and a single request are asked of a process that may have been made, and a list of such processes or of all
+-- an audit, a way and a single request are asked of a process that may have been made, and a list of such processes or of all, with
+-- the help of such
 abbrev pub AsksSoundly : Text → Type 0
 AsksSoundly Run = ⊤
 AsksSoundly RunWhy = ⊤
 AsksSoundly (Why words) = IsProcessNumber words.process
 AsksSoundly (Audit words) = IsProcessNumber words.process
-AsksSoundly (text.List words) = MayBeAsked words.whose
+AsksSoundly (text.List words) = MayBeAsked words.whose × MayHelp words.beside
 AsksSoundly Tree = ⊤
 AsksSoundly Tight = ⊤
 AsksSoundly TightWhy = ⊤

@@ -1,5 +1,5 @@
 -- What is asked for by what `clap` found.
-use Rattle.std.specs.Prelude.{ℕ, ◌≡◌, ◌↔◌, Bool, List, Option, Some, codes, map, option_map, if◌then◌else◌}
+use Rattle.std.specs.Prelude.{ℕ, ◌≡◌, ◌↔◌, Bool, List, Option, Some, None, codes, map, option_map, if◌then◌else◌}
 use Rattle.clap.specs.Matches.{first_value, one_text}
 use Rattle.clap.specs.Simple.{subcommand_rows_of}
 use Rattle.clap.specs.Walk.{rows_of}
@@ -30,25 +30,39 @@ IsListText text (One process) = IsNumberText text process
 IsListText text (Named numbers) = ⊥
 IsListText text All = text ≡ Some (codes "all")
 
--- the list of these processes: of now or for ever, with the steps of ways or without, with reasons or without, and of what they
--- were before each program that they started or not
-abbrev pub list_meant : Bool → Bool → Bool → Bool → Processes → Option Text
-list_meant ever how why images processes =
-    option_map (λ columns. text.List (record { whose = processes; span = span_meant ever; columns = columns; images = images }))
-    (columns_meant how why)
+-- with whose help: with nobody's where there is no text, or that of the processes that it names
+abbrev pub IsBesideOf : Option (List ℕ) → Option Processes → Type 0
+IsBesideOf None beside = beside ≡ None
+IsBesideOf (Some text) None = ⊥
+IsBesideOf (Some text) (Some processes) = IsTextOf (Some text) processes
 
--- a list is of now or for ever, with the steps of ways, with reasons, and with what processes were before, as it was asked, and of
--- the processes that the text has
-abbrev pub IsListOf : Bool → Bool → Bool → Bool → Option (List ℕ) → Text → Type 0
-IsListOf ever how why images given (text.List words) =
-    (words.span ≡ span_meant ever) × (Some words.columns ≡ columns_meant how why) × (words.images ≡ images) × IsTextOf given words.whose
-IsListOf ever how why images given _ = ⊥
+-- the list of these processes: of now or for ever, with the steps of ways or without, with reasons or without, of what they were
+-- before each program that they started or not, and with whose help
+abbrev pub list_meant : Bool → Bool → Bool → Bool → Option Processes → Processes → Option Text
+list_meant ever how why images beside processes =
+    option_map (λ columns. text.List (record {
+      whose = processes;
+      span = span_meant ever;
+      columns = columns;
+      images = images;
+      beside = beside;
+    })) (columns_meant how why)
 
--- the same, and where the text is one number or `all` it is this list and no other
-abbrev pub IsListRead : Bool → Bool → Bool → Bool → Option (List ℕ) → Text → Type 0
-IsListRead ever how why images given asked =
-    IsListOf ever how why images given asked
-    × ((processes : Processes) → IsListText given processes → Some asked ≡ list_meant ever how why images processes)
+-- a list is of now or for ever, with the steps of ways, with reasons, and with what processes were before, as it was asked, with the
+-- help of the processes that one text has, and of those that the other has
+abbrev pub IsListOf : Bool → Bool → Bool → Bool → Option (List ℕ) → Option (List ℕ) → Text → Type 0
+IsListOf ever how why images help given (text.List words) =
+    (words.span ≡ span_meant ever) × (Some words.columns ≡ columns_meant how why) × (words.images ≡ images) × IsBesideOf help words.beside
+    × IsTextOf given words.whose
+IsListOf ever how why images help given _ = ⊥
+
+-- the same, and where each text is one number or `all`, or there is none of helpers, it is this list and no other
+abbrev pub IsListRead : Bool → Bool → Bool → Bool → Option (List ℕ) → Option (List ℕ) → Text → Type 0
+IsListRead ever how why images help given asked =
+    IsListOf ever how why images help given asked
+    × (help ≡ None → (processes : Processes) → IsListText given processes → Some asked ≡ list_meant ever how why images None processes)
+    × ((beside : Processes) → IsListText help beside → (processes : Processes) → IsListText given processes →
+    Some asked ≡ list_meant ever how why images (Some beside) processes)
 
 abbrev pub IsWhyOf : Found → WhyWords → Type 0
 IsWhyOf found words =
@@ -75,7 +89,8 @@ pub record IsReadAs (name : List ℕ) (found : Found) (text : Text) : Type 0 whe
   pub tree : name ≡ codes "tree" → text ≡ Tree
   pub tight : name ≡ codes "tight" → (why : Bool) → IsFlag found (codes "why") why → text ≡ tight_asked why
   pub objects : name ≡ codes "objects" → (ever how why images : Bool) → IsFlag found (codes "ever") ever → IsFlag found (codes "how") how
-      → IsFlag found (codes "why") why → IsFlag found (codes "images") images → IsListRead ever how why images (first_value found (codes "process")) text
+      → IsFlag found (codes "why") why → IsFlag found (codes "images") images
+      → IsListRead ever how why images (first_value found (codes "beside")) (first_value found (codes "process")) text
   pub why : name ≡ codes "why" → (words : WhyWords) × (text ≡ Why words) × IsWhyOf found words
   pub how : name ≡ codes "how" → (words : HowWords) × (text ≡ How words) × IsHowOf found words
   pub audit : name ≡ codes "audit" → (words : AuditWords) × (text ≡ Audit words) × IsAuditOf found words

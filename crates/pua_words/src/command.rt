@@ -117,6 +117,8 @@ pub struct ListWords {
     pub columns: Columns,
     /// Whether each process is listed also as it was before each program that it started.
     pub images: bool,
+    /// With whose help each process is listed, if it is asked with that of others.
+    pub beside: Option<Processes>,
 }
 
 /// To which call a way is asked for, and on what, besides the inputs.

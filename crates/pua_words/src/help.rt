@@ -6,7 +6,7 @@ pub(crate) const PROGRAM_USAGE: &str =
 
 /// How a list of objects is asked for, of now or for ever, in one line.
 pub(crate) const OBJECTS_USAGE: &str =
-    "pua: usage: pua objects [--ever] [--how|--why] [--images] [--process P,...|all] [--at N] [--rules profile|openbsd] [--table FILE] TREE SCRIPT";
+    "pua: usage: pua objects [--ever] [--how|--why] [--images] [--process P,...|all] [--beside Q,...|all] [--at N] [--rules profile|openbsd] [--table FILE] TREE SCRIPT";
 
 /// How it is asked why a request is answered as it is, in one line.
 pub(crate) const WHY_USAGE: &str =
@@ -81,6 +81,8 @@ pub(crate) const HOW_KIND: &str = "Which line of PATH: dir, file, prog, link, mi
 pub(crate) const AT: &str = "Serve no line of SCRIPT behind line N";
 
 pub(crate) const PROCESSES: &str = "Process number, 1 to 999999, or `all`";
+
+pub(crate) const BESIDE: &str = "With the help of these, with --ever";
 
 pub(crate) const BASE: &str = "Where paths begin";
 
@@ -326,6 +328,11 @@ It is a list of one process, which can put no veil any more. With `--process
 together; those of them that live need the same veils. Then the heading is
 `ever 1,2`, and a state has the number in its first line: `process 2 ended`.
 
+With `--ever --beside 2,..` or `--beside all` it is a list of each process of
+`--process`, one after another: of what that process can ever touch where these
+others help it, all of them together, whatever veils and promises each of them
+has. The heading is `ever 1 beside 2,..`, and `exec` is said of all of them.
+
 With `--ever --how` a line with calls that the list of now lacks on what it is
 about has one column more: each of these calls with the number of steps of a way
 to it, as `open-w 2,chmod 2`; ? where none is found. `pua how` with this CALL,
@@ -349,10 +356,11 @@ Example: pua objects --process all TREE SCRIPT",
   table: CALL: no c    `--ever` is for a table by which rmdir, unlink, create,
                        mkdir, symlink, bind, mknod, create-rw, rename and link
                        all need `c`
-  processes P and Q have other veils
+  processes P and Q have other veils: ask with --beside
                        `--ever` of several is for processes of the same veils
   objects: no list ..  `--how` is for `--ever` of one process, and so is `--why`
-                       with `--ever`; `--images` goes with none of the three"
+                       with `--ever`; `--images` goes with none of the three,
+                       and `--beside` with `--ever` alone"
 );
 
 pub(crate) const AUDIT_OUTPUT: &str = with_calls_and_faults!(

@@ -8,19 +8,19 @@ ghost use Rattle.pua_calls.specs.Calls.{rules_named};
 ghost use Rattle.pua_objects.specs.Lines.{kind_word};
 ghost use Rattle.pua_words.specs.Commands.{AreFieldsOf, AreIn, AsksSoundly, HasNoNumbers};
 ghost use Rattle.pua_words.specs.Commands.{IsLimitText, IsNumberText, IsProcessNumber, IsTextOf};
-ghost use Rattle.pua_words.specs.Commands.{MayBeAsked, columns_meant, run_asked, span_meant};
+ghost use Rattle.pua_words.specs.Commands.{MayBeAsked, MayHelp, columns_meant, run_asked, span_meant};
 ghost use Rattle.pua_words.specs.Commands.{at_read, tight_asked, values_found};
 ghost use Rattle.clap.specs.Walk.{Rule};
 ghost use Rattle.clap.specs.Simple.{App, new_app, with_rule, with_subcommand};
 ghost use Rattle.clap.specs.declared.builder.value_parser.ValueParser.{ValueParser};
-ghost use Rattle.pua_words.specs.Grammar.{IsArg, IsBuilt, Parsers, at_rule, audit_app, by_default};
-ghost use Rattle.pua_words.specs.Grammar.{flag_rule, how_app, input_rules};
+ghost use Rattle.pua_words.specs.Grammar.{IsArg, IsBuilt, Parsers, at_rule, audit_app, beside_rule};
+ghost use Rattle.pua_words.specs.Grammar.{by_default, flag_rule, how_app, input_rules};
 ghost use Rattle.pua_words.specs.Grammar.{judged, objects_app, operand_rule};
 ghost use Rattle.pua_words.specs.Grammar.{operands_rule, option_rule, process_rule, program_app};
 ghost use Rattle.pua_words.specs.Grammar.{pua_app, required, run_app, tight_app, tree_app};
 ghost use Rattle.pua_words.specs.Grammar.{limit_rule, walk_rules, why_app, with_rules};
 ghost use Rattle.pua_words.specs.Reading.{IsAuditOf, IsCommandOf, IsFlag, IsListOf, IsListText};
-ghost use Rattle.pua_words.specs.Reading.{HasInputsOf, IsReadAs, IsWhyOf, list_meant};
+ghost use Rattle.pua_words.specs.Reading.{HasInputsOf, IsBesideOf, IsReadAs, IsWhyOf, list_meant};
 ghost use Rattle.pua_words.specs.declared.command.AuditWords.{AuditWords};
 ghost use Rattle.pua_words.specs.declared.command.Text.TheVariants.{Audit, Why};
 ghost use Rattle.pua_words.specs.declared.command.WhyWords.{WhyWords};
@@ -72,10 +72,11 @@ impl From<AllocError> for Stop {
 /// Where words in a plain form are a command, it is the one that they name, of the inputs that they
 /// name, by the standard rules: `run` and `tight`, with `--why` or without; `tree`; `objects`, with
 /// `--ever`, `--how` and `--why` or without, of process 1, or after these `--process` with a
-/// number, several, or `all`; `objects --images --process` with the same; `why` and `how`, of process 1, with the call and what stands after it; and `audit
-/// --limit N`, of process 1, from the root, with the names after it. In each but `tight` the
-/// last option may be `--at` with a line's number, 0 to 999,999 in decimal. There each word beside
-/// the options begins with no hyphen.
+/// number, several, or `all`; `objects --images --process` with the same, and `objects --ever
+/// --process` with it and then `--beside` with it; `why` and `how`, of process 1, with the call and
+/// what stands after it; and `audit --limit N`, of process 1, from the root, with the names after
+/// it. In each but `tight` the last option may be `--at` with a line's number, 0 to 999,999 in
+/// decimal. There each word beside the options begins with no hyphen.
 pub fn read_words<'a>(alloc: Global, words: &'a [&'a str]) -> Result<Command<'a>, Stop>
     ensures process { IfOk result (λ command. AsksSoundly command.text) }
     ensures stop { IfErr result (IsStop (map (λ word. word.now) words.now)) }
@@ -203,6 +204,7 @@ fn objects_command<'a>(alloc: Global) -> Built<'a>
     let objects = with(objects, flag(alloc, "why", help::OBJECTS_WHY));
     let objects = with(objects, flag(alloc, "images", help::IMAGES));
     let objects = with(objects, processes(alloc));
+    let objects = with(objects, beside(alloc));
     with_inputs(alloc, with(objects, at(alloc)))
 }
 
@@ -368,6 +370,12 @@ fn processes<'a>(alloc: Global) -> Arg<'a>
     option(alloc, "process", "P,...|all", help::PROCESSES).default_value("1")
 }
 
+fn beside<'a>(alloc: Global) -> Arg<'a>
+    ensures { IsArg beside_rule result }
+{
+    option(alloc, "beside", "Q,...|all", help::BESIDE)
+}
+
 fn at<'a>(alloc: Global) -> Arg<'a>
     ensures { IsArg at_rule result }
 {
@@ -509,27 +517,38 @@ fn tight_of<'a>(why: bool) -> Text<'a>
     if why { Text::TightWhy } else { Text::Tight }
 }
 
-/// The list that the words ask for. None where they name no process, and where a line is to end
-/// both with what its calls rest on and with ways.
+/// The list that the words ask for. None where they name no process, or none whose help is asked
+/// for with `--beside`, and where a line is to end both with what its calls rest on and with ways.
 fn read_objects<'a>(alloc: Global, found: &ArgMatches<'a>) -> Result<Option<Text<'a>>, AllocError>
     ensures process { IfOk result (λ text. IfSome text AsksSoundly) }
     ensures list { (ever how why images : Bool) → IsFlag (found_of found.now) (codes "ever") ever
         → IsFlag (found_of found.now) (codes "how") how
         → IsFlag (found_of found.now) (codes "why") why
         → IsFlag (found_of found.now) (codes "images") images
+        → first_value (found_of found.now) (codes "beside") ≡ None → (processes : Processes)
+        → IsListText (first_value (found_of found.now) (codes "process")) processes
+        → IfOk result (λ text. text ≡ list_meant ever how why images None processes) }
+    ensures helped { (ever how why images : Bool) → IsFlag (found_of found.now) (codes "ever") ever
+        → IsFlag (found_of found.now) (codes "how") how
+        → IsFlag (found_of found.now) (codes "why") why
+        → IsFlag (found_of found.now) (codes "images") images
+        → (beside : Processes)
+        → IsListText (first_value (found_of found.now) (codes "beside")) beside
         → (processes : Processes)
         → IsListText (first_value (found_of found.now) (codes "process")) processes
-        → IfOk result (λ text. text ≡ list_meant ever how why images processes) }
+        → IfOk result (λ text. text ≡ list_meant ever how why images (Some beside) processes) }
     ensures form { (ever how why images : Bool) → IsFlag (found_of found.now) (codes "ever") ever
         → IsFlag (found_of found.now) (codes "how") how
         → IsFlag (found_of found.now) (codes "why") why
         → IsFlag (found_of found.now) (codes "images") images
         → IfOk result (λ text. IfSome text
-        (IsListOf ever how why images (first_value (found_of found.now) (codes "process")))) }
+        (IsListOf ever how why images (first_value (found_of found.now) (codes "beside"))
+        (first_value (found_of found.now) (codes "process")))) }
 {
     let columns = columns_of(flag_of(found, "how"), flag_of(found, "why"));
     let whose = read_whose(alloc, found.get_str("process"))?;
-    let (Some(columns), Some(whose)) = (columns, whose) else {
+    let beside = read_beside(alloc, found.get_str("beside"))?;
+    let (Some(columns), Some(whose), Some(beside)) = (columns, whose, beside) else {
         return Ok(None);
     };
     let span = span_of(flag_of(found, "ever"));
@@ -538,6 +557,7 @@ fn read_objects<'a>(alloc: Global, found: &ArgMatches<'a>) -> Result<Option<Text
         span,
         columns,
         images: flag_of(found, "images"),
+        beside,
     })))
 }
 
@@ -557,6 +577,24 @@ fn columns_of(how: bool, why: bool) -> Option<Columns>
         (false, true) => Some(Columns::Why),
         (true, false) => Some(Columns::How),
         (true, true) => None,
+    }
+}
+
+/// With whose help a list is asked for: with nobody's where there is no text, or else that of the
+/// processes that it names; None for any other text.
+fn read_beside(alloc: Global, text: Option<&str>) -> Result<Option<Option<Processes>>, AllocError>
+    ensures sound { IfOk result (λ beside. IfSome beside MayHelp) }
+    ensures text { IfOk result (λ beside.
+        IfSome beside (IsBesideOf (option_map (λ s. s.now) text.entry))) }
+    ensures none { option_map (λ s. s.now) text.entry ≡ None →
+        IfOk result (λ read. read ≡ Some None) }
+    ensures each { (processes : Processes)
+        → IsListText (option_map (λ s. s.now) text.entry) processes
+        → IfOk result (λ read. read ≡ Some (Some processes)) }
+{
+    match text {
+        None => Ok(Some(None)),
+        Some(_) => Ok(read_whose(alloc, text)?.map(Some)),
     }
 }
 

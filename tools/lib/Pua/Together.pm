@@ -1,15 +1,40 @@
 package Pua::Together;
 
-# What lists for ever of one text say beside each other: what one of their processes executes or
-# reads and another writes, makes or takes away. It keeps their lines, so it needs memory for them.
+# What lists for ever of one text say beside each other: what a process gets by the takeover of
+# others, and what one of them executes or reads and another writes, makes or takes away. It keeps
+# their lines, so it needs memory for them.
 use strict;
 use warnings;
 use Exporter qw(import);
 use Pua::Lists qw(columns);
-our @EXPORT_OK = qw(flows_between);
+our @EXPORT_OK = qw(flows_between help_of_others);
 
 # The calls by which what one process did to a thing reaches another one.
 my %TAKES = map { $_ => 1 } qw(open-r open-rw create-rw readlink exec);
+
+# Of each list with the help of others, of a process whose list without it is there, how many lines
+# have more calls by that help, and how many calls these are. A list has its `process`, the
+# processes `beside` it, and by kind and path its `calls`.
+sub help_of_others {
+    my @lists = @_;
+    my %alone = map { $_->{process} => $_ } grep { !defined $_->{beside} } @lists;
+    my @lines;
+    for my $list (grep { defined $_->{beside} } @lists) {
+        my $alone = $alone{ $list->{process} } or next;
+        my ($lines, $calls) = (0, 0);
+        for my $thing (keys %{ $list->{calls} }) {
+            my %has = map { $_ => 1 } split /,/, $alone->{calls}{$thing} // '';
+            my $more = grep { !$has{$_} } split /,/, $list->{calls}{$thing};
+            $lines++ if $more;
+            $calls += $more;
+        }
+        push @lines, "process $list->{process}: with $list->{beside}: "
+            . ($lines ? counted($lines, 'line') . ', ' . counted($calls, 'call') . ' more' : 'none more');
+    }
+    return @lines;
+}
+
+sub counted { my ($count, $what) = @_; return "$count $what" . ($count == 1 ? '' : 's') }
 
 # Of what stands in the tree, each thing that one process takes and another changes, with the calls
 # of both, where these are by any of their lists; the things that are executed first. Those with the

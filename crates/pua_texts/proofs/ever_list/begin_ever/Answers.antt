@@ -1,4 +1,4 @@
-use Rattle.pua_texts.proofs.Common.{◌≡◌, ◌++◌, ◌∙◌, [], ap, subst, sym}
+use Rattle.pua_texts.proofs.Common.{◌++◌, ◌∙◌, [], ap, subst, sym}
 use Rattle.pua_ever.specs.EverList.{AreEverTold}
 use Rattle.pua_ever.specs.Through.{ever_lasting}
 use Rattle.pua_texts.specs.EndingsState.{EndingsState}

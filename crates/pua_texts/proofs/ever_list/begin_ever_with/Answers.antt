@@ -1,4 +1,4 @@
-use Rattle.pua_texts.proofs.Common.{◌≡◌, ◌++◌, ◌∙◌, [], ap, List, map, refl, string_bytes, subst, sym, ℕ}
+use Rattle.pua_texts.proofs.Common.{◌≡◌, ◌++◌, ◌∙◌, [], map, refl, string_bytes, subst, sym}
 use Rattle.pua_texts.specs.EverHowLines.{AreToldWith, lines_with}
 use Rattle.pua_texts.specs.EverLines.{heading_ever}
 use Rattle.pua_texts.specs.ListLines.{lines_text}

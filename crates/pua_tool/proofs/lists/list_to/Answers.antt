@@ -1,29 +1,30 @@
-use Rattle.std.proofs.Common.{Bool, refl, sym, subst}
+use Rattle.std.proofs.Common.{sym, subst}
+use Rattle.std.specs.Prelude.{Option}
+use Rattle.pua_words.specs.declared.command.Processes.{Processes}
 use Rattle.pua_tool.proofs.Common.{choice_of}
-use Rattle.pua_tool.specs.ListTexts.{IsListWith, with_images_text}
+use Rattle.pua_tool.specs.ListTexts.{IsListOf}
 use Rattle.pua_tool.proofs.lists.list_to.Goals as goal
 
-pub returns-then-list : goal.returns-then-list
-returns-then-list g c =
+pub returns-in-Some : goal.returns-in-Some
+returns-in-Some g c =
     let list = c.args.list.now in
-    let choice = choice_of c.args.table in
-    let text = with_images_text list.span list.columns list.whose choice c.args.tree_bytes.now c.args.script_bytes.now in record {
+    let told = c.helped_to.ensures.text in record {
       text = (
-        text,
-        subst (λ (images : Bool). IsListWith images list.span list.columns list.whose choice c.args.tree_bytes.now c.args.script_bytes.now text)
-            (sym c.if-list.true) refl,
-        c.with_images_to.ensures,
+        told.0,
+        subst (λ (beside : Option Processes). IsListOf beside list.images list.span list.columns list.whose (choice_of c.args.table)
+            c.args.tree_bytes.now c.args.script_bytes.now told.0) (sym c.in-Some.is) told.1,
+        told.2,
       );
     }
 
-pub returns : goal.returns
-returns g c =
+pub returns-in-None : goal.returns-in-None
+returns-in-None g c =
     let list = c.args.list.now in
-    let told = c.alone_to.ensures.text in record {
+    let told = c.unhelped_to.ensures.text in record {
       text = (
         told.0,
-        subst (λ (images : Bool). IsListWith images list.span list.columns list.whose (choice_of c.args.table) c.args.tree_bytes.now
-            c.args.script_bytes.now told.0) (sym c.if-list.false) told.1,
+        subst (λ (beside : Option Processes). IsListOf beside list.images list.span list.columns list.whose (choice_of c.args.table)
+            c.args.tree_bytes.now c.args.script_bytes.now told.0) (sym c.in-None.is) told.1,
         told.2,
       );
     }

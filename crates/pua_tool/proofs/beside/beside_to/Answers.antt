@@ -1,0 +1,24 @@
+use Rattle.pua_tool.proofs.Common.{choice_of, err_from_is_err_and, as_replayed}
+use Rattle.pua_tool.proofs.BesideTexts.{text_done, text_refused}
+use Rattle.pua_tool.proofs.beside.beside_to.Goals as goal
+
+pub returns-in_err-replay : goal.returns-in_err-replay
+returns-in_err-replay g c =
+    let p = err_from_is_err_and c.from_residual.result c.from_residual.ensures.1 in
+    rw (p.1, p.2) (record {
+      text = text_refused (choice_of c.args.table) c.args.tree_bytes.now c.args.script_bytes.now c.args.whose.now c.args.helping.now
+          g.S.Sink.written g.S.Sink.failed c.in_err-replay.field-0.0 c.args.sink.now c.in_err-replay.ensures.unwritten
+          c.in_err-replay.ensures.refused;
+    })
+
+pub returns : goal.returns
+returns g c =
+    let listed = c.members_to-written.ensures in
+    record {
+      text = (
+        listed.0,
+        text_done (choice_of c.args.table) c.args.tree_bytes.now c.args.script_bytes.now c.args.whose.now c.args.helping.now
+            (as_replayed c.in_ok-replay.replay) listed.0 c.in_ok-replay.ensures.done listed.1,
+        listed.2,
+      );
+    }
