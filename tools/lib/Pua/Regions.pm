@@ -17,7 +17,7 @@ sub new {
 }
 
 # The directory in which a path stands.
-sub above { my ($path) = @_; return $path =~ s{/[^/]*\z}{}r || '/' }
+sub above { my ($path) = @_; return substr($path, 0, rindex $path, '/') || '/' }
 
 # Whether a path is a directory's own, or one below it.
 sub is_in { my ($path, $above) = @_; return $above eq '/' || index("$path/", "$above/") == 0 }
@@ -39,9 +39,9 @@ sub region_of {
     pop @$way while @$way && !is_in($path, $way->[-1]{path});
     my $last = $way->[-1];
     return $last->{region} if $last && $last->{path} eq $path && !defined $calls;
-    my $cover = $self->cover($path);
-    my $like  = "$cover " . ($calls // '');
     my $up    = $last && $path ne '/' && $last->{path} eq above($path) ? $last->{region} : undef;
+    my $cover = $up && !defined $self->{veils}{$path} ? $up->{cover} : $self->cover($path);
+    my $like  = "$cover " . ($calls // '');
     my $region = $up;
     if (!$up || $up->{like} ne $like) {
         $region = { path => $path, like => $like, cover => $cover, lines => 0, inside => 0 };
