@@ -76,9 +76,10 @@ sub add_directory {
 # Adds what is no directory; a veil of its own is told with its calls.
 sub add_name {
     my ($self, $kind, $path, $calls) = @_;
-    my $own = $self->{veils}{$path};
+    my ($own, $directory, $last) = ($self->{veils}{$path}, above($path), $self->{way}[-1]);
     $calls .= " (veil $own)" if defined $own;
-    add($self->region_of(above($path)), $kind, $calls, $path);
+    my $is_there = $last && $last->{path} eq $directory;
+    add($is_there ? $last->{region} : $self->region_of($directory), $kind, $calls, $path);
     return;
 }
 
@@ -92,7 +93,7 @@ sub take {
     } elsif ($kind eq 'other' && $directory && $directory->{path} eq $path) {
         $directory->{others} = $calls;
     } else {
-        $self->add_directory;
+        $self->add_directory if $directory;
         if    ($kind eq 'dir')   { $self->{directory} = { path => $path, calls => $calls } }
         elsif ($kind eq 'other') { $self->{directory} = { path => $path, others => $calls } }
         else                     { $self->add_name($kind, $path, $calls) }
