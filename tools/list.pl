@@ -75,6 +75,7 @@ my $MOST_NAME   = 255;     # bytes in a component
 my $MOST_LINKS  = 32;      # links followed in one resolution
 my $MOST_NAMED  = 10;      # directories that are named where there are too many names
 my $MOST_COUNTED = 100_000;    # names that are counted beside the listing
+my $MOST_BLOCK = 65_536;       # bytes of lines that are printed together
 my $PLACES = 1 << 24;          # bits in which files are marked
 
 # The promises by which something is touched by a path.
@@ -114,7 +115,8 @@ my @links;         # the paths of those that are links
 
 # What may have several names, by DEVICE:INODE: how many it has on the disk, and the paths of those
 # that are listed. A file with one name has two paths where a file system is mounted twice; it gets
-# in here by the second one, since a bit at its place says that one was taken before.
+# in here by the second one, since a bit at its place says that one was taken before: then it is
+# `unsure` whether that was one of its paths.
 my %several;
 my $marked = '';
 
@@ -221,17 +223,13 @@ sub take {
     }
     $listed++;
     my $place = place_of($device, $inode);
-    note_name($file, $count, $path) if $count > 1 || vec $marked, $place, 1;
+    my $is_marked = vec $marked, $place, 1;
     vec($marked, $place, 1) = 1;
+    if ($count > 1 || $is_marked) {
+        my $names = $several{$file} ||= { count => $count, paths => [], unsure => $is_marked };
+        push @{ $names->{paths} }, $path;
+    }
     return $kind;
-}
-
-# Notes a path of what may have several names, of which it has so many on the disk.
-sub note_name {
-    my ($file, $count, $path) = @_;
-    my $names = $several{$file} ||= { count => $count, paths => [] };
-    push @{ $names->{paths} }, $path;
-    return;
 }
 
 # Why pua reads no such target, or nothing.
@@ -592,20 +590,19 @@ sub outside {
 # Paths in the order of the listing: that of the bytes of names, and behind a name what is in it.
 sub in_order { return map { tr{\0}{/}r } sort map { tr{/}{\0}r } @_ }
 
-# Completes what is known of files with several names: finds the first names of those that have one
-# on the disk, and drops what isn't listed twice then.
+# Finds the paths of files of which it is unsure whether all are known, and drops what has but one
+# name then.
 sub complete_several {
-    my %single = map { $_ => [] } grep { $several{$_}{count} == 1 } keys %several or return;
+    my @unsure = grep { $several{$_}{unsure} } keys %several or return;
+    my %paths = map { $_ => [] } @unsure;
     while (my ($directory, $names) = each %inside) {
         for my $name (keys %$names) {
-            my $paths = $single{ (split / /, $names->{$name}, 3)[1] // next } or next;
+            my $paths = $paths{ (split / /, $names->{$name}, 3)[1] // next } or next;
             push @$paths, "$directory/$name";
         }
     }
-    for my $file (keys %single) {
-        if (@{ $single{$file} } > 1) { $several{$file}{paths} = $single{$file} }
-        else                         { delete $several{$file} }
-    }
+    $several{$_}{paths} = $paths{$_} for @unsure;
+    delete @several{ grep { $several{$_}{count} == 1 && @{ $paths{$_} } == 1 } @unsure };
     return;
 }
 
@@ -627,9 +624,9 @@ sub way_into {
         names => [reverse sort keys %$nodes] };
 }
 
-# The lines of what is left in a directory, up to a directory that has names; and that one's path.
-# The numbers go on behind $$last, and %$first has, by DEVICE:INODE, those of the first names of
-# files.
+# The lines of what is left in a directory, up to a directory that has names, and that one's path;
+# or a block of them. The numbers go on behind $$last, and %$first has, by DEVICE:INODE, those of
+# the first names of files.
 sub lines_on {
     my ($way, $last, $first) = @_;
     my ($path, $above, $nodes, $again, $names) = @$way{qw(path number nodes again names)};
@@ -645,7 +642,7 @@ sub lines_on {
         }
         $lines .= "$number $kind $above $field\n";
         $inner = "$path/$name" if $kind eq 'dir' && $inside{"$path/$name"};
-        last if defined $inner;
+        last if defined $inner || length $lines > $MOST_BLOCK;
     }
     $$last = $number;
     return ($lines, $inner);
@@ -661,8 +658,8 @@ sub print_listing {
     while (@ways) {
         my ($lines, $directory) = lines_on($ways[-1], \$number, \%first);
         print $lines or return 0;
-        if (defined $directory) { push @ways, way_into($directory, $number, $again) }
-        else                    { pop @ways }
+        if    (defined $directory)     { push @ways, way_into($directory, $number, $again) }
+        elsif (!@{ $ways[-1]{names} }) { pop @ways }
     }
     return 1;
 }

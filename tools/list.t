@@ -330,6 +330,18 @@ sub refuses {
         '/d: left out, and listed as an empty directory');
 }
 
+# A directory that is mounted at a second place: its files have two names, though the disk says one.
+SKIP: {
+    my $root = room();
+    make_path('a/deep', 'b');
+    file($_) for 'a/x', 'a/deep/y';
+    my $mount = "mount --bind $root/a $root/b";
+    skip 'nothing can be mounted here', 1 if system "unshare -m sh -c '$mount' 2> $room/err > $room/out";
+    is(scalar `unshare -m sh -c '$mount && $^X $LIST -r $root' 2> $room/err`, lines('1 dir 0 a', '2 dir 1 deep',
+        '3 file 2 y', '4 file 1 x', '5 dir 0 b', '6 dir 5 deep', '7 hard 6 y 3', '8 hard 5 x 4'), 'a second mount');
+    unlink "$room/$_" for qw(out err);
+}
+
 # What is refused.
 {
     my $root = room();
