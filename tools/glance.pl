@@ -33,8 +33,8 @@
 #     -o HELD      what trace.pl -o wrote: says of each process what it holds open.
 #     --help       prints this text.
 #
-# A list is read a line at a time, and takes no more memory where it is longer, but for its regions,
-# and where it is for ever.
+# A list is read a line at a time, and takes no more memory where it is longer, but for its regions;
+# of lists for ever the names are kept, some 80 bytes a line.
 #
 # Status 0: it was printed. Status 1: a file can't be read, or is no list of objects; then nothing
 # was printed. Status 2: the words do not fit.
@@ -50,7 +50,7 @@ use Pua::Calls qw(%OPENINGS is_veiled opened_by);
 use Pua::Help qw(help_of);
 use Pua::Lists qw(@COLUMNS columns has_promise held_of holds manifest_of read_lists state_of);
 use Pua::Regions;
-use Pua::Together qw(flows_between help_of_others);
+use Pua::Together;
 
 my ($NAME) = $0 =~ m{([^/]*)\z};
 my $MOST_NAMED = 5;    # paths that a line names
@@ -88,10 +88,6 @@ sub take {
     }
     $list->{is_name}{$path} = 1
         if exists $list->{place}{$path} && $kind =~ /\A(?:file|prog|link|missing)\z/;
-    if ($list->{ever}) {
-        push @{ $list->{things} }, "$kind $path";
-        $list->{calls}{"$kind $path"} = $calls;
-    }
     return if !$by_regions;
     $list->{regions} ||= Pua::Regions->new($list->{place});
     $list->{regions}->take($kind, $path, $calls);
@@ -207,6 +203,7 @@ sub lines_about {
 sub lines_in {
     my ($file, $held) = @_;
     my (%answer, @lists);
+    my $together = Pua::Together->new($MOST_NAMED);
     read_lists($file, {
         texts => 1,
         answer => sub { my ($line, $answer) = split / /, $_[0]; $answer{$line} = $answer },
@@ -215,19 +212,22 @@ sub lines_in {
             delete @{ $lists[-1] }{qw(known place)} if @lists;
             push @lists, {
                 process => $process, ever => $ever, before => $before, beside => $beside,
-                state => [], with => {}, is_name => {}, counts => { map { $_ => 0 } @COLUMNS }, things => [], calls => {},
+                state => [], with => {}, is_name => {}, counts => { map { $_ => 0 } @COLUMNS },
             };
+            $together->begin($process, $beside) if $ever;
         },
         state  => sub { push @{ $lists[-1]{state} }, @_ },
-        object => sub { take($lists[-1], @_) },
+        object => sub {
+            take($lists[-1], @_);
+            $together->take(@_) if $lists[-1]{ever};
+        },
     });
     my %answers;
     $answers{$_}++ for values %answer;
-    my @evers = grep { $_->{ever} } @lists;
-    my %is_alone = map { $_->{process} => 1 } grep { !defined $_->{beside} } @evers;
+    my %is_alone = map { $_->{process} => 1 } grep { $_->{ever} && !defined $_->{beside} } @lists;
     my @told = grep { !defined $_->{beside} || !$is_alone{ $_->{process} } } @lists;
     return ('answers: ' . (join(', ', map { "$_ $answers{$_}" } sort keys %answers) || 'none'),
-        (map { lines_about($_, $held) } @told), help_of_others(@evers), flows_between(\&some, @evers));
+        (map { lines_about($_, $held) } @told), $together->lines(\&some_of));
 }
 
 sub fail { print STDERR "$NAME: @_\n"; exit 1 }

@@ -338,6 +338,29 @@ file /cache/y: 3 open-r, 1 open-w,open-rw,create,unlink,create-rw
 link /cache/l: 2 readlink, 1 unlink
 OUT
 
+# Things with the same calls are one line, which names the first ones in the order of the lists, in
+# whatever directories they are.
+{
+    my @first = map { "/d$_/f" } reverse 1 .. 9;
+    my @late  = ('/a', map { "/d$_/g" } 1 .. 5);
+    my $list  = sub {
+        my ($process, $calls, @paths) = @_;
+        return join "\n", "ever $process", 'process ended', map { "file $_ $calls" } @paths;
+    };
+    my $list_of_5 = join ', ', @first[0 .. 4];
+    file('list', $list->(1, 'unlink', @first), 'prog /d1/p unlink', $list->(2, 'open-r', reverse(@first), @late),
+        'prog /d1/p exec', $list->(3, 'chmod', @late, $first[8]), $list->(2, 'stat,readlink', @late[3 .. 5]));
+    my ($status, $out, $err) = glance();
+    is("$status $err", '0 ', 'many things: the status');
+    is(join('', $out =~ /^((?!answers|process).*\n)/mg), <<"END", 'many things: the first ones are named');
+prog /d1/p: 2 exec, 1 unlink
+file $list_of_5 and 3 more: 2 open-r, 1 unlink
+file $first[8]: 2 open-r, 1 unlink, 3 chmod
+file /a, /d1/g, /d2/g: 2 open-r, 3 chmod
+file /d3/g, /d4/g, /d5/g: 2 readlink,open-r, 3 chmod
+END
+}
+
 # A process as it was before an exec, and as it is.
 tells('images', <<"END", split /\n/, <<'OUT');
 1 ok

@@ -39,8 +39,9 @@
 # as `prog`, and all else as `file`: plain files, sockets, fifos and devices. What has several
 # names, by its device and inode, is listed once, under the first of them in the order of the
 # listing; each other one is a `hard` line, and the listing's first line is then `tree 2`, else
-# `tree 1`, and `tree 3` where there are more than 4,096 names. Links are not followed, except on the way to a PATH; mount points are crossed. Names
-# come in the order of their bytes, so two runs over the same files print the same.
+# `tree 1`, and `tree 3` where there are more than 4,096 names. Links are not followed, except on
+# the way to a PATH; mount points are crossed. Names come in the order of their bytes, so two runs
+# over the same files print the same.
 #
 # Lines on standard error report what a reader of the listing has to know: links whose target is
 # there but isn't listed, summed up by where they lead to; each further name of what is listed,
@@ -74,6 +75,7 @@ my $MOST_NAME   = 255;     # bytes in a component
 my $MOST_LINKS  = 32;      # links followed in one resolution
 my $MOST_NAMED  = 10;      # directories that are named where there are too many names
 my $MOST_COUNTED = 100_000;    # names that are counted beside the listing
+my $MOST_BLOCK = 65_536;       # bytes of lines that are printed together
 my $PLACES = 1 << 24;          # bits in which files are marked
 
 # The promises by which something is touched by a path.
@@ -101,17 +103,22 @@ my ($go_on, $each_link);   # whether -k and -v were given
 my $most_files;            # N, where it was given
 my %left_out;              # by path: what this -x left out, `name` or `directory`; empty: nothing
 my %passed_over;           # by path: that -k passed it over
-my %walked;                # by a directory's path: that all in it was taken
+my %walked;                # by a path: that all below it was taken
 my %beyond;                # by a directory's path: the names beyond its first N, joined by `/`
 
 # What is listed but the root, by the path of its directory, which is empty for the root, and by its
-# name. Each is a string to keep memory small: `KIND DEVICE:INODE NAMES`, NAMES being how many names
-# it has, and behind that a link's target.
+# name. Each is a string to keep memory small: `dir`, or `KIND DEVICE:INODE`, and behind that a
+# link's target.
 my %inside;
 my $listed = 1;    # how many these are, and the root
+my @links;         # the paths of those that are links
 
-# Bits at the places of files: whether a name of such a file was taken, and whether another one was.
-my ($marked, $marked_again) = ('', '');
+# What may have several names, by DEVICE:INODE: how many it has on the disk, and the paths of those
+# that are listed. A file with one name has two paths where a file system is mounted twice; it gets
+# in here by the second one, since a bit at its place says that one was taken before: then it is
+# `unsure` whether that was one of its paths.
+my %several;
+my $marked = '';
 
 sub report { print STDERR "$NAME: @_\n"; return }
 
@@ -129,12 +136,12 @@ sub help {
     return;
 }
 
-# What can't be read or listed, and why: the end, or with -k passed over.
+# What can't be read or listed, and why: the end, or with -k passed over. Answers an empty text.
 sub pass_over {
     my ($path, $why) = @_;
     fail(shown($path) . ": $why") unless $go_on;
     report(shown($path) . ": $why; passed over") unless $passed_over{$path}++;
-    return;
+    return '';
 }
 
 # Bytes that aren't visible, and backslashes, as a backslash and three octal digits.
@@ -164,7 +171,7 @@ sub node {
 
 # The kind of what is listed at a path, and the target of a link.
 sub kind { my ($path) = @_; return (split / /, node($path), 2)[0] }
-sub target { my ($path) = @_; return (split / /, node($path), 4)[3] }
+sub target { my ($path) = @_; return (split / /, node($path), 3)[2] }
 
 # Where a file has its bit. Two files may have the same one.
 sub place_of {
@@ -192,32 +199,35 @@ sub found { my ($path) = @_; return lstat($path eq '' && $root eq '' ? '/' : "$r
 # kind, and an empty one where it is passed over.
 sub take {
     my ($path) = @_;
-    return kind($path) if node($path);
-    my ($device, $inode, $mode, $names) = found($path);
-    if (!defined $device) {
-        pass_over($path, $!);
-        return '';
+    my $slash = rindex $path, '/';
+    return 'dir' if $slash < 0;
+    my $names = $inside{ substr $path, 0, $slash } ||= {};
+    my $name  = substr $path, $slash + 1;
+    return kind($path) if exists $names->{$name};
+    my ($device, $inode, $mode, $count) = (lstat "$root$path")[0 .. 3]
+        or return pass_over($path, $!);
+    if (-d _) {
+        $names->{$name} = 'dir';
+        $listed++;
+        return 'dir';
     }
-    my ($kind, $more) = ('file', '');
+    my ($kind, $file) = (-f _ && $mode & 0111 ? 'prog' : 'file', "$device:$inode");
     if (-l _) {
         my $target = readlink "$root$path";
         my $fault = defined $target ? target_fault($target) : "$!";
-        if ($fault) {
-            pass_over($path, $fault);
-            return '';
-        }
-        ($kind, $more) = ('link', " $target");
-    } elsif (-d _) {
-        $kind = 'dir';
-    } elsif (-f _ && $mode & 0111) {
-        $kind = 'prog';
+        return pass_over($path, $fault) if $fault;
+        push @links, $path;
+        ($kind, $names->{$name}) = ('link', "link $file $target");
+    } else {
+        $names->{$name} = "$kind $file";
     }
-    $inside{ above($path) }{ last_of($path) } = "$kind $device:$inode $names$more";
     $listed++;
-    if ($kind ne 'dir') {
-        my $place = place_of($device, $inode);
-        if (vec $marked, $place, 1) { vec($marked_again, $place, 1) = 1 }
-        else                        { vec($marked, $place, 1) = 1 }
+    my $place = place_of($device, $inode);
+    my $is_marked = vec $marked, $place, 1;
+    vec($marked, $place, 1) = 1;
+    if ($count > 1 || $is_marked) {
+        my $names = $several{$file} ||= { count => $count, paths => [], unsure => $is_marked };
+        push @{ $names->{paths} }, $path;
     }
     return $kind;
 }
@@ -252,32 +262,39 @@ sub leave_out {
 }
 
 # Takes a path, with all that is in it: what is in one directory, then what is in the directories
-# in it. What is still to be taken of a directory is one string, with a `/` before each name.
+# in it.
 sub take_all {
     my ($path) = @_;
-    my @directories = [$path, take_with_names($path)];
-    while (my $directory = shift @directories) {
-        my ($above, $names) = @$directory;
-        for my $inside (map { "$above/$_" } parts($names)) {
-            my $below = take_with_names($inside);
-            push @directories, [$inside, $below] if $below ne '';
-        }
+    return leave_out($path) if exists $left_out{$path};
+    return if take($path) ne 'dir' || is_walked($path);
+    my @directories = ($path);
+    while (defined(my $directory = pop @directories)) {
+        push @directories, reverse grep { !exists $walked{$_} } take_in($directory);
     }
+    $walked{$path} = 1;
     return;
 }
 
-# Takes a path, and answers the names of what has to be taken in it.
-sub take_with_names {
+# Whether all below a path was taken.
+sub is_walked {
     my ($path) = @_;
-    if (exists $left_out{$path}) {
-        leave_out($path);
-        return '';
-    }
-    return '' if take($path) ne 'dir' || $walked{$path}++;
-    my ($names, $fault) = names_in($path);
-    pass_over($path, $fault) if $fault;
+    while ($path ne '' && !exists $walked{$path}) { $path = above($path) }
+    return exists $walked{$path};
+}
+
+# Takes what is in a directory, but not what is in directories there; answers the paths of these.
+sub take_in {
+    my ($directory) = @_;
+    my ($names, $fault) = names_in($directory);
+    pass_over($directory, $fault) if $fault;
     my @names = sort @$names;
-    return join '', map { "/$_" } defined $most_files ? first_of($path, @names) : @names;
+    my @directories;
+    for my $name (defined $most_files ? first_of($directory, @names) : @names) {
+        my $path = "$directory/$name";
+        if    (exists $left_out{$path}) { leave_out($path) }
+        elsif (take($path) eq 'dir')    { push @directories, $path }
+    }
+    return @directories;
 }
 
 # What -n lists of the names in a directory; the others are noted.
@@ -570,62 +587,81 @@ sub outside {
     return;
 }
 
-# Calls a function for all that is listed below the root, in the order of the listing: a name, then
-# what is in it. The function is given the path, the name, what stands there, its number, and that
-# of its directory; where it answers 0, that is the end.
-sub for_each_listed {
-    my ($use) = @_;
-    my ($number, @ways) = (0, ['', 0, reverse sort keys %{ $inside{''} || {} }]);
-    while (@ways) {
-        my $way = $ways[-1];    # a directory, its number, and which names are left, the last first
-        if (@$way == 2) {
-            pop @ways;
-            next;
+# Paths in the order of the listing: that of the bytes of names, and behind a name what is in it.
+sub in_order { return map { tr{\0}{/}r } sort map { tr{/}{\0}r } @_ }
+
+# Finds the paths of files of which it is unsure whether all are known, and drops what has but one
+# name then.
+sub complete_several {
+    my @unsure = grep { $several{$_}{unsure} } keys %several or return;
+    my %paths = map { $_ => [] } @unsure;
+    while (my ($directory, $names) = each %inside) {
+        for my $name (keys %$names) {
+            my $paths = $paths{ (split / /, $names->{$name}, 3)[1] // next } or next;
+            push @$paths, "$directory/$name";
         }
-        my ($name, $directory) = (pop @$way, $way->[0]);
-        my $path = "$directory/$name";
-        $use->($path, $name, $inside{$directory}{$name}, ++$number, $way->[1]) or return 0;
-        push @ways, [$path, $number, reverse sort keys %{ $inside{$path} }] if $inside{$path};
+    }
+    $several{$_}{paths} = $paths{$_} for @unsure;
+    delete @several{ grep { $several{$_}{count} == 1 && @{ $paths{$_} } == 1 } @unsure };
+    return;
+}
+
+# Of each file that is listed several times the DEVICE:INODE, by the path of a directory and a name
+# in it.
+sub listed_again {
+    my %again;
+    for my $file (grep { @{ $several{$_}{paths} } > 1 } keys %several) {
+        $again{ above($_) }{ last_of($_) } = $file for @{ $several{$file}{paths} };
+    }
+    return \%again;
+}
+
+# A directory whose names are still to be printed, with the number of its line.
+sub way_into {
+    my ($path, $number, $again) = @_;
+    my $nodes = $inside{$path} || {};
+    return { path => $path, number => $number, nodes => $nodes, again => $again->{$path},
+        names => [reverse sort keys %$nodes] };
+}
+
+# The lines of what is left in a directory, up to a directory that has names, and that one's path;
+# or a block of them. The numbers go on behind $$last, and %$first has, by DEVICE:INODE, those of
+# the first names of files.
+sub lines_on {
+    my ($way, $last, $first) = @_;
+    my ($path, $above, $nodes, $again, $names) = @$way{qw(path number nodes again names)};
+    my ($number, $lines, $inner) = ($$last, '');
+    while (defined(my $name = pop @$names)) {
+        my ($kind, undef, $target) = split / /, $nodes->{$name}, 3;
+        $number++;
+        my $field = $name =~ tr/\x21-\x5b\x5d-\x7e//c ? spelled($name) : $name;
+        $field .= ' ' . spelled($target) if defined $target;
+        if (my $file = $again && $again->{$name}) {
+            ($kind, $field) = ('hard', spelled($name) . " $first->{$file}") if $first->{$file};
+            $first->{$file} ||= $number;
+        }
+        $lines .= "$number $kind $above $field\n";
+        $inner = "$path/$name" if $kind eq 'dir' && $inside{"$path/$name"};
+        last if defined $inner || length $lines > $MOST_BLOCK;
+    }
+    $$last = $number;
+    return ($lines, $inner);
+}
+
+# Prints the listing: a name, then what is in it.
+sub print_listing {
+    my $again = listed_again();
+    my $form  = $listed > $MOST_SMALL ? 3 : %$again ? 2 : 1;
+    print "tree $form\n", "0 dir\n" or return 0;
+    my ($number, %first) = (0);
+    my @ways = way_into('', 0, $again);
+    while (@ways) {
+        my ($lines, $directory) = lines_on($ways[-1], \$number, \%first);
+        print $lines or return 0;
+        if    (defined $directory)     { push @ways, way_into($directory, $number, $again) }
+        elsif (!@{ $ways[-1]{names} }) { pop @ways }
     }
     return 1;
-}
-
-# What reports and lines have to know of all that is listed: the paths of the `links`; by the number
-# of each `further` name of a file that of its first one; and of these and of what has several names
-# on the disk, as `several`, the path, the number, how many names it has and, of a further name, the
-# path of the first one.
-sub survey {
-    my (%first, %further, @links, @several);
-    for_each_listed(sub {
-        my ($path, undef, $node, $number) = @_;
-        my ($kind, $file, $names) = split / /, $node, 4;
-        return 1 if $kind eq 'dir';
-        push @links, $path if $kind eq 'link';
-        my $first;
-        if (vec $marked_again, place_of(split /:/, $file), 1) {
-            if ($first{$file}) { ($further{$number}, $first) = @{ $first{$file} } }
-            else               { $first{$file} = [$number, $path] }
-        }
-        push @several, [$path, $number, $names, $first] if $first || $names > 1;
-        return 1;
-    });
-    return { links => \@links, further => \%further, several => \@several };
-}
-
-# Prints the listing.
-sub print_listing {
-    my ($further) = @_;
-    my $form = $listed > $MOST_SMALL ? 3 : %$further ? 2 : 1;
-    print "tree $form\n", "0 dir\n" or return 0;
-    return for_each_listed(sub {
-        my (undef, $name, $node, $number, $directory) = @_;
-        my ($kind, undef, undef, $target) = split / /, $node, 4;
-        my $line = "$directory " . spelled($name);
-        if    ($further->{$number}) { $line = "hard $line $further->{$number}" }
-        elsif (defined $target)     { $line = "$kind $line " . spelled($target) }
-        else                        { $line = "$kind $line" }
-        return print "$number $line\n";
-    });
 }
 
 # Reports the links that lead out of the listing, by where they lead to, or with -v one by one.
@@ -688,17 +724,14 @@ sub write_manifest {
 
 # Reports, in the order of the listing, the names of what has several.
 sub report_names {
-    my ($several, $further) = @_;
-    my %listed;    # by the number of a first name, how many further ones are listed
-    $listed{$_}++ for values %$further;
-    for my $file (@$several) {
-        my ($path, $number, $names, $first) = @$file;
-        if (defined $first) {
-            report(shown($path) . ': a further name of ' . shown($first));
-        } elsif ($names > 1 + ($listed{$number} || 0)) {
-            report(shown($path) . ': the file has a further name, which is not listed');
-        }
+    my %report;
+    for my $names (values %several) {
+        my ($first, @further) = in_order(@{ $names->{paths} });
+        $report{$_} = 'a further name of ' . shown($first) for @further;
+        $report{$first} = 'the file has a further name, which is not listed'
+            if $names->{count} > 1 + @further;
     }
+    report(shown($_) . ": $report{$_}") for in_order(keys %report);
     return;
 }
 
@@ -738,12 +771,12 @@ take_operand($_) for @ARGV;
 take_lines($paths) if defined $paths;
 take_script(@requests);
 judge_size();
-my $survey = survey();
-report_links(@{ $survey->{links} });
-report_names(@$survey{qw(several further)});
+complete_several();
+report_links(in_order(@links));
+report_names();
 report_gaps();
 report_unveiled(@requests) if defined $script;
 write_manifest($manifest) if defined $manifest;
 binmode STDOUT;
-print_listing($survey->{further}) or fail("standard output: $!");
+print_listing() or fail("standard output: $!");
 close STDOUT or fail("standard output: $!");

@@ -330,6 +330,18 @@ sub refuses {
         '/d: left out, and listed as an empty directory');
 }
 
+# A directory that is mounted at a second place: its files have two names, though the disk says one.
+SKIP: {
+    my $root = room();
+    make_path('a/deep', 'b');
+    file($_) for 'a/x', 'a/deep/y';
+    my $mount = "mount --bind $root/a $root/b";
+    skip 'nothing can be mounted here', 1 if system "unshare -m sh -c '$mount' 2> $room/err > $room/out";
+    is(scalar `unshare -m sh -c '$mount && $^X $LIST -r $root' 2> $room/err`, lines('1 dir 0 a', '2 dir 1 deep',
+        '3 file 2 y', '4 file 1 x', '5 dir 0 b', '6 dir 5 deep', '7 hard 6 y 3', '8 hard 5 x 4'), 'a second mount');
+    unlink "$room/$_" for qw(out err);
+}
+
 # What is refused.
 {
     my $root = room();
@@ -627,6 +639,51 @@ for my $seed (1 .. 40) {
     file("d/f$_") for 1 .. 5000;
     my ($status, $out) = list('-r', $root, '-n', 1);
     is($status, 0, '-n lists of a directory with more names than may be');
+}
+
+# A script that puts veils on some directories and files of a tree, by chance.
+sub random_script {
+    my ($root, @paths) = @_;
+    my @letters = qw(r rw rwc rx x w c rwxc wc);
+    my @places = ('/', grep { !-l "$root$_" } @paths);
+    my @promises = grep { rand() < 0.7 } qw(rpath wpath cpath dpath exec fattr chown unix);
+    my @lines = map {
+        my $place = $places[rand @places] =~ s/([^\x21-\x5b\x5d-\x7e])/sprintf '\\%03o', ord $1/ger;
+        "1 unveil $place $letters[rand @letters]\n";
+    } 0 .. rand 5;
+    return join '', @lines, '1 pledge ' . join(',', 'stdio', @promises) . " -\n";
+}
+
+# What pua lists by a listing of the first files: the lines of directories and of further names are
+# those by the whole one, and no other line is about what is there.
+SKIP: {
+    skip 'it asks pua: PUA=PROGRAM perl tools/list.t', 160 if !defined $PUA;
+    for my $seed (41 .. 60) {
+        srand $seed;
+        my $root = room();
+        random_tree($root);
+        put('script', random_script($root, paths_of((list('-r', $root))[1])));
+        for my $rules (qw(profile openbsd)) {
+            my (@about, @heads, @lines);
+            for my $words ([], ['-n', 1 + int rand 2]) {
+                put('listing', (list('-r', $root, '-s', "$room/script", @$words, '/'))[1]);
+                my $told = `$PUA objects --rules $rules $room/listing $room/script`;
+                put('told', $told);
+                my $regions = `$^X $Bin/glance.pl -d $room/told`;
+                push @lines, [$told =~ /^(.*)$/mg];
+                push @about, join "\n", grep { m{\A(?:dir|other) /} } @{ $lines[-1] };
+                my @regions = grep { /^ {8}(?:[0-9]+ )?(?:dir|other) /m } split /(?=^ {4}below)/m, $regions;
+                push @heads, join '', map { /^ {4}(below \S+ \(.*\)):/m ? "$1\n" : () } @regions;
+            }
+            my %is_whole = map { $_ => 1 } @{ $lines[0] };
+            my $what = "random tree $seed, $rules";
+            cmp_ok(@{ $lines[0] }, '>', 3, "$what: there is a list");
+            is($about[1], $about[0], "$what: -n keeps the lines of directories and further names");
+            is($heads[1], $heads[0], "$what: and their regions");
+            is_deeply([grep { !$is_whole{$_} } @{ $lines[1] }], [], "$what: and has no other line");
+        }
+    }
+    unlink "$room/$_" for qw(script listing told);
 }
 
 # What isn't listed is counted up to 100,000.

@@ -4,13 +4,13 @@
 #     page.pl [-d DEPTH] [-m MANIFEST] TREE [OBJECTS [EVER]]
 #
 # TREE is the listing that `pua tree` prints, of the tree behind the script, and OBJECTS the output
-# of `pua objects`, of now or with `--ever`; standard input if it is left out. What is written is one HTML file, without scripts, that loads
-# nothing. For each list of OBJECTS, of which `--process all` prints several, it has the state of
-# the process, if there are lines about it, and the tree: beside each name what can be read,
-# written, executed, made and removed there, the veil whose place stands there now, and what a
-# promise opens there by itself. A directory is folded where nothing below it can be touched and
-# no veil stands, and so are more than four such names beside others. An open-rw stands in two
-# columns, a create of what is there among what is written, and a connect too.
+# of `pua objects`, of now or with `--ever`; standard input if it is left out. What is written is
+# one HTML file, without scripts, that loads nothing. For each list of OBJECTS, of which `--process
+# all` prints several, it has the state of the process, if there are lines about it, and the tree:
+# beside each name what can be read, written, executed, made and removed there, the veil whose place
+# stands there now, and what a promise opens there by itself. A directory is folded where nothing
+# below it can be touched and no veil stands, and so are more than four such names beside others. An
+# open-rw stands in two columns, a create of what is there among what is written, and a connect too.
 #
 # With -d each directory that has DEPTH names or more in its path is folded too, and has how many
 # names in it can be touched. With --help this text is printed.

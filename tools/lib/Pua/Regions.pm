@@ -17,7 +17,7 @@ sub new {
 }
 
 # The directory in which a path stands.
-sub above { my ($path) = @_; return $path =~ s{/[^/]*\z}{}r || '/' }
+sub above { my ($path) = @_; return substr($path, 0, rindex $path, '/') || '/' }
 
 # Whether a path is a directory's own, or one below it.
 sub is_in { my ($path, $above) = @_; return $above eq '/' || index("$path/", "$above/") == 0 }
@@ -39,9 +39,9 @@ sub region_of {
     pop @$way while @$way && !is_in($path, $way->[-1]{path});
     my $last = $way->[-1];
     return $last->{region} if $last && $last->{path} eq $path && !defined $calls;
-    my $cover = $self->cover($path);
-    my $like  = "$cover " . ($calls // '');
     my $up    = $last && $path ne '/' && $last->{path} eq above($path) ? $last->{region} : undef;
+    my $cover = $up && !defined $self->{veils}{$path} ? $up->{cover} : $self->cover($path);
+    my $like  = "$cover " . ($calls // '');
     my $region = $up;
     if (!$up || $up->{like} ne $like) {
         $region = { path => $path, like => $like, cover => $cover, lines => 0, inside => 0 };
@@ -76,9 +76,10 @@ sub add_directory {
 # Adds what is no directory; a veil of its own is told with its calls.
 sub add_name {
     my ($self, $kind, $path, $calls) = @_;
-    my $own = $self->{veils}{$path};
+    my ($own, $directory, $last) = ($self->{veils}{$path}, above($path), $self->{way}[-1]);
     $calls .= " (veil $own)" if defined $own;
-    add($self->region_of(above($path)), $kind, $calls, $path);
+    my $is_there = $last && $last->{path} eq $directory;
+    add($is_there ? $last->{region} : $self->region_of($directory), $kind, $calls, $path);
     return;
 }
 
@@ -92,7 +93,7 @@ sub take {
     } elsif ($kind eq 'other' && $directory && $directory->{path} eq $path) {
         $directory->{others} = $calls;
     } else {
-        $self->add_directory;
+        $self->add_directory if $directory;
         if    ($kind eq 'dir')   { $self->{directory} = { path => $path, calls => $calls } }
         elsif ($kind eq 'other') { $self->{directory} = { path => $path, others => $calls } }
         else                     { $self->add_name($kind, $path, $calls) }
