@@ -3,6 +3,7 @@
 
 ghost use Rattle.pua_tight.specs.Examples.{OpenedRows, TightRows, UseRows, WithoutRows};
 ghost use Rattle.pua_tight.specs.Examples.{WrittenRows};
+ghost use Rattle.pua_tight.specs.JointLaws.{WithinHasNoMoreJointLines, WithinListsNoMoreJointly};
 ghost use Rattle.pua_tight.specs.Laws.{RulesRestOnOne, ScriptsAreTightened};
 ghost use Rattle.pua_tight.specs.Laws.{FuturesAreWithin, RequestKeepsWithin, ScriptsKeepWithin};
 ghost use Rattle.pua_tight.specs.Laws.{TightensScripts, TightIsLeast, TightIsMinimal};
@@ -34,6 +35,14 @@ pub fn narrower_law()
     ensures lasting { WithinLastsNoMore }
     ensures grants { WithinGrantsNoMore }
     ensures futures { FuturesAreWithin }
+{}
+
+/// What can ever be listed of a process with the help of a crew can be of one that it lies within,
+/// with the help of a crew in which each of the first has one that has all of it: each line of the
+/// one's joint list has one in the other's, about the same thing, with all of its calls.
+pub fn joint_law()
+    ensures lists { WithinListsNoMoreJointly }
+    ensures lines { WithinHasNoMoreJointLines }
 {}
 
 /// A tightened script is the given one but for what was left out, is answered as it line by line,
