@@ -3,7 +3,9 @@
 
 ghost use Rattle.pua_tight.specs.Examples.{OpenedRows, TightRows, UseRows, WithoutRows};
 ghost use Rattle.pua_tight.specs.Examples.{WrittenRows};
-ghost use Rattle.pua_tight.specs.JointLaws.{WithinHasNoMoreJointLines, WithinListsNoMoreJointly};
+ghost use Rattle.pua_tight.specs.JointLaws.{ScriptsComeToNoMore, TightComesToNoMore};
+ghost use Rattle.pua_tight.specs.JointLaws.{WithinActsNoMoreJointly, WithinHasNoMoreJointLines};
+ghost use Rattle.pua_tight.specs.JointLaws.{WithinListsNoMoreJointly, WorldsComeToNoMore};
 ghost use Rattle.pua_tight.specs.Laws.{RulesRestOnOne, ScriptsAreTightened};
 ghost use Rattle.pua_tight.specs.Laws.{FuturesAreWithin, RequestKeepsWithin, ScriptsKeepWithin};
 ghost use Rattle.pua_tight.specs.Laws.{TightensScripts, TightIsLeast, TightIsMinimal};
@@ -37,12 +39,18 @@ pub fn narrower_law()
     ensures futures { FuturesAreWithin }
 {}
 
-/// What can ever be listed of a process with the help of a crew can be of one that it lies within,
-/// with the help of a crew in which each of the first has one that has all of it: each line of the
-/// one's joint list has one in the other's, about the same thing, with all of its calls.
+/// Any processes of a thinned script that is answered as the given one come to touch no more, all
+/// of them together, than those of the same numbers in the given one: each line of a joint list has
+/// one in the other's, about the same thing, with all of its calls. So it is with less help, and
+/// with what they start, where what is not bounded in the given script does not count in the
+/// thinned one; and who starts nothing there starts nothing here. A tightened script is such a one.
 pub fn joint_law()
     ensures lists { WithinListsNoMoreJointly }
     ensures lines { WithinHasNoMoreJointLines }
+    ensures acting { WithinActsNoMoreJointly }
+    ensures worlds { WorldsComeToNoMore }
+    ensures scripts { ScriptsComeToNoMore }
+    ensures tight { TightComesToNoMore }
 {}
 
 /// A tightened script is the given one but for what was left out, is answered as it line by line,
