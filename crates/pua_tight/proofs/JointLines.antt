@@ -18,7 +18,7 @@ use Rattle.pua_ever.specs.Ever.{Comes, EverLine, NewFile, Stands, Thing, all_new
 use Rattle.pua_jointly.specs.Jointly.{CanTurn, IsJointlyAllowed, IsJointlyListed, IsJointlyStarted, IsTurned, joint_line, joint_lines, joint_subjects}
 use Rattle.pua_jointly.specs.Jointly.{named_too}
 use Rattle.pua_tight.specs.Narrower.{SetWithin, unset, within, StateWithin}
-use Rattle.pua_tight.specs.JointLaws.{CrewWithin, WithinHasNoMoreJointLines, WithinListsNoMoreJointly}
+use Rattle.pua_tight.specs.JointLaws.{CrewWithin, WithinAllowsNoMoreJointly, WithinHasNoMoreJointLines, WithinListsNoMoreJointly}
 use Rattle.pua_tight.specs.Laws.{IsListedForEver}
 use Rattle.pua_tight.proofs.CrewFacts.{shows_too}
 use Rattle.pua_tight.proofs.Eases.{allowed_more, eases}
@@ -73,6 +73,9 @@ module _ (t : Tree) (table : CallTable) (crew others : List ProcessState) (each 
     | inl can ↦ inl (can_too a b less thing c can)
     | inr program ↦ inr (program.0, starts_too a b less thing program.1, turn_too thing program.2)
   ]
+
+pub allows_no_more_jointly : WithinAllowsNoMoreJointly
+allows_no_more_jointly t table crew others each tight given less = can_too t table crew others each tight given less
 
 pub lists_no_more_jointly : WithinListsNoMoreJointly
 lists_no_more_jointly t table crew others each tight given less = listed_too t table crew others each tight given less

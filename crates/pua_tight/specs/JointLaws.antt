@@ -10,7 +10,7 @@ use Rattle.pua_script.specs.Requests.{Asked}
 use Rattle.pua_script.specs.Replay.{World, answers_to, kept_at, world_after}
 use Rattle.pua_ever.specs.Ever.{EverLine, Thing}
 use Rattle.pua_ever.specs.declared.lasting_list.ExecBound.TheVariants.{Never, Bounded, Open}
-use Rattle.pua_jointly.specs.Jointly.{IsJointlyListed, TellsJointly, joint_lines}
+use Rattle.pua_jointly.specs.Jointly.{IsJointlyAllowed, IsJointlyListed, TellsJointly, joint_lines}
 use Rattle.pua_jointly.specs.JointPrograms.{Acting, AreActing, AreSaid, IsListedOfOne, TellsOfOne, agents_by, crew_by}
 use Rattle.pua_tight.specs.Laws.{IsListedForEver}
 use Rattle.pua_tight.specs.Narrower.{AsksWithin, StateWithin, WorldWithin}
@@ -26,7 +26,14 @@ pub record HasOuter (crew : List ProcessState) (h : ProcessState) : Type 0 where
 abbrev pub CrewWithin : List ProcessState → List ProcessState → Type 0
 CrewWithin tight given = (h : ProcessState) → Contains tight h → HasOuter given h
 
--- what can ever be listed of a process with the help of such a crew can be of one that it lies within, with the help of the other
+-- a call that can ever be allowed to a process with the help of such a crew can be to one that it lies within, with the help of the other
+abbrev pub WithinAllowsNoMoreJointly : Type 0
+WithinAllowsNoMoreJointly =
+    (t : Tree) (table : CallTable) (crew others : List ProcessState) → CrewWithin crew others → (tight given : ProcessState) →
+    StateWithin tight given → (thing : Thing) (call : Call) →
+    IsJointlyAllowed t table crew tight thing call → IsJointlyAllowed t table others given thing call
+
+-- and so it is with exec on what is made a program: what can ever be listed of the one can be of the other
 abbrev pub WithinListsNoMoreJointly : Type 0
 WithinListsNoMoreJointly =
     (t : Tree) (table : CallTable) (crew others : List ProcessState) → CrewWithin crew others → (tight given : ProcessState) →

@@ -4,8 +4,9 @@
 ghost use Rattle.pua_tight.specs.Examples.{OpenedRows, TightRows, UseRows, WithoutRows};
 ghost use Rattle.pua_tight.specs.Examples.{WrittenRows};
 ghost use Rattle.pua_tight.specs.JointLaws.{ScriptsComeToNoMore, TightComesToNoMore};
-ghost use Rattle.pua_tight.specs.JointLaws.{WithinActsNoMoreJointly, WithinHasNoMoreJointLines};
-ghost use Rattle.pua_tight.specs.JointLaws.{WithinListsNoMoreJointly, WorldsComeToNoMore};
+ghost use Rattle.pua_tight.specs.JointLaws.{WithinActsNoMoreJointly, WithinAllowsNoMoreJointly};
+ghost use Rattle.pua_tight.specs.JointLaws.{WithinHasNoMoreJointLines, WithinListsNoMoreJointly};
+ghost use Rattle.pua_tight.specs.JointLaws.{WorldsComeToNoMore};
 ghost use Rattle.pua_tight.specs.Laws.{RulesRestOnOne, ScriptsAreTightened};
 ghost use Rattle.pua_tight.specs.Laws.{FuturesAreWithin, RequestKeepsWithin, ScriptsKeepWithin};
 ghost use Rattle.pua_tight.specs.Laws.{TightensScripts, TightIsLeast, TightIsMinimal};
@@ -45,6 +46,7 @@ pub fn narrower_law()
 /// with what they start, where what is not bounded in the given script does not count in the
 /// thinned one; and who starts nothing there starts nothing here. A tightened script is such a one.
 pub fn joint_law()
+    ensures allows { WithinAllowsNoMoreJointly }
     ensures lists { WithinListsNoMoreJointly }
     ensures lines { WithinHasNoMoreJointLines }
     ensures acting { WithinActsNoMoreJointly }

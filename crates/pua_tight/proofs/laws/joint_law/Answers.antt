@@ -1,6 +1,9 @@
-use Rattle.pua_tight.proofs.JointLines.{lists_no_more_jointly, no_more_joint_lines}
+use Rattle.pua_tight.proofs.JointLines.{allows_no_more_jointly, lists_no_more_jointly, no_more_joint_lines}
 use Rattle.pua_tight.proofs.ActsNoMore.{scripts_come_to_no_more, tight_comes_to_no_more, within_acts_no_more, worlds_come_to_no_more}
 use Rattle.pua_tight.proofs.laws.joint_law.Goals as goal
+
+pub returns-clause-allows : goal.returns-clause-allows
+returns-clause-allows c = allows_no_more_jointly
 
 pub returns-clause-lists : goal.returns-clause-lists
 returns-clause-lists c = lists_no_more_jointly
