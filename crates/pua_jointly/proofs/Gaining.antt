@@ -64,7 +64,7 @@ module _ (follows : Step) (told : List ℕ) (at word : ℕ) (low : at < length t
   reached_set only all = subst (λ n. (a bit : ℕ) → knows gained a bit → Reached follows n a bit) (sym same_length) (by_step only all)
 
   -- where it gains nothing, it has what follows
-  closed_at : ((bit : ℕ) → follows told at bit → has_bit word bit) → bit_or (get_or told at 0) word ≡ get_or told at 0 → (bit : ℕ) →
+  pub closed_at : ((bit : ℕ) → follows told at bit → has_bit word bit) → bit_or (get_or told at 0) word ≡ get_or told at 0 → (bit : ℕ) →
       follows told at bit → knows told at bit
   closed_at every same bit new = ap (λ w. bit_at w bit == 1) (sym same) ∙ has_or (get_or told at 0) word bit
       ∙ added (bit_at (get_or told at 0) bit == 1) (bit_at word bit == 1) (every bit new)
@@ -79,17 +79,17 @@ module _ (follows : Step) (told : List ℕ) (at word : ℕ) (low : at < length t
       ≡ sum_by (λ w. 4294967295 - w) told + (4294967295 - now) = sum_by-set (λ w. 4294967295 - w) told at now 0 low in
       omega (arith, sums, more, other, small)
 
-  -- so all words up to this one have what follows
-  pub closed_to : ((bit : ℕ) → follows told at bit → has_bit word bit) →
-      ((a : ℕ) → a < at → (bit : ℕ) → follows told a bit → knows told a bit) → bit_or (get_or told at 0) word ≡ get_or told at 0 →
-      (a : ℕ) → a < at + 1 → (bit : ℕ) → follows told a bit → knows told a bit
-  closed_to every below same a high = by (a == at) refl
-    where
-      by : (b : Bool) → (a == at) ≡ b → (bit : ℕ) → follows told a bit → knows told a bit
-      by true e = subst (λ n. (bit : ℕ) → follows told n bit → knows told n bit) (sym (eqb-true a at e)) (closed_at every same)
-      by false e =
-          let other : a ≢ at = λ is. false≢true (sym e ∙ eq-eqb a at is) in
-          below a (omega (arith, high, other))
+-- all words up to this one have what follows
+pub closed_to : (follows : Step) (told : List ℕ) (at : ℕ) → ((bit : ℕ) → follows told at bit → knows told at bit) →
+    ((a : ℕ) → a < at → (bit : ℕ) → follows told a bit → knows told a bit) → (a : ℕ) → a < at + 1 → (bit : ℕ) → follows told a bit →
+    knows told a bit
+closed_to follows told at here below a high = by (a == at) refl
+  where
+    by : (b : Bool) → (a == at) ≡ b → (bit : ℕ) → follows told a bit → knows told a bit
+    by true e = subst (λ n. (bit : ℕ) → follows told n bit → knows told n bit) (sym (eqb-true a at e)) here
+    by false e =
+        let other : a ≢ at = λ is. false≢true (sym e ∙ eq-eqb a at is) in
+        below a (omega (arith, high, other))
 
 pub still_fewer : (changed : Bool) (first told new : List ℕ) → (changed ≡ true → room told < room first) →
     (changed ≡ false → told ≡ first) → room new < room told → room new < room first

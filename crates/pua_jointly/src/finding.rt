@@ -79,7 +79,9 @@ pub(crate) fn facts_of<'t, T: FileTree>(
         table,
         crew: &crew,
     };
-    let told = close(alloc, &rounds, count)?;
+    let first = words_of(&crew, crew.shape.last as usize);
+    let end = words_of(&crew, crew.makers);
+    let told = close(alloc, &rounds, count, first, end)?;
     let last = crew.shape.last as usize;
     let mut facts = Facts {
         crew,
@@ -100,6 +102,12 @@ fn word_count(crew: &Crew<'_>) -> Option<usize>
 {
     let rows = crew.makers.checked_add(1)?.checked_add(crew.entries.len())?;
     crew.columns.checked_mul(rows)
+}
+
+/// How many words the rows up to this one have, if they can be numbered. They say what is gone over
+/// more often, and no fact depends on them.
+fn words_of(crew: &Crew<'_>, last: usize) -> usize {
+    crew.columns.saturating_mul(last.saturating_add(1))
 }
 
 /// What follows from a table of facts, by what has been worked out of a crew and a tree.

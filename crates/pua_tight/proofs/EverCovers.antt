@@ -1,32 +1,27 @@
 -- Under which covers a thing can ever come, by a process and by one that it lies within.
 use Rattle.std.proofs.Common.{◌≡◌, ℕ, List, [], ◌∷◌, ◌++◌, refl, sym, ap, ◌∙◌, Bool, true, false, ◌&&◌, ◌||◌, map, subst, inl, inr}
 use Rattle.std.specs.List.{list_any}
-use Rattle.std.specs.Prelude.{Option, Some, None, not, ◌==◌, filter, is_none, if◌then◌else◌}
+use Rattle.std.specs.Prelude.{Option, Some, None, not, ◌==◌, filter, if◌then◌else◌}
 use Rattle.pua_tree.specs.Tree.{Tree, Spot, look, is_dir}
-use Rattle.pua_path.specs.declared.errno.Errno.{Errno}
-use Rattle.pua_calls.specs.Calls.{CallTable, rule_of}
-use Rattle.pua_calls.specs.Promises.{holds, creating}
-use Rattle.pua_calls.specs.declared.call.Call.{Call}
-use Rattle.pua_policy.specs.States.{ProcessState, may_any}
-use Rattle.pua_policy.specs.Verdict.{cover_fault}
+use Rattle.pua_calls.specs.Calls.{CallTable}
+use Rattle.pua_calls.specs.Promises.{holds}
+use Rattle.pua_policy.specs.States.{ProcessState}
 use Rattle.pua_policy.specs.declared.answer.Cover.{Cover}
 use Rattle.pua_policy.specs.declared.answer.Cover.TheVariants.{Only}
-use Rattle.pua_policy.specs.declared.answer.May.{May}
-use Rattle.pua_policy.specs.declared.answer.May.TheVariants as may
 use Rattle.pua_policy.specs.declared.place.Place.{Place}
 use Rattle.pua_policy.specs.declared.place.Place.TheVariants as place
-use Rattle.pua_policy.proofs.ForCallers.{holds_through}
 use Rattle.pua_script.specs.Confinement.{has_c, object_in}
 use Rattle.pua_objects.specs.Objects.{cover_in}
 use Rattle.pua_objects.proofs.ForCallers.{Among, among_left, among_right, among_either, among_map, map_among, among_filter, filter_among}
 use Rattle.pua_objects.proofs.ForCallers.{filter_map_among, among_filter_map}
 use Rattle.pua_ever.specs.Ever.{row_cover, is_free, can_empty, opens_at, opens_outside, has_c_outside, directories, gives_way}
-use Rattle.pua_ever.specs.Ever.{is_way_in, dir_covers, veil_cover_at, name_covers, open_covers, is_yes, may_edit, edit_calls, may_rename}
-use Rattle.pua_ever.specs.Ever.{can_move, some_dir_moves, file_covers, may_link}
-use Rattle.pua_ever.proofs.ForCallers.{any_among, any_found, yes_is}
-use Rattle.pua_tight.specs.Narrower.{VeilsWithin, no_veils, veils_too, StateWithin}
+use Rattle.pua_ever.specs.Ever.{is_way_in, dir_covers, veil_cover_at, name_covers, open_covers, may_edit, edit_calls}
+use Rattle.pua_ever.specs.Ever.{can_move, some_dir_moves, file_covers}
+use Rattle.pua_ever.proofs.ForCallers.{any_among, any_found}
+use Rattle.pua_tight.specs.Narrower.{VeilsWithin, no_veils, veils_too}
 use Rattle.pua_tight.proofs.Sets.{or_more, and_more, any_more, all_more}
-use Rattle.pua_tight.proofs.Within.{CoverWithin, all, nothing, only, cover_within, in_within, fault_within, may_within}
+use Rattle.pua_tight.proofs.Within.{CoverWithin, only, cover_within, in_within}
+use Rattle.pua_tight.proofs.Eases.{Eases, c_within, moves_more, yes_more}
 
 -- of veils at the same places
 any_veil : (f g : Place → ℕ → Bool) → ((p : Place) (a b : ℕ) → holds b a ≡ true → f p a ≡ true → g p b ≡ true) →
@@ -59,58 +54,12 @@ if_both true true xs ys more less c a = less c a
 if_both true false xs ys more less c a = let never : false ≡ true = more refl in cc
 if_both false d xs ys more less c a = absurd a
 
-pub c_within : {c d : Cover} → CoverWithin c d → has_c c ≡ true → has_c d ≡ true
-c_within all e = refl
-c_within nothing e = e
-c_within (only {a = a} {b = b} less) e = holds_through b a creating less e
-
-pub none_is : (o : Option Errno) → is_none o ≡ true → o ≡ None
-none_is None e = refl
-none_is (Some errno) e = cc
-
--- a process to which another one is no harder: its promises let through what those of the other do, and its veils have the letters of
--- the other's
-pub record Eases (table : CallTable) (h k : ProcessState) : Type 0 where
-  pub calls : (call : Call) → may_any h (rule_of table call).alternatives ≡ may.Yes → may_any k (rule_of table call).alternatives ≡ may.Yes
-  pub rename_old : may_any h table.rename.old.needs.alternatives ≡ may.Yes → may_any k table.rename.old.needs.alternatives ≡ may.Yes
-  pub rename_new : may_any h table.rename.new.needs.alternatives ≡ may.Yes → may_any k table.rename.new.needs.alternatives ≡ may.Yes
-  pub link_old : may_any h table.link.old.needs.alternatives ≡ may.Yes → may_any k table.link.old.needs.alternatives ≡ may.Yes
-  pub link_new : may_any h table.link.new.needs.alternatives ≡ may.Yes → may_any k table.link.new.needs.alternatives ≡ may.Yes
-  pub veiled : VeilsWithin h.veils k.veils
-
-pub eases : (table : CallTable) (h k : ProcessState) → StateWithin h k → Eases table h k
-eases table h k w = record {
-  calls = λ call. may_within h k w (rule_of table call).alternatives;
-  rename_old = may_within h k w table.rename.old.needs.alternatives;
-  rename_new = may_within h k w table.rename.new.needs.alternatives;
-  link_old = may_within h k w table.link.old.needs.alternatives;
-  link_new = may_within h k w table.link.new.needs.alternatives;
-  veiled = w.veils;
-}
-
-yes_more : (m n : May) → (m ≡ may.Yes → n ≡ may.Yes) → is_yes m ≡ true → is_yes n ≡ true
-yes_more m n more e = ap is_yes (more (yes_is m e))
-
-pub uncovered_more : {c d : Cover} → CoverWithin c d → (perms : ℕ) → is_none (cover_fault c perms) ≡ true →
-    is_none (cover_fault d perms) ≡ true
-uncovered_more {c} less perms e = ap is_none (fault_within less perms (none_is (cover_fault c perms) e))
-
 module _ (table : CallTable) (h k : ProcessState) (w : Eases table h k) where
   pub edits_more : may_edit table h ≡ true → may_edit table k ≡ true
   edits_more e =
       or_more _ _ _ _ (yes_more _ _ w.rename_new)
       (or_more _ _ _ _ (yes_more _ _ w.link_new)
       (any_more _ _ (λ edit. yes_more _ _ (w.calls edit)) edit_calls)) e
-
-  renames_more : may_rename table h ≡ true → may_rename table k ≡ true
-  renames_more e = and_more _ _ _ _ (yes_more _ _ w.rename_old) (yes_more _ _ w.rename_new) e
-
-  pub links_more : may_link table h ≡ true → may_link table k ≡ true
-  links_more e = and_more _ _ _ _ (yes_more _ _ w.link_old) (yes_more _ _ w.link_new) e
-
-  pub moves_more : {c d : Cover} → CoverWithin c d → can_move table h c ≡ true → can_move table k d ≡ true
-  moves_more less e = and_more _ _ _ _ renames_more
-      (and_more _ _ _ _ (c_within less) (uncovered_more less table.rename.old.needs.perms)) e
 
   module _ (t : Tree) where
     in_dir : (dir : ℕ) → CoverWithin (cover_in t h dir) (cover_in t k dir)
@@ -212,7 +161,7 @@ module _ (table : CallTable) (h k : ProcessState) (w : Eases table h k) where
     some_more e =
         let one = any_found (can_move table h) (open_covers t h) e in
         let other = opens_all_more one.0 one.1 in
-        any_among (can_move table k) (open_covers t k) other.0 other.1 (moves_more other.2 one.2)
+        any_among (can_move table k) (open_covers t k) other.0 other.1 (moves_more table h k w other.2 one.2)
 
     pub files_more : CoversWithin (file_covers t table h) (file_covers t table k)
     files_more = both_lists (name_covers t h) _ (name_covers t k) _ names_more

@@ -1,14 +1,13 @@
 -- The list for ever of a process lies within that of one that it lies within.
 use Rattle.std.proofs.Common.{◌≡◌, ℕ, List, [], ◌∷◌, ◌++◌, refl, sym, ap, ◌∙◌, Bool, true, false, ◌&&◌, map, subst, inl, inr}
 use Rattle.std.proofs.lemmas.Bool.{false≢true}
-use Rattle.std.specs.Prelude.{Option, Some, None, filter, flat_map, is_none, is_some, length, nat_lt, if◌then◌else◌}
+use Rattle.std.specs.Prelude.{Option, Some, None, filter, flat_map, is_none, is_some, length, if◌then◌else◌}
 use Rattle.pua_tree.specs.Tree.{Tree, WellFormed, Spot, empty_tree, kind_at, is_dir, look}
 use Rattle.pua_tree.specs.declared.node.Kind.{Kind}
 use Rattle.pua_path.specs.declared.found.Found.TheVariants.{Whole, Slot}
 use Rattle.pua_path.specs.declared.found.Way.TheVariants.{Top}
 use Rattle.pua_calls.specs.Calls.{CallTable, rule_of, calls}
 use Rattle.pua_calls.specs.declared.call.Call.{Call}
-use Rattle.pua_calls.specs.declared.call.Call.TheVariants as call
 use Rattle.pua_policy.specs.States.{ProcessState, perms_kept, may_any}
 use Rattle.pua_tree.specs.declared.node.Kind.TheVariants.{File}
 use Rattle.pua_policy.specs.Verdict.{Object, Is, IsFile, IsProg, IsLink, IsMissing, cover, cover_fault, covered_verdict, is_allowed}
@@ -18,11 +17,11 @@ use Rattle.pua_policy.specs.declared.place.Place.TheVariants as place
 use Rattle.pua_audit.specs.Reach.{Word}
 use Rattle.pua_objects.specs.Objects.{Subject, At, Others, Item, items, cover_in, is_named_by}
 use Rattle.pua_objects.proofs.ForCallers.{Among, among_left, among_right, among_either, among_map, map_among, among_filter, filter_among}
-use Rattle.pua_objects.proofs.ForCallers.{among_flat, flat_among, contained, among_contained, some_of}
+use Rattle.pua_objects.proofs.ForCallers.{among_flat, flat_among, contained, among_contained}
 use Rattle.pua_ever.specs.Ever.{dir_covers, file_covers, name_covers, can_move, can_link, covers_of_dir, covers_of, named_covers, ever_object}
 use Rattle.pua_ever.specs.Ever.{removable_dir, lasting_dir, is_named_way, may_edit, is_allowed_under, turning_calls}
 use Rattle.pua_ever.specs.Ever.{starts_under, is_exec_call, can_allow, is_ever_allowed, ever_calls, New, NewDir, NewOthers, NewFile, NewLink}
-use Rattle.pua_ever.specs.Ever.{is_made_by, file_makers, new_covers, new_object, is_new_named, can_make, can_allow_new, is_new_allowed, new_calls, own_spot}
+use Rattle.pua_ever.specs.Ever.{new_covers, new_object, is_new_named, can_make, can_allow_new, is_new_allowed, new_calls, own_spot}
 use Rattle.pua_ever.specs.Ever.{can_be_freed, freed_at, names_to_free, subjects_of, all_new, ever_line, new_line, EverLine}
 use Rattle.pua_ever.specs.Ever.{has_ever_calls, ever}
 use Rattle.pua_ever.proofs.ForCallers.{any_among, any_found, StandsNow, items_stand, dir_cover, file_cover, named_moved, named_linked}
@@ -31,11 +30,11 @@ use Rattle.pua_tight.specs.Narrower.{SetWithin, unset, within}
 use Rattle.pua_tight.specs.Laws.{IsListedForEver, WithinListsNoMoreForEver}
 use Rattle.pua_tight.proofs.Sets.{or_more, and_more, any_more}
 use Rattle.pua_tight.proofs.Within.{CoverWithin, kept_within, cover_within, in_within, fault_within}
-use Rattle.pua_tight.proofs.Listed.{items_alike}
+use Rattle.pua_tight.proofs.Listed.{has_more, items_alike}
 use Rattle.pua_tight.proofs.Worlds.{parts, joined}
 use Rattle.pua_tight.proofs.Decided.{or_both}
-use Rattle.pua_tight.proofs.EverCovers.{Eases, eases, CoversWithin, both_lists, uncovered_more, edits_more, links_more}
-use Rattle.pua_tight.proofs.EverCovers.{moves_more, free_more, empties_more, dirs_more, names_more, files_more}
+use Rattle.pua_tight.proofs.Eases.{Eases, eases, linked_more, made_by_more, moves_more}
+use Rattle.pua_tight.proofs.EverCovers.{CoversWithin, both_lists, edits_more, free_more, empties_more, dirs_more, names_more, files_more}
 
 -- whether something was given is the same
 set_alike : {p q : Option ℕ} → SetWithin p q → is_none p ≡ is_none q
@@ -45,19 +44,6 @@ set_alike (within less) = refl
 some_alike : {p q : Option ℕ} → SetWithin p q → is_some p ≡ is_some q
 some_alike unset = refl
 some_alike (within less) = refl
-
--- a line with some call has its other
-pub has_more : (xs ys : List Call) → ((c : Call) → Among xs c → Among ys c) → nat_lt 0 (length xs) ≡ true → nat_lt 0 (length ys) ≡ true
-has_more [] ys more e = absurd (false≢true e)
-has_more (c ∷ xs) ys more e = some_of ys c (more c (inl refl))
-
--- a call that makes something passes another test too
-pub made_by_more : (p q : Call → Bool) → ((c : Call) → p c ≡ true → q c ≡ true) → (new : New) → is_made_by p new ≡ true →
-    is_made_by q new ≡ true
-made_by_more p q more NewDir e = more call.Mkdir e
-made_by_more p q more NewOthers e = more call.Mkdir e
-made_by_more p q more NewFile e = any_more p q more file_makers e
-made_by_more p q more NewLink e = more call.Symlink e
 
 module _ (table : CallTable) (h k : ProcessState) (w : Eases table h k) where
   -- what is allowed under some cover on a thing
@@ -119,10 +105,6 @@ module _ (table : CallTable) (h k : ProcessState) (w : Eases table h k) where
             (left, dir_cover t k well table dir living, subst (λ (x : Cover). CoverWithin x left) same (in_within w.veiled t dir))
         by false is (inr more) = absurd more
 
-    linked_more : (kind : Option Kind) {c d : Cover} → CoverWithin c d → can_link table h kind c ≡ true → can_link table k kind d ≡ true
-    linked_more kind less e = and_more _ _ _ _ (links_more table h k w)
-        (and_more _ _ _ _ (uncovered_more less table.link.old.needs.perms) (λ here. here)) e
-
     file_covers_more : (dir : ℕ) (name : List ℕ) (x : ℕ) → look t dir name ≡ Some x → is_dir t x ≡ false →
         CoversWithin (covers_of t table h (At (Slot dir name (Some x)))) (covers_of t table k (At (Slot dir name (Some x))))
     file_covers_more dir name x row other c a = by (can_move table h now) (can_link table h kind now) refl refl a
@@ -153,7 +135,7 @@ module _ (table : CallTable) (h k : ProcessState) (w : Eases table h k) where
         by false l can link (inl same) = here same
         by false true can link (inr more) =
             let there = files_more table h k w t c more in
-            (there.0, named_linked t table k kind left there.0 (linked_more kind less link) there.1, there.2)
+            (there.0, named_linked t table k kind left there.0 (linked_more table h k w kind less link) there.1, there.2)
         by false false can link (inr more) = absurd more
 
     allowed_more : (subject : Subject) → StandsNow t h subject → (c : Call) →

@@ -35,8 +35,9 @@ use Rattle.pua_tight.specs.Laws.{IsListedForEver, WithinLastsNoMore}
 use Rattle.pua_tight.proofs.Sets.{or_more, any_more}
 use Rattle.pua_tight.proofs.Within.{all_within, veils_self, held_within}
 use Rattle.pua_tight.proofs.Worlds.{parts}
-use Rattle.pua_tight.proofs.EverCovers.{Eases, eases}
-use Rattle.pua_tight.proofs.ForEver.{ever_more, has_more, made_by_more}
+use Rattle.pua_tight.proofs.Eases.{Eases, eases, made_by_more}
+use Rattle.pua_tight.proofs.Listed.{has_more}
+use Rattle.pua_tight.proofs.ForEver.{ever_more}
 
 -- two sets together, each of them within another one
 union_within : (a b c d : ℕ) → holds b a ≡ true → holds d c ≡ true → holds (bit_or b d) (bit_or a c) ≡ true

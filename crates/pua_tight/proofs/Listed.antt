@@ -45,6 +45,11 @@ module _ (t : Tree) (vs ws : List (Place × ℕ)) (less : VeilsWithin vs ws) whe
   pub items_alike : items t vs ≡ items t ws
   items_alike = below_alike (length t.nodes) 0 Top []
 
+-- a line with some call has its other
+pub has_more : (xs ys : List Call) → ((c : Call) → Among xs c → Among ys c) → nat_lt 0 (length xs) ≡ true → nat_lt 0 (length ys) ≡ true
+has_more [] ys more e = absurd (false≢true e)
+has_more (c ∷ xs) ys more e = some_of ys c (more c (inl refl))
+
 module _ (table : CallTable) (h k : ProcessState) (w : StateWithin h k) (t : Tree) where
   subject_more : (subject : Subject) (call : Call) → is_allowed (subject_verdict t table h call subject) ≡ true →
       is_allowed (subject_verdict t table k call subject) ≡ true

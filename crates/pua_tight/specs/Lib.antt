@@ -4,6 +4,7 @@ pub mod Texts
 pub mod Narrower
 -- What is proved of it.
 pub mod Laws
+pub mod JointLaws
 pub mod Trials
 -- A claim too: it rests on `leave_out` of Laws and on Trials.
 pub mod Uses

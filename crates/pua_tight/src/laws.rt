@@ -3,6 +3,10 @@
 
 ghost use Rattle.pua_tight.specs.Examples.{OpenedRows, TightRows, UseRows, WithoutRows};
 ghost use Rattle.pua_tight.specs.Examples.{WrittenRows};
+ghost use Rattle.pua_tight.specs.JointLaws.{ScriptsComeToNoMore, TightComesToNoMore};
+ghost use Rattle.pua_tight.specs.JointLaws.{WithinActsNoMoreJointly, WithinAllowsNoMoreJointly};
+ghost use Rattle.pua_tight.specs.JointLaws.{WithinHasNoMoreJointLines, WithinListsNoMoreJointly};
+ghost use Rattle.pua_tight.specs.JointLaws.{WorldsComeToNoMore};
 ghost use Rattle.pua_tight.specs.Laws.{RulesRestOnOne, ScriptsAreTightened};
 ghost use Rattle.pua_tight.specs.Laws.{FuturesAreWithin, RequestKeepsWithin, ScriptsKeepWithin};
 ghost use Rattle.pua_tight.specs.Laws.{TightensScripts, TightIsLeast, TightIsMinimal};
@@ -34,6 +38,21 @@ pub fn narrower_law()
     ensures lasting { WithinLastsNoMore }
     ensures grants { WithinGrantsNoMore }
     ensures futures { FuturesAreWithin }
+{}
+
+/// Any processes of a thinned script that is answered as the given one come to touch no more, all
+/// of them together, than those of the same numbers in the given one: each line of a joint list has
+/// one in the other's, about the same thing, with all of its calls. So it is with less help, and
+/// with what they start, where what is not bounded in the given script does not count in the
+/// thinned one; and who starts nothing there starts nothing here. A tightened script is such a one.
+pub fn joint_law()
+    ensures allows { WithinAllowsNoMoreJointly }
+    ensures lists { WithinListsNoMoreJointly }
+    ensures lines { WithinHasNoMoreJointLines }
+    ensures acting { WithinActsNoMoreJointly }
+    ensures worlds { WorldsComeToNoMore }
+    ensures scripts { ScriptsComeToNoMore }
+    ensures tight { TightComesToNoMore }
 {}
 
 /// A tightened script is the given one but for what was left out, is answered as it line by line,

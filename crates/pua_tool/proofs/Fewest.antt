@@ -27,7 +27,7 @@ use Rattle.pua_tight.specs.Texts as texts
 use Rattle.pua_tight.specs.Laws.{IsTightened, IsScriptOfLines, RestOnOne, HasOneWay, Stay, openers}
 use Rattle.pua_tight.proofs.ForCallers.{tightens, scripts_are_tightened, tight_is_minimal, tight_is_least, rules_rest, tight_texts_are_read}
 use Rattle.pua_tight.proofs.ForCallers.{FoundWithin, never, made, found_within, allows_no_more, futures_within, lists_no_more}
-use Rattle.pua_tight.proofs.ForCallers.{lists_no_more_for_ever, lasts_no_more}
+use Rattle.pua_tight.proofs.ForCallers.{lists_no_more_for_ever, lasts_no_more, worlds_come_to_no_more}
 use Rattle.pua_tool.specs.Texts.{run_text}
 use Rattle.pua_tool.specs.TightTexts.{as_tight, tight_text}
 use Rattle.pua_tool.specs.Fewest.{MayDoNoMore, LeavesNoMore, IsTightWritten, TightAsWritten}
@@ -67,6 +67,7 @@ leaves_no_more table sound less given inside = record {
   made = λ process. made_alike (found_within inside.processes process);
   processes = λ process h k here there.
       may_do_no_more table sound h k (both_within (found_within inside.processes process) h k here there);
+  jointly = worlds_come_to_no_more less given inside;
 }
 
 -- requests that have less are asked on the same lines

@@ -19,6 +19,7 @@ use Rattle.pua_ever.specs.Through.{bound_of, ever_lasting}
 use Rattle.pua_tight.specs.declared.piece.Piece.{Piece}
 use Rattle.pua_tight.specs.Tight.{lines_of}
 use Rattle.pua_tight.specs.Narrower.{AsksWithin}
+use Rattle.pua_tight.specs.JointLaws.{ComesToNoMore}
 use Rattle.pua_tight.specs.Laws.{IsListed, IsListedForEver, LeavesOut, MayLeaveOut, leave_out, HasOneWay, HasNoChoice}
 use Rattle.pua_tool.specs.Texts.{Chosen, run_text, table_by}
 use Rattle.pua_tool.specs.TightTexts.{tight_text}
@@ -36,12 +37,13 @@ pub record MayDoNoMore (table : CallTable) (less given : ProcessState) : Type 0 
   pub lasting : (t : Tree) → WellFormed t → (bound_of table given ≡ None → bound_of table less ≡ None) →
       (line : EverLine) → Contains (ever_lasting t (tmp_table table) less) line → IsListedForEver (ever_lasting t (tmp_table table) given) line
 
--- one tree, and the same processes, each of which may do no more
+-- one tree, and the same processes, each of which may do no more; nor come any of them to more, all of them together
 pub record LeavesNoMore (table : CallTable) (less given : World) : Type 0 where
   pub tree : less.tree ≡ given.tree
   pub made : (process : ℕ) → is_some (kept_at less process) ≡ is_some (kept_at given process)
   pub processes : (process : ℕ) (h k : ProcessState) → kept_at less process ≡ Some h → kept_at given process ≡ Some k →
       MayDoNoMore table h k
+  pub jointly : ComesToNoMore less given
 
 pub record IsTightWritten (choice : Chosen) (tree_bytes script_bytes : List ℕ) (table : CallTable) (t : Tree) (given : List Asked)
     (text : List ℕ) : Type 0 where
