@@ -7,7 +7,7 @@ use pua_examples_trees::told::tell_expected;
 use pua_path::Errno;
 use pua_policy::{Process, Verdict};
 use pua_script::Answer;
-use pua_tool::{Processes, ToolFault};
+use pua_tool::{Processes, ToolFault, WriteFault};
 use pua_tree::SlabTree;
 use std::alloc::Global;
 
@@ -84,5 +84,5 @@ fn is_list_written(alloc: Global) -> Result<bool> {
 
 fn is_none_written(alloc: Global) -> bool {
     let none = list(alloc, SITE, SERVER, Processes::One(3), 1000);
-    none.err() == Some(ToolFault::NoProcess)
+    none.err() == Some(WriteFault::NoText(ToolFault::NoProcess))
 }

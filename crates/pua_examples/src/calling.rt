@@ -31,7 +31,9 @@ use pua_path::{Counted, Ending, Errno, Found, Last, PathText, resolve};
 use pua_policy::judge::verdict_of;
 use pua_policy::{Process, Verdict};
 use pua_script::{Answer, Script, ScriptFault, World, read_script};
-use pua_tool::{Columns, ListWords, MemorySink, Processes, TableChoice, Time, ToolFault, list_to};
+use pua_tool::{
+    Columns, ListWords, MemorySink, Processes, TableChoice, Time, ToolFault, WriteFault, list_to,
+};
 use pua_tree::{FileTree, ListingFault, NodeId, OutOfMemory, SlabTree, read_listing_slab};
 use std::alloc::Global;
 
@@ -210,23 +212,21 @@ pub(crate) fn can_ever_start<T: FileTree>(
 
 /// The text of `pua objects` for a process or for all, in memory with room for so many bytes. The
 /// error is the first fault of the listing or the script, `NoProcess` where the process was never
-/// made, `Write` where there is too little room, and `OutOfMemory`.
+/// made, `Put` where there is too little room, and `OutOfMemory`.
 pub(crate) fn list(
     alloc: Global,
     tree: &[u8],
     lines: &[u8],
     processes: Processes,
     room: usize,
-) -> Result<MemorySink, ToolFault>
+) -> Result<MemorySink, WriteFault>
     ensures whole { IfOk result (λ sink.
         objects_text by_standard tree.now lines.now processes ≡ Ok sink.bytes) }
-    ensures refused { IfErr result (λ fault.
-        fault ≢ ToolFault.Write → fault ≢ ToolFault.OutOfMemory →
-        objects_text by_standard tree.now lines.now processes ≡ Err fault) }
+    ensures refused { (fault : ToolFault) → result ≡ Err (WriteFault.NoText fault) →
+        fault ≢ ToolFault.OutOfMemory →
+        objects_text by_standard tree.now lines.now processes ≡ Err fault }
 {
-    let Ok(mut sink) = MemorySink::new(alloc, room) else {
-        return Err(ToolFault::OutOfMemory);
-    };
+    let mut sink = MemorySink::new(alloc, room)?;
     let list = ListWords {
         whose: processes,
         span: Time::Now,

@@ -1,7 +1,7 @@
 -- The text of what processes can ever touch with the help of others, step by step.
 use Rattle.pua_tool.proofs.Common.{◌≡◌, ◌≢◌, ◌∙◌, ◌∷◌, ◌++◌, [], ℕ, List, ap, map, refl, subst, sym, Result, Ok, Err, Option, Some, None, flat_map}
-use Rattle.pua_tool.proofs.Common.{CallTable, ProcessState, Tree, Chosen, Replayed, ToolFault, OutOfMemory, Write, AnswersTo, replay_of}
-use Rattle.std.proofs.Common.{◌+◌, ◌<◌, ◌⊎◌, inl, inr, ◌==◌, Bool, true, false, cond, not, drop, get_or, length}
+use Rattle.pua_tool.proofs.Common.{CallTable, ProcessState, Tree, Chosen, Replayed, ToolFault, OutOfMemory, NoText, AnswersTo, replay_of}
+use Rattle.std.proofs.Common.{◌+◌, ◌<◌, inl, inr, ◌==◌, Bool, true, false, cond, not, drop, get_or, length}
 use Rattle.std.proofs.lemmas.List.{drop_more, map-append, append_assoc}
 use Rattle.pua_tree.proofs.ForCallers.{None≢Some, Some≢None}
 use Rattle.pua_calls.specs.declared.rules.Rules.{Rules}
@@ -21,7 +21,7 @@ use Rattle.pua_tool.specs.BesideTexts.{IsBesideWhole, OrMemory, beside, others_t
 use Rattle.pua_tool.specs.EverTexts.{ever_fault}
 use Rattle.pua_tool.specs.TogetherTexts.{first_refused, refused_or}
 use Rattle.pua_tool.specs.declared.helped.Found.{Found}
-use Rattle.pua_tool.proofs.TextAnswers.{answers_refused}
+use Rattle.pua_tool.proofs.TextAnswers.{some_refused}
 
 -- ---- the others
 
@@ -112,24 +112,12 @@ lists_joined t (list ∷ lists) = ap (λ more. list_text t list ++ more) (lists_
 
 -- ---- the answer
 
-memory_or_other : (fault : ToolFault) → (fault ≡ OutOfMemory) ⊎ (fault ≢ OutOfMemory)
-memory_or_other OutOfMemory = inl refl
-memory_or_other fault = inr (λ same. cc)
-
 -- a fault before anything is written: the first one, or that there was no memory
 pub fault_answered : {A : Type 0} (written : A → Option (List ℕ)) (failed : A → ℕ) (Is : Result (List ℕ) ToolFault → Type 0) (fault : ToolFault)
-    (s : A) → fault ≢ Write → (fault ≢ OutOfMemory → Is (Err fault)) →
-    (answer : Result (List ℕ) ToolFault) × OrMemory Is answer × AnswersTo written failed answer (Err fault) s s
-fault_answered written failed Is fault s unwritten refused = by (memory_or_other fault)
-  where
-    by : (fault ≡ OutOfMemory) ⊎ (fault ≢ OutOfMemory) →
-        (answer : Result (List ℕ) ToolFault) × OrMemory Is answer × AnswersTo written failed answer (Err fault) s s
-    by (inl memory) = (
-      Err OutOfMemory,
-      inl refl,
-      answers_refused written failed (Err OutOfMemory) fault s unwritten (λ other. absurd (other memory)),
-    )
-    by (inr other) = (Err fault, inr (refused other), answers_refused written failed (Err fault) fault s unwritten (λ again. refl))
+    (s : A) → (fault ≢ OutOfMemory → Is (Err fault)) →
+    (answer : Result (List ℕ) ToolFault) × OrMemory Is answer × AnswersTo written failed answer (Err (NoText fault)) s s
+fault_answered written failed Is fault s refused =
+    some_refused written failed (OrMemory Is) (Err OutOfMemory, inl refl) fault s (λ other. inr (refused other))
 
 -- what is so of an answer is so of it behind the steps before
 pub or_memory : (Is Of : Result (List ℕ) ToolFault → Type 0) (answer : Result (List ℕ) ToolFault) → (Is answer → Of answer) → OrMemory Is answer →
@@ -164,13 +152,12 @@ module _ (choice : Chosen) (tree_bytes script_bytes : List ℕ) (which helping :
       (λ so. behind_ok (λ done. IsBesideAfter choice.rules done which helping) (replay_of choice tree_bytes script_bytes) done answer is so) after
 
   module _ {A : Type 0} (written : A → Option (List ℕ)) (failed : A → ℕ) where
-    pub text_refused : (fault : ToolFault) (s : A) → fault ≢ Write →
-        (fault ≢ OutOfMemory → replay_of choice tree_bytes script_bytes ≡ Err fault) →
+    pub text_refused : (fault : ToolFault) (s : A) → (fault ≢ OutOfMemory → replay_of choice tree_bytes script_bytes ≡ Err fault) →
         (answer : Result (List ℕ) ToolFault) × IsBesideText choice tree_bytes script_bytes which helping answer
-        × AnswersTo written failed answer (Err fault) s s
+        × AnswersTo written failed answer (Err (NoText fault)) s s
     unfolding IsBesideText
-    text_refused fault s unwritten refused =
+    text_refused fault s refused =
         fault_answered written failed
-        (IsBehind (λ done. IsBesideAfter choice.rules done which helping) (replay_of choice tree_bytes script_bytes)) fault s unwritten
+        (IsBehind (λ done. IsBesideAfter choice.rules done which helping) (replay_of choice tree_bytes script_bytes)) fault s
         (λ other. behind_err (λ done. IsBesideAfter choice.rules done which helping) (replay_of choice tree_bytes script_bytes) fault
         (refused other))

@@ -23,5 +23,6 @@ pub use Rattle.pua_tool.specs.EverTexts.{unless_reason}
 pub use Rattle.pua_tool.specs.Texts.{as_audit, as_listing, as_script, choice_of, Chosen, Replayed, table_by}
 unfoldable pub use Rattle.pua_tool.specs.Texts.{replay_of}
 pub use Rattle.pua_tool.specs.declared.fault.ToolFault.{ToolFault}
-pub use Rattle.pua_tool.specs.declared.fault.ToolFault.TheVariants.{OutOfMemory, Write}
+pub use Rattle.pua_tool.specs.declared.fault.ToolFault.TheVariants.{OutOfMemory}
+pub use Rattle.pua_tool.specs.declared.fault.WriteFault.TheVariants.{NoText}
 pub use Rattle.pua_tool.specs.declared.outcome.CommandFault.TheVariants.{Tool}

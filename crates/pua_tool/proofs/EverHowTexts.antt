@@ -1,8 +1,7 @@
 -- The text of the list for ever with the numbers of steps, step by step.
 use Rattle.pua_tool.proofs.Common.{◌≡◌, ◌≢◌, ℕ, List, [], ◌++◌, ◌∙◌, refl, sym, subst, ap, Result, ◌>>=◌, Option, Some, None, Ok, Err}
-use Rattle.pua_tool.proofs.Common.{ProcessState, kept_at, Chosen, Replayed, replay_of, ToolFault, OutOfMemory, Write, answer_lines, AnswersTo}
+use Rattle.pua_tool.proofs.Common.{ProcessState, kept_at, Chosen, Replayed, replay_of, ToolFault, OutOfMemory, NoText, answer_lines, AnswersTo}
 use Rattle.pua_tool.proofs.Common.{unless_reason}
-use Rattle.std.proofs.Common.{◌⊎◌, inl, inr}
 use Rattle.std.specs.Prelude.{ok_or}
 use Rattle.pua_calls.specs.TmpTable.{tmp_table}
 use Rattle.pua_calls.specs.declared.rules.Rules.{Rules}
@@ -13,11 +12,7 @@ use Rattle.pua_texts.specs.EverHowLines.{ever_list_with}
 use Rattle.pua_tool.specs.EverHowTexts.{IsEverHowAfter, IsEverHowBehind, IsEverHowList, IsEverHowText}
 use Rattle.pua_tool.specs.declared.fault.ToolFault.TheVariants.{NoProcess}
 use Rattle.pua_tool.proofs.RowColumns.{some_columns}
-use Rattle.pua_tool.proofs.TextAnswers.{answers_refused}
-
-memory_or_other : (fault : ToolFault) → (fault ≡ OutOfMemory) ⊎ (fault ≢ OutOfMemory)
-memory_or_other OutOfMemory = inl refl
-memory_or_other fault = inr (λ same. cc)
+use Rattle.pua_tool.proofs.TextAnswers.{some_refused}
 
 module _ (rules : Rules) (done : Replayed) (process : ℕ) where
   -- the list of what was found behind a script
@@ -88,17 +83,11 @@ module _ (rules : Rules) (done : Replayed) (process : ℕ) where
             (answer_lines 1 done.answers ++ some.0)) here);
       }
 
-  module _ {A : Type 0} (written : A → Option (List ℕ)) (failed : A → ℕ) where
-    -- a fault before anything is written: the first one, or some answer where there was no memory
-    pub fault_after : (fault : ToolFault) (s : A) → fault ≢ Write → (fault ≢ OutOfMemory → IsEverHowAfter rules done process (Err fault)) →
-        (answer : Result (List ℕ) ToolFault) × IsEverHowAfter rules done process answer × AnswersTo written failed answer (Err fault) s s
-    fault_after fault s unwritten refused = by (memory_or_other fault)
-      where
-        by : (fault ≡ OutOfMemory) ⊎ (fault ≢ OutOfMemory) →
-            (answer : Result (List ℕ) ToolFault) × IsEverHowAfter rules done process answer × AnswersTo written failed answer (Err fault) s s
-        by (inl memory) =
-            (some_after.0, some_after.1, answers_refused written failed some_after.0 fault s unwritten (λ other. absurd (other memory)))
-        by (inr other) = (Err fault, refused other, answers_refused written failed (Err fault) fault s unwritten (λ again. refl))
+  -- a fault before anything is written: the first one, or some answer where there was no memory
+  pub fault_after : {A : Type 0} (written : A → Option (List ℕ)) (failed : A → ℕ) (fault : ToolFault) (s : A) →
+      (fault ≢ OutOfMemory → IsEverHowAfter rules done process (Err fault)) →
+      (answer : Result (List ℕ) ToolFault) × IsEverHowAfter rules done process answer × AnswersTo written failed answer (Err (NoText fault)) s s
+  fault_after written failed = some_refused written failed (IsEverHowAfter rules done process) some_after
 
 module _ (choice : Chosen) (tree_bytes script_bytes : List ℕ) (process : ℕ) where
   pub after_done : (done : Replayed) (answer : Result (List ℕ) ToolFault) → replay_of choice tree_bytes script_bytes ≡ Ok done →
@@ -120,20 +109,10 @@ module _ (choice : Chosen) (tree_bytes script_bytes : List ℕ) (process : ℕ) 
       by (Ok done) = some_after choice.rules done process
       by (Err fault) = (Err fault, refl)
 
-  module _ {A : Type 0} (written : A → Option (List ℕ)) (failed : A → ℕ) where
-    pub fault_told : (fault : ToolFault) (s : A) → fault ≢ Write →
-        (fault ≢ OutOfMemory → replay_of choice tree_bytes script_bytes ≡ Err fault) →
-        (answer : Result (List ℕ) ToolFault) × IsEverHowText choice tree_bytes script_bytes process answer
-        × AnswersTo written failed answer (Err fault) s s
-    fault_told fault s unwritten refused = by (memory_or_other fault)
-      where
-        by : (fault ≡ OutOfMemory) ⊎ (fault ≢ OutOfMemory) →
-            (answer : Result (List ℕ) ToolFault) × IsEverHowText choice tree_bytes script_bytes process answer
-            × AnswersTo written failed answer (Err fault) s s
-        by (inl memory) =
-            (some_text.0, some_text.1, answers_refused written failed some_text.0 fault s unwritten (λ other. absurd (other memory)))
-        by (inr other) = (
-          Err fault,
-          after_refused fault (refused other),
-          answers_refused written failed (Err fault) fault s unwritten (λ again. refl),
-        )
+  pub fault_told : {A : Type 0} (written : A → Option (List ℕ)) (failed : A → ℕ) (fault : ToolFault) (s : A) →
+      (fault ≢ OutOfMemory → replay_of choice tree_bytes script_bytes ≡ Err fault) →
+      (answer : Result (List ℕ) ToolFault) × IsEverHowText choice tree_bytes script_bytes process answer
+      × AnswersTo written failed answer (Err (NoText fault)) s s
+  fault_told written failed fault s refused =
+      some_refused written failed (IsEverHowText choice tree_bytes script_bytes process) some_text fault s
+      (λ other. after_refused fault (refused other))

@@ -1,19 +1,19 @@
 -- What was told of a command that was not done, and how it ended.
-use Rattle.pua_tool.proofs.Common.{ℕ, ◌≡◌, ◌≢◌, ◌++◌, [], List, arith, refl, sym, subst, Option, ToolFault, Write, OutOfMemory, Tool}
+use Rattle.pua_tool.proofs.Common.{ℕ, ◌≡◌, ◌≢◌, ◌++◌, [], List, arith, refl, sym, subst, Option, ToolFault, OutOfMemory, Tool}
 use Rattle.std.proofs.Common.{◌≤◌, ◌⊎◌, Bool, true, false, cond, Vec, Global, inl, inr, append-nil}
 use Rattle.pua_io.specs.Held.{Held, Holds}
 use Rattle.pua_words.specs.declared.command.Command.{Command}
-use Rattle.pua_tool.specs.declared.fault.ToolFault.TheVariants.{Script, Request}
 use Rattle.pua_tool.specs.declared.outcome.CommandFault.{CommandFault}
-use Rattle.pua_tool.specs.declared.outcome.CommandFault.TheVariants.{Usage, Unreadable}
+use Rattle.pua_tool.specs.declared.outcome.CommandFault.TheVariants.{Usage, Unreadable, Put}
 use Rattle.pua_tool.specs.declared.status.TheConstants.{DONE, REFUSED, USAGE, DEVICE, MEMORY}
 use Rattle.pua_tool.specs.Statuses.{fault_status}
 use Rattle.pua_tool.specs.FaultTexts.{fault_line}
 use Rattle.pua_tool.specs.Told.{IsFaultTold, IsLineTold, TellsStatus, fault_text}
-use Rattle.pua_tool.specs.Performed.{IsCutShort, IsRefused, IsStopped, IsUntaken, IsUnwritten, Lacks, LacksInput}
+use Rattle.pua_tool.specs.Performed.{IsCutShort, IsFaultOf, IsRefused, IsStopped, IsUntaken, Lacks, LacksInput}
 use Rattle.pua_tool.specs.Advised.{HasTold, IsToldOf, fault_said, has_advice}
 use Rattle.pua_tool.specs.Ended.{IsEndOf, IsEndedAs, IsInPlaceOf}
 use Rattle.pua_tool.specs.declared.advised.Halt.TheVariants.{Untaken, Unwritten}
+use Rattle.pua_tool.specs.declared.advised.Halt.TheVariants as halt
 
 -- the writing of a fault's line
 as_line : (fault : CommandFault) (old new : Option (List ℕ)) (before after : ℕ) → IsFaultTold fault old new before after →
@@ -21,6 +21,7 @@ as_line : (fault : CommandFault) (old new : Option (List ℕ)) (before after : �
 as_line (Usage line) old new before after told = told
 as_line (Unreadable name) old new before after told = told
 as_line (Tool fault) old new before after told = told
+as_line Put old new before after told = told
 
 module _ (held : Held) (command : Command) where
   lacks_input : (name : List ℕ) → Lacks held command name → LacksInput held command
@@ -51,7 +52,7 @@ module _ (held : Held) (command : Command) where
       device = λ e. inl (lacks_input name.now is.0, is.1);
       unwritten = λ other. is.1;
     }
-    stopping_by (Tool Write) is = record {
+    stopping_by Put is = record {
       undone = λ e. let f : 3 ≡ 0 = e in omega (arith, f);
       words = λ e. let f : 3 ≡ 2 = e in omega (arith, f);
       within = omega arith;
@@ -65,7 +66,7 @@ module _ (held : Held) (command : Command) where
       within = omega arith;
       refused = λ e. let f : 4 ≡ 1 = e in absurd (omega (arith, f));
       device = λ e. let f : 4 ≡ 3 = e in absurd (omega (arith, f));
-      unwritten = λ other. is;
+      unwritten = λ other. is.1;
     }
     stopping_by (Tool fault) is = record {
       undone = λ e. let f : 1 ≡ 0 = e in omega (arith, f);
@@ -83,13 +84,12 @@ module _ (held : Held) (command : Command) where
     pub untaken_stops : (fault : CommandFault) → IsUntaken held command fault → new ≡ old → Stops fault
     untaken_stops (Usage line) untaken same = absurd untaken
     untaken_stops (Unreadable name) untaken same = (untaken, same)
-    untaken_stops (Tool fault) untaken same = subst (λ f. IsUnwritten held command f old new before after) (sym untaken) same
+    untaken_stops (Tool fault) untaken same = (subst (IsFaultOf held command) (sym untaken) tt, same)
+    untaken_stops Put untaken same = absurd untaken
 
     pub place_stops : (told fault : ToolFault) → Stops (Tool fault) → IsInPlaceOf told fault → Stops (Tool told)
-    place_stops told fault is (inl e) = subst (λ f. IsUnwritten held command f old new before after) (sym e) is
-    place_stops told (Script f) is (inr (e, blamed)) = subst (λ f. IsUnwritten held command f old new before after) (sym e) is.1
-    place_stops told (Request f) is (inr (e, blamed)) = subst (λ f. IsUnwritten held command f old new before after) (sym e) is.1
-    place_stops told fault is (inr (e, blamed)) = absurd blamed
+    place_stops told fault is (inl e) = (subst (IsFaultOf held command) (sym e) is.0, is.1)
+    place_stops told fault is (inr (e, blamed)) = (subst (IsFaultOf held command) (sym e) tt, is.1)
 
     pub ended_stops : (fault : ToolFault) (script : List ℕ) (status : ℕ) (a b : Option (List ℕ)) (n m : ℕ) → Stops (Tool fault) →
         IsEndedAs command script fault status a b n m → Stopping status
@@ -114,6 +114,7 @@ module _ (held : Held) (command : Command) where
     untaken_told (Unreadable name) untaken told = ([], refl, nothing_behind (fault_text (Unreadable name)) told)
     untaken_told (Tool fault) untaken told =
         ([], ([], (λ f e. cc), subst (λ f. [] ≡ fault_said command [] f) (sym untaken) (silent [])), nothing_behind (fault_line fault) told)
+    untaken_told Put untaken told = absurd untaken
 
     -- a text that was not written
     pub ended_told : (fault : ToolFault) (script : List ℕ) (status : ℕ) → Holds held command.script.now script →
@@ -137,6 +138,9 @@ module _ (command : Command) (status : ℕ) (a b : Option (List ℕ)) (n m : ℕ
     untaken_stops held command old new before after fault halted.0 halted.1,
     untaken_told held command a b n m fault halted.0 told,
   )
+
+  pub put_end : status ≡ fault_status Put → IsFaultTold Put a b n m → IsEndOf command halt.Put status a b n m
+  put_end is told = λ held old new before after halted. (Put, sym is, halted, ([], refl, nothing_behind held command a b n m (fault_text Put) told))
 
   pub unwritten_end : (fault : ToolFault) (script : Vec ℕ Global) → IsEndedAs command script.items fault status a b n m →
       IsEndOf command (Unwritten fault script) status a b n m

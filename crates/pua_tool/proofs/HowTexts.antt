@@ -1,9 +1,9 @@
 -- The text of a way, step by step.
 use Rattle.pua_tool.proofs.Common.{◌≡◌, ◌≢◌, ℕ, List, [], ◌∷◌, ◌∙◌, map, refl, sym, subst, ap, Result, ◌>>=◌, Option, Some, None, Ok, Err}
-use Rattle.pua_tool.proofs.Common.{ProcessState, Tree, CallTable, kept_at, as_replayed, Chosen, Replayed, replay_of, ToolFault, OutOfMemory, Write}
+use Rattle.pua_tool.proofs.Common.{ProcessState, Tree, CallTable, kept_at, as_replayed, Chosen, Replayed, replay_of, ToolFault, OutOfMemory, NoText}
 use Rattle.pua_tool.proofs.Common.{with_end, arith, AnswersTo}
 use Rattle.pua_tool.proofs.Common.{flat_map}
-use Rattle.std.proofs.Common.{◌⊎◌, Bool, false, true, inl, inr, length}
+use Rattle.std.proofs.Common.{Bool, false, true, length}
 use Rattle.std.proofs.lemmas.Bool.{false≢true}
 use Rattle.std.specs.Prelude.{string_bytes, ok_or, IfErr, IfOk}
 use Rattle.std.specs.List.{AllByRecursion, Contains}
@@ -30,7 +30,7 @@ use Rattle.pua_tool.specs.Questions.{AreMeant, AreWayTo, IsQuestion, found_text}
 use Rattle.pua_tool.specs.declared.fault.ToolFault.TheVariants.{NoProcess, HowCall, HowPath, HowThing}
 use Rattle.pua_tool.specs.declared.how.HowQuestion as given
 use Rattle.pua_tool.specs.declared.script.Replay.{Replay}
-use Rattle.pua_tool.proofs.TextAnswers.{answers_refused}
+use Rattle.pua_tool.proofs.TextAnswers.{some_refused}
 
 -- ---- what may be meant
 
@@ -205,26 +205,13 @@ module _ (done : Replayed) (wanted : HowWanted) (q : given.HowQuestion) (h : Pro
 
 -- ---- what is told
 
-memory_or_other : (fault : ToolFault) → (fault ≡ OutOfMemory) ⊎ (fault ≢ OutOfMemory)
-memory_or_other OutOfMemory = inl refl
-memory_or_other fault = inr (λ same. cc)
-
-module _ {A : Type 0} (written : A → Option (List ℕ)) (failed : A → ℕ) (choice : Chosen) (tree_bytes script_bytes : List ℕ)
-    (wanted : HowWanted) where
-  -- a fault before anything is written: the first one, or some answer where there was no memory
-  pub fault_told : (fault : ToolFault) (s : A) → fault ≢ Write →
-      (fault ≢ OutOfMemory → IsHowText choice tree_bytes script_bytes wanted (Err fault)) →
-      (answer : Result (List ℕ) ToolFault) × IsHowText choice tree_bytes script_bytes wanted answer
-      × AnswersTo written failed answer (Err fault) s s
-  fault_told fault s unwritten refused = by (memory_or_other fault)
-    where
-      by : (fault ≡ OutOfMemory) ⊎ (fault ≢ OutOfMemory) →
-          (answer : Result (List ℕ) ToolFault) × IsHowText choice tree_bytes script_bytes wanted answer
-          × AnswersTo written failed answer (Err fault) s s
-      by (inl memory) =
-          let some = some_answer choice tree_bytes script_bytes wanted in
-          (some.0, some.1, answers_refused written failed some.0 fault s unwritten (λ other. absurd (other memory)))
-      by (inr other) = (Err fault, refused other, answers_refused written failed (Err fault) fault s unwritten (λ again. refl))
+-- a fault before anything is written: the first one, or some answer where there was no memory
+pub fault_told : {A : Type 0} (written : A → Option (List ℕ)) (failed : A → ℕ) (choice : Chosen) (tree_bytes script_bytes : List ℕ)
+    (wanted : HowWanted) (fault : ToolFault) (s : A) → (fault ≢ OutOfMemory → IsHowText choice tree_bytes script_bytes wanted (Err fault)) →
+    (answer : Result (List ℕ) ToolFault) × IsHowText choice tree_bytes script_bytes wanted answer
+    × AnswersTo written failed answer (Err (NoText fault)) s s
+fault_told written failed choice tree_bytes script_bytes wanted =
+    some_refused written failed (IsHowText choice tree_bytes script_bytes wanted) (some_answer choice tree_bytes script_bytes wanted)
 
 -- ---- what was found
 

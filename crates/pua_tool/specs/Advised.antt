@@ -17,7 +17,7 @@ use Rattle.pua_tool.specs.Performed.{IsAskedBy}
 use Rattle.pua_tool.specs.declared.fault.ToolFault.{ToolFault}
 use Rattle.pua_tool.specs.declared.fault.ToolFault.TheVariants.{Script, Request}
 use Rattle.pua_tool.specs.declared.outcome.CommandFault.{CommandFault}
-use Rattle.pua_tool.specs.declared.outcome.CommandFault.TheVariants.{Usage, Unreadable, Tool}
+use Rattle.pua_tool.specs.declared.outcome.CommandFault.TheVariants.{Usage, Unreadable, Tool, Put}
 
 -- the rules by which something is said
 abbrev pub has_advice : Rules → Bool
@@ -52,6 +52,7 @@ IsSaidOf held command (Unreadable name) said = said ≡ []
 IsSaidOf held command (Tool fault) said =
     (script : List ℕ) × ((of_script : ScriptFault) → fault ≡ Script of_script → Holds held command.script.now script) ×
     (said ≡ fault_said command script fault)
+IsSaidOf held command Put said = said ≡ []
 
 -- a command's fault was told, with what is said behind its line: whole, or a front of both before a put that failed
 abbrev pub IsToldOf : Held → Command → CommandFault → Option (List ℕ) → Option (List ℕ) → ℕ → ℕ → Type 0

@@ -9,11 +9,11 @@ use Rattle.pua_tool.specs.declared.fault.ToolFault.TheVariants.{Script, Request,
 use Rattle.pua_tool.specs.declared.outcome.CommandFault.{CommandFault}
 use Rattle.pua_tool.specs.declared.outcome.CommandFault.TheVariants.{Tool}
 use Rattle.pua_tool.specs.declared.advised.Halt.{Halt}
-use Rattle.pua_tool.specs.declared.advised.Halt.TheVariants.{Untaken, Unwritten}
+use Rattle.pua_tool.specs.declared.advised.Halt.TheVariants.{Untaken, Unwritten, Put}
 use Rattle.pua_tool.specs.Statuses.{fault_status, status_of}
 use Rattle.pua_tool.specs.FaultTexts.{fault_line}
 use Rattle.pua_tool.specs.Told.{IsLineTold}
-use Rattle.pua_tool.specs.Performed.{IsStopped, IsUntaken}
+use Rattle.pua_tool.specs.Performed.{IsCutShort, IsStopped, IsUntaken}
 use Rattle.pua_tool.specs.Advised.{IsToldOf, advice_line, fault_advice, fault_said}
 
 -- a fault behind whose line something is said
@@ -37,11 +37,12 @@ IsEndedAs command script fault status old new before after =
     (told : ToolFault) × (status ≡ status_of told) × IsInPlaceOf told fault ×
     IsLineTold (fault_line told ++ fault_said command script told) old new before after
 
--- what stopped a command: an input was not taken, or the text was not written, of a script with these bytes
+-- what stopped a command: an input was not taken, there is no text, of a script with these bytes, or a put failed
 abbrev pub IsHalted : Held → Command → Halt → Option (List ℕ) → Option (List ℕ) → ℕ → ℕ → Type 0
 IsHalted held command (Untaken fault) old new before after = IsUntaken held command fault × (new ≡ old)
 IsHalted held command (Unwritten fault script) old new before after =
     Holds held command.script.now script.items × IsStopped held command (Tool fault) old new before after
+IsHalted held command Put old new before after = IsCutShort held command old new before after
 
 -- what stopped a command was told, whatever inputs it had and whatever its text left
 abbrev pub IsEndOf : Command → Halt → ℕ → Option (List ℕ) → Option (List ℕ) → ℕ → ℕ → Type 0

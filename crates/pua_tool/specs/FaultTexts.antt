@@ -8,7 +8,7 @@ use Rattle.pua_script.specs.FaultTexts.{script_told}
 use Rattle.pua_audit.specs.FaultTexts.{audit_told}
 use Rattle.pua_texts.specs.Lines.{with_end}
 use Rattle.pua_tool.specs.declared.fault.ToolFault.{ToolFault}
-use Rattle.pua_tool.specs.declared.fault.ToolFault.TheVariants.{Listing, Script, Request, NoProcess, Audit, Write, OutOfMemory, Table, CanUnveil}
+use Rattle.pua_tool.specs.declared.fault.ToolFault.TheVariants.{Listing, Script, Request, NoProcess, Audit, OutOfMemory, Table, CanUnveil}
 use Rattle.pua_tool.specs.declared.fault.ToolFault.TheVariants.{LacksC, RenameLacksC, LinkLacksC, OtherVeils, SeveralWhy, NowHow, SeveralHow, EverImages, WhyImages}
 use Rattle.pua_tool.specs.declared.fault.ToolFault.TheVariants.{NowBeside, WhyBeside, HowBeside, ImagesBeside}
 use Rattle.pua_tool.specs.declared.fault.ToolFault.TheVariants.{NoLine, HowCall, HowPath, HowThing, HowLink, TooManyNames}
@@ -34,7 +34,6 @@ fault_line (Script fault) = codes "pua: script: " ++ blame_line (script_told fau
 fault_line (Request fault) = codes "pua: request: " ++ blame_line (script_told fault).0 (script_told fault).1
 fault_line NoProcess = with_end (codes "pua: no such process")
 fault_line (Audit fault) = codes "pua: audit: " ++ place_line (audit_told fault).0 (audit_told fault).1
-fault_line Write = with_end (codes "pua: cannot write")
 fault_line OutOfMemory = with_end (codes "pua: out of memory")
 fault_line (Table fault) = codes "pua: table: " ++ row_line (table_told fault).0 (table_told fault).1
 fault_line (CanUnveil process) = codes "pua: process " ++ decimal process ++ with_end (codes " can still unveil")

@@ -10,9 +10,9 @@ use Rattle.pua_words.specs.declared.command.Text.{Text}
 use Rattle.pua_words.specs.declared.command.Text.TheVariants.{Run, RunWhy, Why, Audit, How, Tree, Tight, TightWhy}
 use Rattle.pua_words.specs.declared.command.Text.TheVariants as text
 use Rattle.pua_tool.specs.declared.fault.ToolFault.{ToolFault}
-use Rattle.pua_tool.specs.declared.fault.ToolFault.TheVariants.{Write, OutOfMemory}
+use Rattle.pua_tool.specs.declared.fault.ToolFault.TheVariants.{OutOfMemory}
 use Rattle.pua_tool.specs.declared.outcome.CommandFault.{CommandFault}
-use Rattle.pua_tool.specs.declared.outcome.CommandFault.TheVariants.{Usage, Unreadable, Tool}
+use Rattle.pua_tool.specs.declared.outcome.CommandFault.TheVariants.{Usage, Unreadable, Tool, Put}
 use Rattle.pua_tool.specs.declared.status.TheConstants.{REFUSED}
 use Rattle.pua_io.specs.Held.{Asked, AsksFor, AsksForFront, Held, Holds, HoldsNothing}
 use Rattle.pua_io.specs.Sinks.{Adds, AddsFront, HasFailed}
@@ -122,30 +122,33 @@ abbrev pub IsUnheld : Held → List ℕ → CommandFault → Type 0
 IsUnheld held name (Usage line) = ⊥
 IsUnheld held name (Unreadable other) = (other.now ≡ name) × HoldsNothing held name
 IsUnheld held name (Tool fault) = fault ≡ OutOfMemory
+IsUnheld held name Put = ⊥
 
 -- why the table's input, which is named so, was not taken
 abbrev pub IsTableUnheld : Held → Option (List ℕ) → CommandFault → Type 0
 IsTableUnheld held name (Usage line) = ⊥
 IsTableUnheld held name (Unreadable other) = (name ≡ Some other.now) × HoldsNothing held other.now
 IsTableUnheld held name (Tool fault) = fault ≡ OutOfMemory
+IsTableUnheld held name Put = ⊥
 
 -- why the inputs were not taken
 abbrev pub IsUntaken : Held → Command → CommandFault → Type 0
 IsUntaken held command (Usage line) = ⊥
 IsUntaken held command (Unreadable name) = Lacks held command name.now
 IsUntaken held command (Tool fault) = fault ≡ OutOfMemory
+IsUntaken held command Put = ⊥
 
--- what a fault of the writing says of the inputs and of the output
-abbrev pub IsUnwritten : Held → Command → ToolFault → Option (List ℕ) → Option (List ℕ) → ℕ → ℕ → Type 0
-IsUnwritten held command Write old new before after = IsCutShort held command old new before after
-IsUnwritten held command OutOfMemory old new before after = new ≡ old
-IsUnwritten held command fault old new before after = Asks held command (Err fault) × (new ≡ old)
+-- what the fault of a text says of the inputs, but for `OutOfMemory`
+abbrev pub IsFaultOf : Held → Command → ToolFault → Type 0
+IsFaultOf held command OutOfMemory = ⊤
+IsFaultOf held command fault = Asks held command (Err fault)
 
 -- what a command's fault says of the inputs and of the output
 abbrev pub IsStopped : Held → Command → CommandFault → Option (List ℕ) → Option (List ℕ) → ℕ → ℕ → Type 0
 IsStopped held command (Usage line) old new before after = ⊥
 IsStopped held command (Unreadable name) old new before after = Lacks held command name.now × (new ≡ old)
-IsStopped held command (Tool fault) old new before after = IsUnwritten held command fault old new before after
+IsStopped held command (Tool fault) old new before after = IsFaultOf held command fault × (new ≡ old)
+IsStopped held command Put old new before after = IsCutShort held command old new before after
 
 -- words ask for a command: its numbers are those of processes, and of words in a plain form it is the one that they name
 pub record IsAskedBy (words : List (List ℕ)) (command : Command) : Type 0 where

@@ -8,27 +8,29 @@ use Rattle.pua_tool.specs.Statuses.{fault_status}
 use Rattle.pua_texts.specs.Lines.{with_end}
 use Rattle.pua_io.specs.declared.sink.PutFault.{PutFault}
 use Rattle.pua_tool.specs.FaultTexts.{fault_line}
-use Rattle.pua_tool.specs.declared.fault.ToolFault.TheVariants.{Write, OutOfMemory}
+use Rattle.pua_tool.specs.declared.fault.ToolFault.TheVariants.{OutOfMemory}
 use Rattle.pua_tool.specs.declared.outcome.CommandFault.{CommandFault}
-use Rattle.pua_tool.specs.declared.outcome.CommandFault.TheVariants.{Usage, Unreadable, Tool}
+use Rattle.pua_tool.specs.declared.outcome.CommandFault.TheVariants.{Usage, Unreadable, Tool, Put}
 
 -- the line of a command's fault
 abbrev pub fault_text : CommandFault → List ℕ
 fault_text (Usage line) = with_end (usage_line_text line)
 fault_text (Unreadable name) = with_end (codes "pua: cannot read " ++ name.now)
 fault_text (Tool fault) = fault_line fault
+fault_text Put = with_end (codes "pua: cannot write")
 
 -- and its writing
 abbrev pub TellsFault : CommandFault → Result (Unit {0}) PutFault → Option (List ℕ) → Option (List ℕ) → ℕ → ℕ → Type 0
 TellsFault (Usage line) done old new before after = Writes (with_end (usage_line_text line)) done old new before after
 TellsFault (Unreadable name) done old new before after = Writes (with_end (codes "pua: cannot read " ++ name.now)) done old new before after
 TellsFault (Tool fault) done old new before after = Writes (fault_line fault) done old new before after
+TellsFault Put done old new before after = Writes (with_end (codes "pua: cannot write")) done old new before after
 
 -- a fault that is of no input
 abbrev pub IsPlain : CommandFault → Type 0
 IsPlain (Usage line) = ⊤
-IsPlain (Tool Write) = ⊤
 IsPlain (Tool OutOfMemory) = ⊤
+IsPlain Put = ⊤
 IsPlain fault = ⊥
 
 -- a command's fault was told: by all of its line, or by a front of it before a put that failed

@@ -31,7 +31,6 @@ pub(crate) fn members_of<'t, T: FileTree>(
         ≡ Ok (named_by members.items)) }
     ensures refused { IfErr result (λ fault. fault ≢ ToolFault.OutOfMemory →
         all_made (world_of world.now) (numbers_in (world_of world.now) whose.now) ≡ Err fault) }
-    ensures unwritten { IfErr result (λ fault. fault ≢ ToolFault.Write) }
 {
     match whose {
         Processes::One(number) => made_of(alloc, world, &[*number]),
@@ -53,20 +52,16 @@ fn made_of<'t, T: FileTree>(
         all_made (world_of world.now) numbers.now ≡ Ok (named_by members.items)) }
     ensures refused { IfErr result (λ fault. fault ≢ ToolFault.OutOfMemory →
         all_made (world_of world.now) numbers.now ≡ Err fault) }
-    ensures unwritten { IfErr result (λ fault. fault ≢ ToolFault.Write) }
 {
     let mut members = Vec::new(alloc);
     for number in numbers {
         let Some(process) = world.process(*number) else {
             return Err(ToolFault::NoProcess);
         };
-        let member = Member {
+        members.push(Member {
             number: *number,
             process,
-        };
-        let Ok(()) = members.push(member) else {
-            return Err(ToolFault::OutOfMemory);
-        };
+        })?;
     }
     Ok(members)
 }
@@ -76,7 +71,6 @@ pub(crate) fn check_members(members: &[Member<'_>], table: &CallTable) -> Result
     ensures listed { OnOk result (first_refused table.now (named_by members.now) ≡ None) }
     ensures refused { IfErr result (λ fault.
         first_refused table.now (named_by members.now) ≡ Some fault) }
-    ensures unwritten { IfErr result (λ fault. fault ≢ ToolFault.Write) }
 {
     for member in members {
         if let Some(reason) = why_refused(member.process, table) {
@@ -90,19 +84,15 @@ pub(crate) fn check_members(members: &[Member<'_>], table: &CallTable) -> Result
 pub(crate) fn living_of<'t>(
     alloc: Global,
     members: &[Member<'t>],
-) -> Result<Vec<Member<'t>>, ToolFault>
-    ensures living { IfOk result (λ left. named_by left.items ≡ living (named_by members.now)) }
-    ensures memory { IfErr result (λ fault. fault ≡ ToolFault.OutOfMemory) }
-    ensures unwritten { IfErr result (λ fault. fault ≢ ToolFault.Write) }
+) -> Result<Vec<Member<'t>>, OutOfMemory>
+    ensures { IfOk result (λ left. named_by left.items ≡ living (named_by members.now)) }
 {
     let mut left = Vec::new(alloc);
     for member in members {
         if member.process.ended() {
             continue;
         }
-        let Ok(()) = left.push(*member) else {
-            return Err(ToolFault::OutOfMemory);
-        };
+        left.push(*member)?;
     }
     Ok(left)
 }
@@ -113,15 +103,13 @@ pub(crate) fn check_veils(alloc: Global, members: &[Member<'_>]) -> Result<(), T
     ensures alike { OnOk result (other_veils (named_by members.now) ≡ None) }
     ensures refused { IfErr result (λ fault. fault ≢ ToolFault.OutOfMemory →
         other_veils (named_by members.now) ≡ Some fault) }
-    ensures unwritten { IfErr result (λ fault. fault ≢ ToolFault.Write) }
 {
     let Some((first, more)) = members.split_first() else {
         return Ok(());
     };
-    match first_other(alloc, first.process, more) {
-        Ok(Some(other)) => Err(ToolFault::OtherVeils(first.number, other)),
-        Ok(None) => Ok(()),
-        Err(OutOfMemory) => Err(ToolFault::OutOfMemory),
+    match first_other(alloc, first.process, more)? {
+        Some(other) => Err(ToolFault::OtherVeils(first.number, other)),
+        None => Ok(()),
     }
 }
 

@@ -28,8 +28,10 @@ use std::alloc::{AllocError, Global};
 pub(crate) enum Halt<'a> {
     /// An input was not taken.
     Untaken(CommandFault<'a>),
-    /// The text was not written, or not whole. These are the bytes of the script.
+    /// There is no text. These are the bytes of the script.
     Unwritten(ToolFault, Vec<u8>),
+    /// A put failed.
+    Put,
 }
 
 /// Reports what stopped a command, and answers the status.
@@ -42,13 +44,14 @@ pub(crate) fn end<E: Sink>(alloc: Global, command: &Command<'_>, halt: Halt<'_>,
         Halt::Unwritten(fault, script) => {
             end_unwritten(alloc, command, script.as_slice(), fault, err)
         }
+        Halt::Put => finish(Err(CommandFault::Put), err),
     }
 }
 
-/// Reports why a command's text was not written, or not whole, and answers the status. By OpenBSD's
-/// rules a second line says what is wrong with the script, of which these are the bytes, or with
-/// the request that is asked about. Where memory for this is refused, that is reported in the place
-/// of the fault. What is left of both lines is dropped where it can't be written.
+/// Reports why there is no text of a command, and answers the status. By OpenBSD's rules a second
+/// line says what is wrong with the script, of which these are the bytes, or with the request that
+/// is asked about. Where memory for this is refused, that is reported in the place of the fault.
+/// What is left of both lines is dropped where it can't be written.
 fn end_unwritten<E: Sink>(
     alloc: Global,
     command: &Command<'_>,

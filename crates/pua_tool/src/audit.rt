@@ -9,6 +9,7 @@ ghost use Rattle.pua_tool.specs.Texts.{as_audit, audit_after, audit_text};
 ghost use Rattle.pua_tool.specs.Texts.{beginning_of, by_job, wants_of};
 
 use crate::fault::ToolFault;
+use crate::fault::WriteFault::{self, NoText};
 use crate::job::Job;
 use crate::objects::told;
 use crate::script::{Replay, replay_script};
@@ -28,7 +29,7 @@ pub fn audit_to<S: Sink>(
     script_bytes: &[u8],
     job: &Job<'_>,
     sink: &mut S,
-) -> Result<(), ToolFault>
+) -> Result<(), WriteFault>
     ensures text { AnswersTo S.written S.failed
         (audit_text (by_job rule.Standard job.now) tree_bytes.now script_bytes.now
         (wants_of job.now)) result sink.old sink.new }
@@ -44,8 +45,8 @@ pub fn audit_to<S: Sink>(
 /// text with rows may stand in the place of some.
 ///
 /// The first that holds of `Table`, `Listing`, `Script`, `NoProcess` and `Audit` is answered before
-/// anything is written. So is `OutOfMemory`, wherever a growth was refused. `Write` is answered
-/// only where a put failed in this call, and a front of the text is then written.
+/// anything is written. So is `OutOfMemory`, wherever a growth was refused. `Put` is answered only
+/// where a put failed in this call, and a front of the text is then written.
 #[tactic(auto, unfolding(crate::specs::Texts::audit_text))]
 pub fn audit_by<S: Sink>(
     alloc: Global,
@@ -54,7 +55,7 @@ pub fn audit_by<S: Sink>(
     rules: Rules,
     job: &Job<'_>,
     sink: &mut S,
-) -> Result<(), ToolFault>
+) -> Result<(), WriteFault>
     ensures text { AnswersTo S.written S.failed
         (audit_text (by_job rules job.now) tree_bytes.now script_bytes.now (wants_of job.now))
         result sink.old sink.new }
@@ -70,24 +71,22 @@ pub fn audit_by<S: Sink>(
 }
 
 /// Writes the answers of a script, and then the pairs of the audit that a job asks for, where the
-/// script ends. Every fault but `Write` is answered before anything is written.
+/// script ends.
 fn pairs_to<S: Sink>(
     alloc: Global,
     replay: &Replay,
     job: &Job<'_>,
     sink: &mut S,
-) -> Result<(), ToolFault>
+) -> Result<(), WriteFault>
     ensures { AnswersTo S.written S.failed
         (audit_after (as_replayed replay.now) (wants_of job.now)) result sink.old sink.new }
 {
     let world = &replay.world;
     let Some(process) = world.process(job.process) else {
-        return Err(ToolFault::NoProcess);
+        return Err(NoText(ToolFault::NoProcess));
     };
     let mut list = begin(alloc, world.tree(), process, world.table(), job)?;
-    let Ok(front) = front_text(alloc, replay.answers.as_slice(), job.process, job.after) else {
-        return Err(ToolFault::OutOfMemory);
-    };
+    let front = front_text(alloc, replay.answers.as_slice(), job.process, job.after)?;
     told(write_audit(alloc, front.as_str(), &mut list, sink))
 }
 
@@ -105,7 +104,6 @@ fn begin<'t, T: FileTree>(
     ensures refused { IfErr result (λ fault. fault ≢ ToolFault.OutOfMemory →
         as_audit (beginning_of (T.content tree.now) table.now process.now (wants_of job.now))
         ≡ Err fault) }
-    ensures unwritten { IfErr result (λ fault. fault ≢ ToolFault.Write) }
 {
     let list = AuditList::begin(
         alloc,
@@ -127,7 +125,6 @@ fn begin<'t, T: FileTree>(
 fn of_audit(fault: AuditFault) -> ToolFault
     ensures memory { fault ≡ AuditFault.OutOfMemory → result ≡ ToolFault.OutOfMemory }
     ensures audit { fault ≢ AuditFault.OutOfMemory → result ≡ ToolFault.Audit fault }
-    ensures unwritten { result ≢ ToolFault.Write }
 {
     match fault {
         AuditFault::OutOfMemory => ToolFault::OutOfMemory,

@@ -1,6 +1,6 @@
 //! The text of what processes can ever touch with the help of others.
 
-ghost use Rattle.std.specs.Prelude.{◌≡◌, ◌≢◌, ◌++◌, ℕ, List, Result, None, Some};
+ghost use Rattle.std.specs.Prelude.{◌≡◌, ◌++◌, ℕ, List, Result, None, Some};
 ghost use Rattle.std.specs.Prelude.{IfOk, IfErr, OnOk, map};
 ghost use Rattle.pua_policy.specs.States.{is_ended};
 ghost use Rattle.pua_texts.specs.ListLines.{list_text};
@@ -14,7 +14,7 @@ ghost use Rattle.pua_tool.specs.Texts.{choice_of};
 ghost use Rattle.pua_tool.specs.TogetherTexts.{first_refused};
 
 use crate::acting::{check_members, members_of};
-use crate::fault::ToolFault;
+use crate::fault::{ToolFault, WriteFault};
 use crate::helped::find_beside;
 use crate::objects::put_lists;
 use crate::script::{Replay, replay_script};
@@ -36,7 +36,7 @@ pub(crate) fn beside_to<S: Sink>(
     whose: &Processes,
     helping: &Processes,
     sink: &mut S,
-) -> Result<(), ToolFault>
+) -> Result<(), WriteFault>
     ensures text { (answer : Result (List ℕ) ToolFault)
         × IsBesideText (choice_of table.entry) tree_bytes.now script_bytes.now
         whose.now helping.now answer
@@ -49,7 +49,7 @@ pub(crate) fn beside_to<S: Sink>(
 }
 
 /// Writes the answers of a script, and then the lists of the processes that are asked for where the
-/// script ends. Every fault but `Write` is answered before anything is written.
+/// script ends.
 fn members_to<S: Sink>(
     alloc: Global,
     replay: &Replay,
@@ -57,7 +57,7 @@ fn members_to<S: Sink>(
     whose: &Processes,
     helping: &Processes,
     sink: &mut S,
-) -> Result<(), ToolFault>
+) -> Result<(), WriteFault>
     ensures { (answer : Result (List ℕ) ToolFault)
         × OrMemory (IsBesideAfter rules (as_replayed replay.now) whose.now helping.now) answer
         × AnswersTo S.written S.failed answer result sink.old sink.new }
@@ -75,8 +75,7 @@ fn members_to<S: Sink>(
 }
 
 /// Writes the answers of a script, and then the lists of these processes where the script ends,
-/// each with the help of these others. The lists go by the table with tmppath. Every fault but
-/// `Write` is answered before anything is written.
+/// each with the help of these others. The lists go by the table with tmppath.
 fn lists_to<S: Sink>(
     alloc: Global,
     replay: &Replay,
@@ -84,7 +83,7 @@ fn lists_to<S: Sink>(
     members: &[Member<'_>],
     helpers: &[Member<'_>],
     sink: &mut S,
-) -> Result<(), ToolFault>
+) -> Result<(), WriteFault>
     ensures { (answer : Result (List ℕ) ToolFault)
         × OrMemory (IsBesideOf rules (as_replayed replay.now) (named_by members.now)
         (named_by helpers.now)) answer
@@ -110,7 +109,6 @@ fn check_all(
         (named_by members.now ++ named_by helpers.now) ≡ None) }
     ensures refused { IfErr result (λ fault. first_refused table.now
         (named_by members.now ++ named_by helpers.now) ≡ Some fault) }
-    ensures unwritten { IfErr result (λ fault. fault ≢ ToolFault.Write) }
 {
     check_members(members, table)?;
     check_members(helpers, table)

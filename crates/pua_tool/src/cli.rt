@@ -1,6 +1,6 @@
 //! The whole program, as a function over its inputs and outputs.
 
-ghost use Rattle.std.specs.Prelude.{◌≡◌, ◌≢◌, ◌≤◌, [], OnErr, OnOk, map};
+ghost use Rattle.std.specs.Prelude.{◌≡◌, ◌≢◌, ◌≤◌, [], OnErr, OnOk, codes, map};
 ghost use Rattle.std.specs.Io.Buffered.{writer_buffer, writer_contents};
 ghost use Rattle.std.specs.Io.KnownBytes.{Keeps};
 ghost use Rattle.pua_words.specs.Usages.{line_for, usage_line_text};
@@ -11,7 +11,6 @@ ghost use Rattle.pua_tool.specs.Advised.{HasTold};
 ghost use Rattle.pua_io.specs.Sinks.{Adds, AddsFront, HasFailed};
 ghost use Rattle.pua_texts.specs.Lines.{with_end};
 ghost use Rattle.pua_tool.specs.Told.{IsLineTold, Shows, ShowsFront, TellsStatus, TellsUsage};
-ghost use Rattle.pua_tool.specs.FaultTexts.{fault_line};
 
 use crate::fault::ToolFault;
 use crate::outcome::{CommandFault, finish};
@@ -68,7 +67,7 @@ fn at_end<E: Sink>(status: u8, flushed: Result<(), PutFault>, err: &mut E) -> u8
     ensures stopped { status ≢ DONE → result ≡ status }
     ensures device { OnErr flushed (status ≡ DONE → result ≡ DEVICE) }
     ensures told { OnErr flushed (status ≡ DONE →
-        IsLineTold (fault_line ToolFault.Write) (E.written err.old) (E.written err.new)
+        IsLineTold (with_end (codes "pua: cannot write")) (E.written err.old) (E.written err.new)
         (E.failed err.old) (E.failed err.new)) }
     ensures reported { result ≢ status → TellsStatus result
         (E.written err.old) (E.written err.new) (E.failed err.old) (E.failed err.new) }
@@ -76,7 +75,7 @@ fn at_end<E: Sink>(status: u8, flushed: Result<(), PutFault>, err: &mut E) -> u8
     ensures untold { status ≢ DONE → err.new ≡ err.old }
 {
     if flushed.is_err() && status == DONE {
-        return finish(Err(CommandFault::Tool(ToolFault::Write)), err);
+        return finish(Err(CommandFault::Put), err);
     }
     status
 }
@@ -165,6 +164,6 @@ fn show<O: Sink, E: Sink>(text: &str, out: &mut O, err: &mut E) -> u8
 {
     match put_all(out, text.as_bytes()) {
         Ok(()) => DONE,
-        Err(PutFault) => finish(Err(CommandFault::Tool(ToolFault::Write)), err),
+        Err(PutFault) => finish(Err(CommandFault::Put), err),
     }
 }

@@ -16,14 +16,13 @@ ghost use Rattle.pua_tool.specs.RowColumns.{done_behind, tried_behind};
 ghost use Rattle.pua_tool.specs.declared.columns.Behind.{Behind as AnyBehind};
 ghost use Rattle.pua_tool.specs.EverHowTexts.{count_text, counts_text};
 
-use crate::fault::ToolFault;
 use crate::row::calls_now;
 use crate::script::{ProgramTree, Replay};
 use pua_calls::{Call, Calls, Rules};
 use pua_ever::EverRow;
 use pua_how::{Meant, NoWay, Planner, Target, Trials, last_number, target_of};
 use pua_policy::Process;
-use pua_tree::NodeId;
+use pua_tree::{NodeId, OutOfMemory};
 use std::alloc::{AllocError, Global};
 
 /// What a script left, the rules by which its lines are read, and the number of the process whose
@@ -36,19 +35,18 @@ pub(crate) struct Behind<'a> {
 }
 
 /// The columns of rows, each with the LF at the end of its line. Plans for each call in them are
-/// served in copies of the world that the script left. `OutOfMemory` where a growth was refused, as
-/// of all here.
+/// served in copies of the world that the script left. The only error is that a growth was refused,
+/// as of all here.
 pub(crate) fn columns_of(
     alloc: Global,
     behind: &Behind<'_>,
     process: &Process,
     rows: &[EverRow<'_>],
-) -> Result<Vec<String>, ToolFault>
-    ensures columns { IfOk result (λ columns.
+) -> Result<Vec<String>, OutOfMemory>
+    ensures { IfOk result (λ columns.
         AllByRecursion (IsRowOn (done_behind behind.now).world.tree process.now) rows.now →
         AreColumns behind.now.rules (done_behind behind.now) behind.now.number process.now rows.now
         (map string_bytes columns.items)) }
-    ensures memory { IfErr result (λ fault. fault ≡ ToolFault.OutOfMemory) }
 {
     let world = &behind.replay.world;
     let last = last_number(alloc, world.tree())?;
@@ -69,12 +67,11 @@ fn column_of(
     planner: &Planner<'_>,
     last: NodeId,
     row: &EverRow<'_>,
-) -> Result<String, ToolFault>
-    ensures column { IfOk result (λ text. IsLast (done_behind behind.now).world.tree last →
+) -> Result<String, OutOfMemory>
+    ensures { IfOk result (λ text. IsLast (done_behind behind.now).world.tree last →
         IsRowOn (done_behind behind.now).world.tree process.now row.now →
         IsColumnAt behind.now.rules (done_behind behind.now) behind.now.number process.now row.now
         (string_bytes text)) }
-    ensures memory { IfErr result (λ fault. fault ≡ ToolFault.OutOfMemory) }
 {
     let world = &behind.replay.world;
     let now = calls_now(process, world.table(), row);
@@ -114,12 +111,11 @@ fn counts_on(
     planner: &Planner<'_>,
     target: &Target,
     calls: Calls,
-) -> Result<Vec<(Call, Result<usize, NoWay>)>, ToolFault>
+) -> Result<Vec<(Call, Result<usize, NoWay>)>, OutOfMemory>
     ensures counts { IfOk result (λ counts. AllByRecursion
         (IsCountTo behind.now.rules (done_behind behind.now) behind.now.number target.now)
         counts.items) }
     ensures calls { IfOk result (λ counts. map (λ count. count.0) counts.items ≡ calls_in calls) }
-    ensures memory { IfErr result (λ fault. fault ≡ ToolFault.OutOfMemory) }
 {
     if calls.is_empty() {
         return Ok(Vec::new(alloc));
@@ -162,14 +158,13 @@ pub(crate) fn steps_to(
     planner: &Planner<'_>,
     call: Call,
     meant: &Meant,
-) -> Result<Result<usize, NoWay>, ToolFault>
+) -> Result<Result<usize, NoWay>, OutOfMemory>
     ensures steps { (behind : AnyBehind) → trials.old ≡ tried_behind behind →
         IfOk result (λ found. IfOk found (AreStepsTo (done_behind behind)
         behind.number meant.now.targets.items call)) }
     ensures none { IfOk result (λ found. IfErr found (NoneComes trials.old.rules
         trials.old.world.table trials.old.process call meant.now.targets.items
         (world_of trials.old.world))) }
-    ensures memory { IfErr result (λ fault. fault ≡ ToolFault.OutOfMemory) }
     ensures same { trials.new ≡ trials.old }
 {
     let plans = planner.find_plans(call, meant)?;

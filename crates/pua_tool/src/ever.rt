@@ -7,6 +7,7 @@ ghost use Rattle.pua_tool.specs.Texts.{choice_of};
 
 use crate::ever_fault::fault_of;
 use crate::fault::ToolFault;
+use crate::fault::WriteFault::{self, NoText};
 use crate::objects::put_lists;
 use crate::script::{Replay, replay_script};
 use crate::table::TableChoice;
@@ -25,7 +26,7 @@ pub(crate) fn ever_to<S: Sink>(
     table: TableChoice<'_>,
     process: u32,
     sink: &mut S,
-) -> Result<(), ToolFault>
+) -> Result<(), WriteFault>
     ensures text { AnswersTo S.written S.failed
         (ever_text (choice_of table.entry) tree_bytes.now script_bytes.now process)
         result sink.old sink.new }
@@ -37,28 +38,27 @@ pub(crate) fn ever_to<S: Sink>(
 }
 
 /// Writes the answers of a script, and then the list for ever of the process with this number where
-/// the script ends. The list goes by the table with tmppath. Every fault but `Write` is answered
-/// before anything is written.
+/// the script ends. The list goes by the table with tmppath.
 fn list_to<S: Sink>(
     alloc: Global,
     replay: &Replay,
     rules: Rules,
     number: u32,
     sink: &mut S,
-) -> Result<(), ToolFault>
+) -> Result<(), WriteFault>
     ensures { AnswersTo S.written S.failed (ever_after rules (as_replayed replay.now) number)
         result sink.old sink.new }
 {
     let world = &replay.world;
     let Some(process) = world.process(number) else {
-        return Err(ToolFault::NoProcess);
+        return Err(NoText(ToolFault::NoProcess));
     };
     let tree = world.tree();
     let wide = world.table().with_tmppath();
     let both = bounded_exec(alloc, process, &wide)?;
     let list = match list_lasting(alloc, tree, process, both.as_ref(), &wide) {
         Ok(list) => list,
-        Err(fault) => return Err(fault_of(number, fault)),
+        Err(fault) => return Err(NoText(fault_of(number, fault))),
     };
     let front = answer_text(alloc, replay.answers.as_slice())?;
     let lists = begin_ever(alloc, rules, number, process, &list)?;

@@ -9,9 +9,8 @@ use pua_ever::{EverFault, EverRefusal};
 
 /// Why the list for ever of the process with this number was not begun, as the tool reports it.
 pub(crate) fn fault_of(number: u32, fault: EverFault) -> ToolFault
-    ensures told { (text : List ℕ) → result ≢ ToolFault.OutOfMemory →
+    ensures { (text : List ℕ) → result ≢ ToolFault.OutOfMemory →
         unless_reason number (refusal_in fault) text ≡ Err result }
-    ensures unwritten { result ≢ ToolFault.Write }
 {
     match fault {
         EverFault::Refused(reason) => reason_of(number, reason),
@@ -21,8 +20,7 @@ pub(crate) fn fault_of(number: u32, fault: EverFault) -> ToolFault
 
 /// Why there is no list for ever of the process with this number, as the tool reports it.
 pub(crate) fn reason_of(number: u32, reason: EverRefusal) -> ToolFault
-    ensures told { result ≡ ever_fault number reason }
-    ensures unwritten { result ≢ ToolFault.Write }
+    ensures { result ≡ ever_fault number reason }
 {
     match reason {
         EverRefusal::CanUnveil => ToolFault::CanUnveil(number),

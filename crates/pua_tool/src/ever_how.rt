@@ -1,6 +1,6 @@
 //! The text of the list for ever of a process with the number of steps of ways.
 
-ghost use Rattle.std.specs.Prelude.{◌≡◌, ℕ, List, Ok, Result};
+ghost use Rattle.std.specs.Prelude.{ℕ, List, Ok, Result};
 ghost use Rattle.pua_tool.specs.Answers.{AnswersTo};
 ghost use Rattle.pua_tool.specs.EverHowTexts.{IsEverHowAfter, IsEverHowText};
 ghost use Rattle.pua_tool.specs.RowColumns.{done_behind};
@@ -9,6 +9,7 @@ ghost use Rattle.pua_tool.specs.Texts.{choice_of};
 use crate::columns::{Behind, columns_of};
 use crate::ever_fault::fault_of;
 use crate::fault::ToolFault;
+use crate::fault::WriteFault::{self, NoText};
 use crate::objects::put_lists;
 use crate::script::replay_script;
 use crate::table::TableChoice;
@@ -26,7 +27,7 @@ pub(crate) fn ever_how_to<S: Sink>(
     table: TableChoice<'_>,
     process: u32,
     sink: &mut S,
-) -> Result<(), ToolFault>
+) -> Result<(), WriteFault>
     ensures text { (answer : Result (List ℕ) ToolFault)
         × IsEverHowText (choice_of table.entry) tree_bytes.now script_bytes.now process answer
         × AnswersTo S.written S.failed answer result sink.old sink.new }
@@ -43,16 +44,15 @@ pub(crate) fn ever_how_to<S: Sink>(
 }
 
 /// Writes the answers of a script, and then the list for ever of the process where the script ends,
-/// with its columns. The list goes by the table with tmppath. Every fault but `Write` is answered
-/// before anything is written.
-fn list_to<S: Sink>(alloc: Global, behind: &Behind<'_>, sink: &mut S) -> Result<(), ToolFault>
+/// with its columns. The list goes by the table with tmppath.
+fn list_to<S: Sink>(alloc: Global, behind: &Behind<'_>, sink: &mut S) -> Result<(), WriteFault>
     ensures { (answer : Result (List ℕ) ToolFault)
         × IsEverHowAfter behind.now.rules (done_behind behind.now) behind.now.number answer
         × AnswersTo S.written S.failed answer result sink.old sink.new }
 {
     let (number, world) = (behind.number, &behind.replay.world);
     let Some(process) = world.process(number) else {
-        return Err(ToolFault::NoProcess);
+        return Err(NoText(ToolFault::NoProcess));
     };
     let tree = world.tree();
     tree.known();
@@ -60,7 +60,7 @@ fn list_to<S: Sink>(alloc: Global, behind: &Behind<'_>, sink: &mut S) -> Result<
     let both = bounded_exec(alloc, process, &wide)?;
     let list = match list_lasting(alloc, tree, process, both.as_ref(), &wide) {
         Ok(list) => list,
-        Err(fault) => return Err(fault_of(number, fault)),
+        Err(fault) => return Err(NoText(fault_of(number, fault))),
     };
     let columns = columns_of(alloc, behind, process, list.rows.as_slice())?;
     let front = answer_text(alloc, behind.replay.answers.as_slice())?;

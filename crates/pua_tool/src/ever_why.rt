@@ -1,6 +1,6 @@
 //! The text of the list for ever of a process with what lets the calls of each line through.
 
-ghost use Rattle.std.specs.Prelude.{◌≡◌, ◌++◌, ℕ, Ok, IfOk, map, option_copied, string_bytes};
+ghost use Rattle.std.specs.Prelude.{◌≡◌, ℕ, Ok, IfOk, map, option_copied, string_bytes};
 ghost use Rattle.std.specs.List.{AllByRecursion};
 ghost use Rattle.pua_calls.specs.Calls.{CallTable as Table};
 ghost use Rattle.pua_calls.specs.TmpTable.{tmp_table};
@@ -20,6 +20,7 @@ ghost use Rattle.pua_tool.specs.WhyTexts.{reason_lines};
 use crate::ever_columns::{Reasons, columns_of};
 use crate::ever_fault::fault_of;
 use crate::fault::ToolFault;
+use crate::fault::WriteFault::{self, NoText};
 use crate::objects::put_lists;
 use crate::table::TableChoice;
 use crate::two_worlds::{TwoWorlds, two_worlds};
@@ -41,7 +42,7 @@ pub(crate) fn ever_why_to<S: Sink>(
     table: TableChoice<'_>,
     process: u32,
     sink: &mut S,
-) -> Result<(), ToolFault>
+) -> Result<(), WriteFault>
     ensures text { AnswersTo S.written S.failed
         (ever_why_text (choice_of table.entry) tree_bytes.now script_bytes.now process)
         result sink.old sink.new }
@@ -53,8 +54,7 @@ pub(crate) fn ever_why_to<S: Sink>(
 }
 
 /// Writes the lines of a script with reasons, and then the list for ever of the process with its
-/// columns. The list goes by the table with tmppath. Every fault but `Write` is answered before
-/// anything is written.
+/// columns. The list goes by the table with tmppath.
 fn list_to<S: Sink>(
     alloc: Global,
     script_bytes: &[u8],
@@ -62,14 +62,14 @@ fn list_to<S: Sink>(
     rules: Rules,
     number: u32,
     sink: &mut S,
-) -> Result<(), ToolFault>
+) -> Result<(), WriteFault>
     ensures { script_by rules script_bytes.now ≡ Ok worlds.old.script → IsTwoWorlds worlds.old →
         AnswersTo S.written S.failed (ever_why_after rules (as_served worlds.old) number)
         result sink.old sink.new }
 {
     let (front, dates) = dated_front(alloc, script_bytes, worlds, rules, number)?;
     let Some(process) = worlds.after.process(number) else {
-        return Err(ToolFault::NoProcess);
+        return Err(NoText(ToolFault::NoProcess));
     };
     process.known();
     let tree = worlds.after.tree();
@@ -77,7 +77,7 @@ fn list_to<S: Sink>(
     let both = bounded_exec(alloc, process, &wide)?;
     let list = match list_lasting(alloc, tree, process, both.as_ref(), &wide) {
         Ok(list) => list,
-        Err(fault) => return Err(fault_of(number, fault)),
+        Err(fault) => return Err(NoText(fault_of(number, fault))),
     };
     let dates = dates.as_slice();
     let columns = columns_by(alloc, tree, process, both.as_ref(), &wide, &list, dates)?;

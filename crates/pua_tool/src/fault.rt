@@ -1,24 +1,30 @@
-//! Why runs, audits, lists of objects, ways, tightened scripts and trees are refused, each with the
-//! line that reports it.
+//! Why runs, audits, lists of objects, ways, tightened scripts and trees are refused or not written,
+//! each with the line that reports it.
 
 ghost use Rattle.std.specs.Prelude.{◌≡◌, ◌++◌, codes};
 ghost use Rattle.pua_tool.specs.FaultTexts.{blame_line, fault_line, place_line, row_line};
 ghost use Rattle.pua_tool.specs.Pieces.{line_of};
-ghost use Rattle.pua_tool.specs.Statuses.{status_of};
+ghost use Rattle.pua_tool.specs.Statuses.{status_of, write_status};
+ghost use Rattle.pua_tool.specs.TightTexts.{tight_fault};
+ghost use Rattle.pua_tool.specs.TreeTexts.{list_fault};
+ghost use Rattle.pua_tool.specs.declared.fault.ToolFault.TheVariants as tool_fault;
+ghost use Rattle.pua_tool.specs.declared.fault.WriteFault.TheVariants as write_fault;
 
 use crate::line::Piece::{Number, Text};
 use crate::line::{Pieces, five, one, three};
 use crate::status::{DEVICE, MEMORY, REFUSED};
 use pua_audit::AuditFault;
 use pua_calls::{Call, TableFault};
+use pua_io::PutFault;
+use pua_listing::ListFault;
 use pua_script::ScriptFault;
+use pua_tight::TightFault;
 use pua_tree::{ListingFault, OutOfMemory};
 use std::alloc::{AllocError, AllocFailed};
 use std::fmt;
 
-/// Why the text of a run, of an audit, of a list of objects, of now or for ever, of a way, of a
-/// tightened script or of a tree was not written, or not whole. It is displayed as the line that the program
-/// prints.
+/// Why there is no text of a run, of an audit, of a list of objects, of now or for ever, of a way,
+/// of a tightened script or of a tree. It is displayed as the line that the program prints.
 #[derive(Clone, Copy, Debug, PartialEq, Eq)]
 pub enum ToolFault {
     /// The tree's bytes are no listing.
@@ -31,9 +37,7 @@ pub enum ToolFault {
     NoProcess,
     /// The audit can't begin.
     Audit(AuditFault),
-    /// A put failed. What was written is a front of the text.
-    Write,
-    /// A growth of memory was refused, and nothing was written.
+    /// A growth of memory was refused.
     OutOfMemory,
     /// The table's bytes give no table of calls.
     Table(TableFault),
@@ -87,9 +91,6 @@ pub enum ToolFault {
 }
 
 impl From<AllocError> for ToolFault {
-    ghost use Rattle.std.specs.Prelude.{◌≡◌};
-    ghost use Rattle.pua_tool.specs.declared.fault.ToolFault.TheVariants as tool_fault;
-
     ghost from_gives = { λ _ fault. fault ≡ tool_fault.OutOfMemory };
 
     fn from(_refused: AllocError) -> ToolFault {
@@ -98,9 +99,6 @@ impl From<AllocError> for ToolFault {
 }
 
 impl<T: Drop> From<AllocFailed<T>> for ToolFault {
-    ghost use Rattle.std.specs.Prelude.{◌≡◌};
-    ghost use Rattle.pua_tool.specs.declared.fault.ToolFault.TheVariants as tool_fault;
-
     ghost from_gives = { λ _ fault. fault ≡ tool_fault.OutOfMemory };
 
     fn from(_refused: AllocFailed<T>) -> ToolFault {
@@ -109,9 +107,6 @@ impl<T: Drop> From<AllocFailed<T>> for ToolFault {
 }
 
 impl From<OutOfMemory> for ToolFault {
-    ghost use Rattle.std.specs.Prelude.{◌≡◌};
-    ghost use Rattle.pua_tool.specs.declared.fault.ToolFault.TheVariants as tool_fault;
-
     ghost from_gives = { λ _ fault. fault ≡ tool_fault.OutOfMemory };
 
     fn from(_refused: OutOfMemory) -> ToolFault {
@@ -119,13 +114,35 @@ impl From<OutOfMemory> for ToolFault {
     }
 }
 
+impl From<TightFault> for ToolFault {
+    ghost from_gives = { λ refused fault. fault ≡ tight_fault refused };
+
+    fn from(refused: TightFault) -> ToolFault {
+        match refused {
+            TightFault::Listing(fault) => ToolFault::Listing(fault),
+            TightFault::Script(fault) => ToolFault::Script(fault),
+            TightFault::OutOfMemory => ToolFault::OutOfMemory,
+        }
+    }
+}
+
+impl From<ListFault> for ToolFault {
+    ghost from_gives = { λ refused fault. fault ≡ list_fault refused };
+
+    fn from(refused: ListFault) -> ToolFault {
+        match refused {
+            ListFault::TooManyNames => ToolFault::TooManyNames,
+            ListFault::OutOfMemory => ToolFault::OutOfMemory,
+        }
+    }
+}
+
 impl ToolFault {
     /// The status with which the program ends after this fault.
-    pub fn status(&self) -> u8
+    pub(crate) fn status(&self) -> u8
         ensures { result ≡ status_of self.now }
     {
         match self {
-            ToolFault::Write => DEVICE,
             ToolFault::OutOfMemory => MEMORY,
             _ => REFUSED,
         }
@@ -141,7 +158,6 @@ impl ToolFault {
             ToolFault::Request(fault) => blamed("pua: request: ", fault.told()),
             ToolFault::NoProcess => one("pua: no such process"),
             ToolFault::Audit(fault) => placed(fault.told()),
-            ToolFault::Write => one("pua: cannot write"),
             ToolFault::OutOfMemory => one("pua: out of memory"),
             ToolFault::Table(fault) => in_row(fault.told()),
             ToolFault::CanUnveil(process) => {
@@ -173,6 +189,59 @@ impl ToolFault {
                 let rest = " follows: ask about what it leads to";
                 three("pua: how: a link, which ", Text(call.name()), rest)
             }
+        }
+    }
+}
+
+/// Why a text was not written, or not whole. It is displayed as the line that the program prints.
+#[derive(Clone, Copy, Debug, PartialEq, Eq)]
+pub enum WriteFault {
+    /// There is no text, and nothing was written.
+    NoText(ToolFault),
+    /// A put failed. What was written is a front of the text.
+    Put,
+}
+
+impl From<ToolFault> for WriteFault {
+    ghost from_gives = { λ refused fault. fault ≡ write_fault.NoText refused };
+
+    fn from(refused: ToolFault) -> WriteFault {
+        WriteFault::NoText(refused)
+    }
+}
+
+impl From<AllocError> for WriteFault {
+    ghost from_gives = { λ _ fault. fault ≡ write_fault.NoText tool_fault.OutOfMemory };
+
+    fn from(_refused: AllocError) -> WriteFault {
+        WriteFault::NoText(ToolFault::OutOfMemory)
+    }
+}
+
+impl From<OutOfMemory> for WriteFault {
+    ghost from_gives = { λ _ fault. fault ≡ write_fault.NoText tool_fault.OutOfMemory };
+
+    fn from(_refused: OutOfMemory) -> WriteFault {
+        WriteFault::NoText(ToolFault::OutOfMemory)
+    }
+}
+
+impl From<PutFault> for WriteFault {
+    ghost from_gives = { λ _ fault. fault ≡ write_fault.Put };
+
+    fn from(_failed: PutFault) -> WriteFault {
+        WriteFault::Put
+    }
+}
+
+impl WriteFault {
+    /// The status with which the program ends after this fault.
+    pub fn status(&self) -> u8
+        ensures { result ≡ write_status self.now }
+    {
+        match self {
+            WriteFault::NoText(fault) => fault.status(),
+            WriteFault::Put => DEVICE,
         }
     }
 }
@@ -226,3 +295,14 @@ impl fmt::Display for ToolFault {
 }
 
 impl std::error::Error for ToolFault {}
+
+impl fmt::Display for WriteFault {
+    fn fmt<W: fmt::Write>(&self, f: &mut fmt::Formatter<W>) -> fmt::Result {
+        match self {
+            WriteFault::NoText(fault) => write!(f, "{fault}"),
+            WriteFault::Put => write!(f, "pua: cannot write"),
+        }
+    }
+}
+
+impl std::error::Error for WriteFault {}

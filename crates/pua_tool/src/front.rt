@@ -1,6 +1,6 @@
 //! The first lines of a script, for how things stood after one of its lines.
 
-ghost use Rattle.std.specs.Prelude.{◌≡◌, ◌≢◌, ◌≤◌, ◌==◌, Ok, Err, IfErr, IfOk, length};
+ghost use Rattle.std.specs.Prelude.{◌≡◌, ◌≤◌, ◌==◌, Ok, Err, IfErr, IfOk, length};
 ghost use Rattle.std.specs.Prelude.{option_map, position};
 ghost use Rattle.pua_tool.specs.Fronts.{first_lines, line_size, script_at};
 
@@ -11,7 +11,6 @@ use crate::fault::ToolFault;
 pub(crate) fn script_at(script: &[u8], at: Option<u32>) -> Result<&[u8], ToolFault>
     ensures served { IfOk result (λ front. script_at at script.now ≡ Ok front.now) }
     ensures refused { IfErr result (λ fault. script_at at script.now ≡ Err fault) }
-    ensures unwritten { IfErr result (λ fault. fault ≢ ToolFault.Write) }
 {
     match at {
         Some(line) => first_lines(script, line).ok_or(ToolFault::NoLine(line)),

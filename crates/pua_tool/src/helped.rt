@@ -55,9 +55,7 @@ pub(crate) fn find_beside<'t, T: FileTree>(
             rows: Vec::new(alloc),
         });
     }
-    let Ok(living) = living_of(alloc, others) else {
-        return Err(OutOfMemory);
-    };
+    let living = living_of(alloc, others)?;
     find_living(alloc, tree, table, process, living.as_slice())
 }
 

@@ -16,7 +16,7 @@ ghost use Rattle.pua_tool.specs.Questions.{AreMeant, AreWayTo, IsQuestion, found
 ghost use Rattle.pua_tool.specs.Texts.{choice_of};
 
 use crate::ever_fault::reason_of;
-use crate::fault::ToolFault;
+use crate::fault::{ToolFault, WriteFault};
 use crate::objects::put_text;
 use crate::script::{Replay, replay_script};
 use crate::table::TableChoice;
@@ -28,7 +28,7 @@ use pua_how::{
 use pua_io::Sink;
 use pua_path::Last;
 use pua_policy::Process;
-use pua_tree::{FileTree, Kind};
+use pua_tree::{FileTree, Kind, OutOfMemory};
 use pua_words::HowWords;
 use std::alloc::{AllocError, Global};
 
@@ -45,8 +45,8 @@ use std::alloc::{AllocError, Global};
 ///
 /// The first that holds of `Table`, `Listing`, `Script`, `NoProcess`, `CanUnveil`, `LacksC`,
 /// `RenameLacksC`, `LinkLacksC`, `HowCall`, `HowPath`, `HowThing` and `HowLink` is answered before
-/// anything is written. So is `OutOfMemory`, wherever a growth was refused. `Write` is answered
-/// only where a put failed in this call, and a front of the text is then written.
+/// anything is written. So is `OutOfMemory`, wherever a growth was refused. `Put` is answered only
+/// where a put failed in this call, and a front of the text is then written.
 pub fn how_to<S: Sink>(
     alloc: Global,
     tree_bytes: &[u8],
@@ -54,7 +54,7 @@ pub fn how_to<S: Sink>(
     table: TableChoice<'_>,
     words: &HowWords<'_>,
     sink: &mut S,
-) -> Result<(), ToolFault>
+) -> Result<(), WriteFault>
     ensures text { (answer : Result (List ℕ) ToolFault)
         × IsHowText (choice_of table.entry) tree_bytes.now script_bytes.now (way_wanted words.now) answer
         × AnswersTo S.written S.failed answer result sink.old sink.new }
@@ -76,7 +76,6 @@ fn how_text(
     ensures refused { IfErr result (λ fault. fault ≢ ToolFault.OutOfMemory →
         IsHowText (choice_of table.entry) tree_bytes.now script_bytes.now (way_wanted words.now)
         (Err fault)) }
-    ensures unwritten { IfErr result (λ fault. fault ≢ ToolFault.Write) }
 {
     let replay = replay_script(alloc, tree_bytes, script_bytes, table)?;
     let text = text_behind(alloc, &replay, table.rules, words);
@@ -95,7 +94,6 @@ fn text_behind(
         (way_wanted words.now) (Ok (string_bytes text))) }
     ensures refused { IfErr result (λ fault. fault ≢ ToolFault.OutOfMemory →
         IsHowAsked rules (as_replayed replay.now) (way_wanted words.now) (Err fault)) }
-    ensures unwritten { IfErr result (λ fault. fault ≢ ToolFault.Write) }
 {
     let question = asked_of(alloc, replay, words)?;
     if !question.outlook.listed {
@@ -119,7 +117,6 @@ fn asked_of(alloc: Global, replay: &Replay, words: &HowWords<'_>) -> Result<HowQ
         IsQuestion (as_replayed replay.now) (way_wanted words.now) question) }
     ensures refused { IfErr result (λ fault. fault ≢ ToolFault.OutOfMemory → (last : ℕ)
         × (question_of (as_replayed replay.now) (way_wanted words.now) last ≡ Err fault)) }
-    ensures unwritten { IfErr result (λ fault. fault ≢ ToolFault.Write) }
 {
     let world = &replay.world;
     let Some(process) = world.process(words.process) else {
@@ -157,17 +154,11 @@ fn meant_by<T: FileTree>(
     ensures refused { IfErr result (λ fault. fault ≢ ToolFault.OutOfMemory →
         (last : ℕ)
         × (things_asked (T.content tree.now) process.now (way_wanted words.now) last ≡ Err fault)) }
-    ensures unwritten { IfErr result (λ fault. fault ≢ ToolFault.Write) }
 {
-    let Ok(asking) = PathQuestion::read(alloc, words.path) else {
-        return Err(ToolFault::OutOfMemory);
-    };
-    let Some(asking) = asking else {
+    let Some(asking) = PathQuestion::read(alloc, words.path)? else {
         return Err(ToolFault::HowPath);
     };
-    let Ok(meant) = find_meant(alloc, tree, process, &asking, words.kind) else {
-        return Err(ToolFault::OutOfMemory);
-    };
+    let meant = find_meant(alloc, tree, process, &asking, words.kind)?;
     if meant.targets.is_empty() {
         return Err(ToolFault::HowThing);
     }
@@ -187,8 +178,8 @@ fn follows_link<T: FileTree>(tree: &T, call: Call, things: &[Target]) -> bool
     is_link && matches!(call.last(), Last::Followed)
 }
 
-/// What the list for ever says about the thing, which goes by the table with tmppath.
-/// `OutOfMemory` where a growth was refused.
+/// What the list for ever says about the thing, which goes by the table with tmppath. The only
+/// error is that a growth was refused: where there is a list.
 fn outlook_of<T: FileTree>(
     alloc: Global,
     tree: &T,
@@ -196,16 +187,14 @@ fn outlook_of<T: FileTree>(
     table: &CallTable,
     things: &[Target],
     call: Call,
-) -> Result<Outlook, ToolFault>
-    ensures told { IfOk result (λ found.
+) -> Result<Outlook, OutOfMemory>
+    ensures { IfOk result (λ found.
         IsOutlook (T.content tree.now) (tmp_table table.now) process.now things.now call found) }
-    ensures memory { IfErr result (λ fault. fault ≡ ToolFault.OutOfMemory) }
-    ensures unwritten { IfErr result (λ fault. fault ≢ ToolFault.Write) }
 {
     let wide = table.with_tmppath();
     let both = bounded_exec(alloc, process, &wide)?;
     let Ok(list) = list_lasting(alloc, tree, process, both.as_ref(), &wide) else {
-        return Err(ToolFault::OutOfMemory);
+        return Err(OutOfMemory);
     };
     Ok(find_outlook(tree, &list, things, call))
 }
@@ -228,7 +217,6 @@ pub(crate) fn find(
     ensures refused { IfErr result (λ fault. fault ≢ ToolFault.OutOfMemory →
         (fault ≡ ToolFault.NoProcess)
         × (kept_at (as_replayed replay.now).world number ≡ None)) }
-    ensures unwritten { IfErr result (λ fault. fault ≢ ToolFault.Write) }
 {
     let world = &replay.world;
     let Some(process) = world.process(number) else {

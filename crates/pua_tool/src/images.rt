@@ -13,7 +13,7 @@ ghost use Rattle.pua_tool.specs.ImageTexts.{images_text, is_replaced};
 ghost use Rattle.pua_tool.specs.Texts.{choice_of};
 ghost use Rattle.pua_tool.specs.TwoWorlds.{IsTwoWorlds, as_served};
 
-use crate::fault::ToolFault;
+use crate::fault::WriteFault;
 use crate::kept_text::KeptText;
 use crate::objects::{numbers_of, put_behind};
 use crate::script::ProgramTree;
@@ -38,7 +38,7 @@ pub(crate) fn images_to<S: Sink>(
     table: TableChoice<'_>,
     whose: &Processes,
     sink: &mut S,
-) -> Result<(), ToolFault>
+) -> Result<(), WriteFault>
     ensures text { AnswersTo S.written S.failed
         (images_text (choice_of table.entry) tree_bytes.now script_bytes.now whose.now)
         result sink.old sink.new }
@@ -49,15 +49,14 @@ pub(crate) fn images_to<S: Sink>(
     written
 }
 
-/// Writes the lists of the processes that are asked for. Every fault but `Write` is answered before
-/// anything is written.
+/// Writes the lists of the processes that are asked for.
 fn write_asked<S: Sink>(
     alloc: Global,
     worlds: &mut TwoWorlds,
     rules: Rules,
     whose: &Processes,
     sink: &mut S,
-) -> Result<(), ToolFault>
+) -> Result<(), WriteFault>
     ensures { IsTwoWorlds worlds.old → AnswersTo S.written S.failed
         (images_asked rules (as_served worlds.old) whose.now) result sink.old sink.new }
 {
@@ -72,7 +71,7 @@ fn write_all<S: Sink>(
     rules: Rules,
     numbers: &[u32],
     sink: &mut S,
-) -> Result<(), ToolFault>
+) -> Result<(), WriteFault>
     ensures { IsTwoWorlds worlds.old → AnswersTo S.written S.failed
         (Ok (images_after rules (as_served worlds.old) numbers.now)) result sink.old sink.new }
 {

@@ -44,7 +44,7 @@ mod why;
 
 pub use audit::{audit_by, audit_to};
 pub use cli::{command, program};
-pub use fault::ToolFault;
+pub use fault::{ToolFault, WriteFault};
 pub use how::how_to;
 pub use job::Job;
 pub use laws::{

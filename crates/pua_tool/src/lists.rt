@@ -12,6 +12,7 @@ use crate::ever::ever_to;
 use crate::ever_how::ever_how_to;
 use crate::ever_why::ever_why_to;
 use crate::fault::ToolFault;
+use crate::fault::WriteFault::{self, NoText};
 use crate::images::images_to;
 use crate::objects::objects_to;
 use crate::objects_why::objects_why_to;
@@ -87,13 +88,14 @@ use std::alloc::Global;
 /// left.
 ///
 /// The first that holds of these is answered before anything is written: `SeveralWhy`, `NowHow`,
-/// `SeveralHow`, `EverImages`, `WhyImages`, `ImagesBeside`, `NowBeside`, `WhyBeside` or `HowBeside`,
-/// where there is no such list; `Table`, `Listing` and `Script`; `NoProcess`; of a list for ever
-/// that of `CanUnveil`, `LacksC`, `RenameLacksC` and `LinkLacksC` which the first process has that
-/// has one, those whose lists are asked for before those that help; and of a list of several
-/// `OtherVeils`, of the first that lives and the first after it that lives and has another place
-/// with a veil, or other letters at one. So is `OutOfMemory`, wherever a growth was refused. `Write`
-/// is answered only where a put failed in this call, and a front of the text is then written.
+/// `SeveralHow`, `EverImages`, `WhyImages`, `ImagesBeside`, `NowBeside`, `WhyBeside` or
+/// `HowBeside`, where there is no such list; `Table`, `Listing` and `Script`; `NoProcess`; of a
+/// list for ever that of `CanUnveil`, `LacksC`, `RenameLacksC` and `LinkLacksC` which the first
+/// process has that has one, those whose lists are asked for before those that help; and of a list
+/// of several `OtherVeils`, of the first that lives and the first after it that lives and has
+/// another place with a veil, or other letters at one. So is `OutOfMemory`, wherever a growth was
+/// refused. `Put` is answered only where a put failed in this call, and a front of the text is then
+/// written.
 pub fn list_to<S: Sink>(
     alloc: Global,
     tree_bytes: &[u8],
@@ -101,7 +103,7 @@ pub fn list_to<S: Sink>(
     table: TableChoice<'_>,
     list: &ListWords,
     sink: &mut S,
-) -> Result<(), ToolFault>
+) -> Result<(), WriteFault>
     ensures text { (answer : Result (List ℕ) ToolFault)
         × IsListText (choice_of table.entry) tree_bytes.now script_bytes.now list.now answer
         × AnswersTo S.written S.failed answer result sink.old sink.new }
@@ -121,14 +123,14 @@ fn helped_to<S: Sink>(
     list: &ListWords,
     helping: &Processes,
     sink: &mut S,
-) -> Result<(), ToolFault>
+) -> Result<(), WriteFault>
     ensures text { (answer : Result (List ℕ) ToolFault)
         × IsHelpedWith list.now.images list.now.span list.now.columns list.now.whose helping.now
         (choice_of table.entry) tree_bytes.now script_bytes.now answer
         × AnswersTo S.written S.failed answer result sink.old sink.new }
 {
     if list.images {
-        return Err(ToolFault::ImagesBeside);
+        return Err(NoText(ToolFault::ImagesBeside));
     }
     plain_helped_to(alloc, tree_bytes, script_bytes, table, list, helping, sink)
 }
@@ -142,7 +144,7 @@ fn plain_helped_to<S: Sink>(
     list: &ListWords,
     helping: &Processes,
     sink: &mut S,
-) -> Result<(), ToolFault>
+) -> Result<(), WriteFault>
     ensures text { (answer : Result (List ℕ) ToolFault)
         × IsHelpedBy list.now.span list.now.columns list.now.whose helping.now
         (choice_of table.entry) tree_bytes.now script_bytes.now answer
@@ -150,9 +152,9 @@ fn plain_helped_to<S: Sink>(
 {
     let (tree, script, whose) = (tree_bytes, script_bytes, &list.whose);
     match (list.span, list.columns) {
-        (Time::Now, _) => Err(ToolFault::NowBeside),
-        (Time::Ever, Columns::Why) => Err(ToolFault::WhyBeside),
-        (Time::Ever, Columns::How) => Err(ToolFault::HowBeside),
+        (Time::Now, _) => Err(NoText(ToolFault::NowBeside)),
+        (Time::Ever, Columns::Why) => Err(NoText(ToolFault::WhyBeside)),
+        (Time::Ever, Columns::How) => Err(NoText(ToolFault::HowBeside)),
         (Time::Ever, Columns::Plain) => {
             beside_to(alloc, tree, script, table, whose, helping, sink)
         }
@@ -167,7 +169,7 @@ fn unhelped_to<S: Sink>(
     table: TableChoice<'_>,
     list: &ListWords,
     sink: &mut S,
-) -> Result<(), ToolFault>
+) -> Result<(), WriteFault>
     ensures text { (answer : Result (List ℕ) ToolFault)
         × IsListWith list.now.images list.now.span list.now.columns list.now.whose
         (choice_of table.entry) tree_bytes.now script_bytes.now answer
@@ -187,7 +189,7 @@ fn with_images_to<S: Sink>(
     table: TableChoice<'_>,
     list: &ListWords,
     sink: &mut S,
-) -> Result<(), ToolFault>
+) -> Result<(), WriteFault>
     ensures { AnswersTo S.written S.failed
         (with_images_text list.now.span list.now.columns list.now.whose (choice_of table.entry)
         tree_bytes.now script_bytes.now) result sink.old sink.new }
@@ -196,9 +198,9 @@ fn with_images_to<S: Sink>(
         (Time::Now, Columns::Plain) => {
             images_to(alloc, tree_bytes, script_bytes, table, &list.whose, sink)
         }
-        (Time::Now, Columns::Why) => Err(ToolFault::WhyImages),
-        (Time::Now, Columns::How) => Err(ToolFault::NowHow),
-        (Time::Ever, _) => Err(ToolFault::EverImages),
+        (Time::Now, Columns::Why) => Err(NoText(ToolFault::WhyImages)),
+        (Time::Now, Columns::How) => Err(NoText(ToolFault::NowHow)),
+        (Time::Ever, _) => Err(NoText(ToolFault::EverImages)),
     }
 }
 
@@ -210,7 +212,7 @@ fn alone_to<S: Sink>(
     table: TableChoice<'_>,
     list: &ListWords,
     sink: &mut S,
-) -> Result<(), ToolFault>
+) -> Result<(), WriteFault>
     ensures text { (answer : Result (List ℕ) ToolFault)
         × IsListBy list.now.span list.now.columns list.now.whose (choice_of table.entry)
         tree_bytes.now script_bytes.now answer
@@ -220,7 +222,7 @@ fn alone_to<S: Sink>(
     match (list.span, list.columns) {
         (Time::Now, Columns::Plain) => objects_to(alloc, tree, script, table, whose, sink),
         (Time::Now, Columns::Why) => objects_why_to(alloc, tree, script, table, whose, sink),
-        (Time::Now, Columns::How) => Err(ToolFault::NowHow),
+        (Time::Now, Columns::How) => Err(NoText(ToolFault::NowHow)),
         (Time::Ever, Columns::Plain) => lasting_to(alloc, tree, script, table, whose, sink),
         (Time::Ever, Columns::Why) => reasons_to(alloc, tree, script, table, whose, sink),
         (Time::Ever, Columns::How) => ways_to(alloc, tree, script, table, whose, sink),
@@ -235,7 +237,7 @@ fn lasting_to<S: Sink>(
     table: TableChoice<'_>,
     whose: &Processes,
     sink: &mut S,
-) -> Result<(), ToolFault>
+) -> Result<(), WriteFault>
     ensures text { AnswersTo S.written S.failed
         (lasting_text (choice_of table.entry) tree_bytes.now script_bytes.now whose.now)
         result sink.old sink.new }
@@ -256,7 +258,7 @@ fn reasons_to<S: Sink>(
     table: TableChoice<'_>,
     whose: &Processes,
     sink: &mut S,
-) -> Result<(), ToolFault>
+) -> Result<(), WriteFault>
     ensures text { AnswersTo S.written S.failed
         (lasting_why_text (choice_of table.entry) tree_bytes.now script_bytes.now whose.now)
         result sink.old sink.new }
@@ -265,7 +267,7 @@ fn reasons_to<S: Sink>(
         Processes::One(number) => {
             ever_why_to(alloc, tree_bytes, script_bytes, table, *number, sink)
         }
-        Processes::Named(_) | Processes::All => Err(ToolFault::SeveralWhy),
+        Processes::Named(_) | Processes::All => Err(NoText(ToolFault::SeveralWhy)),
     }
 }
 
@@ -277,7 +279,7 @@ fn ways_to<S: Sink>(
     table: TableChoice<'_>,
     whose: &Processes,
     sink: &mut S,
-) -> Result<(), ToolFault>
+) -> Result<(), WriteFault>
     ensures text { (answer : Result (List ℕ) ToolFault)
         × IsWaysText (choice_of table.entry) tree_bytes.now script_bytes.now whose.now answer
         × AnswersTo S.written S.failed answer result sink.old sink.new }
@@ -286,6 +288,6 @@ fn ways_to<S: Sink>(
         Processes::One(number) => {
             ever_how_to(alloc, tree_bytes, script_bytes, table, *number, sink)
         }
-        Processes::Named(_) | Processes::All => Err(ToolFault::SeveralHow),
+        Processes::Named(_) | Processes::All => Err(NoText(ToolFault::SeveralHow)),
     }
 }

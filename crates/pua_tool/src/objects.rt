@@ -12,6 +12,7 @@ ghost use Rattle.pua_tool.specs.Answers.{Answers, AnswersTo};
 ghost use Rattle.pua_tool.specs.Texts.{choice_of};
 
 use crate::fault::ToolFault;
+use crate::fault::WriteFault::{self, NoText};
 use crate::script::{Replay, replay_script};
 use crate::table::TableChoice;
 use pua_calls::Rules;
@@ -33,7 +34,7 @@ pub(crate) fn objects_to<S: Sink>(
     table: TableChoice<'_>,
     whose: &Processes,
     sink: &mut S,
-) -> Result<(), ToolFault>
+) -> Result<(), WriteFault>
     ensures text { AnswersTo S.written S.failed
         (objects_text (choice_of table.entry) tree_bytes.now script_bytes.now whose.now)
         result sink.old sink.new }
@@ -45,14 +46,14 @@ pub(crate) fn objects_to<S: Sink>(
 }
 
 /// Writes the answers of a script, and then the lists of the processes that are asked for, where
-/// the script ends. Every fault but `Write` is answered before anything is written.
+/// the script ends.
 fn asked_to<S: Sink>(
     alloc: Global,
     replay: &Replay,
     rules: Rules,
     whose: &Processes,
     sink: &mut S,
-) -> Result<(), ToolFault>
+) -> Result<(), WriteFault>
     ensures { AnswersTo S.written S.failed
         (lists_asked rules (as_replayed replay.now) whose.now) result sink.old sink.new }
 {
@@ -74,7 +75,6 @@ pub(crate) fn numbers_of<T: FileTree>(
         numbers_asked (world_of world.now) whose.now ≡ Ok numbers.items) }
     ensures refused { IfErr result (λ fault. fault ≢ ToolFault.OutOfMemory →
         numbers_asked (world_of world.now) whose.now ≡ Err fault) }
-    ensures unwritten { IfErr result (λ fault. fault ≢ ToolFault.Write) }
 {
     match whose {
         Processes::One(number) => numbers_made(alloc, world, &[*number]),
@@ -93,7 +93,6 @@ fn numbers_made<T: FileTree>(
         numbers_made (world_of world.now) numbers.now ≡ Ok made.items) }
     ensures refused { IfErr result (λ fault. fault ≢ ToolFault.OutOfMemory →
         numbers_made (world_of world.now) numbers.now ≡ Err fault) }
-    ensures unwritten { IfErr result (λ fault. fault ≢ ToolFault.Write) }
 {
     if !are_made(world, numbers) {
         return Err(ToolFault::NoProcess);
@@ -113,14 +112,14 @@ fn are_made<T: FileTree>(world: &World<T>, numbers: &[u32]) -> bool
 }
 
 /// What the writing of a text left, as the tool reports it.
-pub(crate) fn told(written: Result<(), TextFault>) -> Result<(), ToolFault>
+pub(crate) fn told(written: Result<(), TextFault>) -> Result<(), WriteFault>
     ensures { (text : List ℕ) (a b : Option (List ℕ)) (n m : ℕ) → Tells text written a b n m →
         Answers (Ok text) result a b n m }
 {
     match written {
         Ok(()) => Ok(()),
-        Err(TextFault::Write) => Err(ToolFault::Write),
-        Err(TextFault::OutOfMemory) => Err(ToolFault::OutOfMemory),
+        Err(TextFault::Write) => Err(WriteFault::Put),
+        Err(TextFault::OutOfMemory) => Err(NoText(ToolFault::OutOfMemory)),
     }
 }
 
@@ -131,7 +130,7 @@ pub(crate) fn put_lists<'t, T: FileTree, S: Sink>(
     front: &str,
     lists: VecDeque<ProcessList<'t>>,
     sink: &mut S,
-) -> Result<(), ToolFault>
+) -> Result<(), WriteFault>
     ensures { AnswersTo S.written S.failed
         (Ok (front.now ++ lists_text (T.content tree.now) lists.entry.items))
         result sink.old sink.new }
@@ -146,7 +145,7 @@ pub(crate) fn put_behind<'t, T: FileTree, S: Sink>(
     front: &[u8],
     lists: VecDeque<ProcessList<'t>>,
     sink: &mut S,
-) -> Result<(), ToolFault>
+) -> Result<(), WriteFault>
     ensures { AnswersTo S.written S.failed
         (Ok (front.now ++ lists_text (T.content tree.now) lists.entry.items))
         result sink.old sink.new }
@@ -155,18 +154,15 @@ pub(crate) fn put_behind<'t, T: FileTree, S: Sink>(
 }
 
 /// Puts a text, as the tool reports it.
-pub(crate) fn put_text<S: Sink>(text: &str, sink: &mut S) -> Result<(), ToolFault>
+pub(crate) fn put_text<S: Sink>(text: &str, sink: &mut S) -> Result<(), WriteFault>
     ensures { AnswersTo S.written S.failed (Ok text.now) result sink.old sink.new }
 {
     put_bytes(text.as_bytes(), sink)
 }
 
 /// Puts the bytes of a text, as the tool reports it.
-pub(crate) fn put_bytes<S: Sink>(bytes: &[u8], sink: &mut S) -> Result<(), ToolFault>
+pub(crate) fn put_bytes<S: Sink>(bytes: &[u8], sink: &mut S) -> Result<(), WriteFault>
     ensures { AnswersTo S.written S.failed (Ok bytes.now) result sink.old sink.new }
 {
-    let Ok(()) = put_all(sink, bytes) else {
-        return Err(ToolFault::Write);
-    };
-    Ok(())
+    Ok(put_all(sink, bytes)?)
 }

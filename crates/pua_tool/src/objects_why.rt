@@ -8,7 +8,7 @@ ghost use Rattle.pua_texts.specs.WhyLines.{why_lists_of};
 ghost use Rattle.pua_tool.specs.Answers.{AnswersTo};
 ghost use Rattle.pua_tool.specs.WhyTexts.{objects_why_text, reason_lines, why_lists_asked};
 
-use crate::fault::ToolFault;
+use crate::fault::WriteFault;
 use crate::objects::{numbers_of, put_lists};
 use crate::table::TableChoice;
 use crate::two_worlds::{TwoWorlds, two_worlds};
@@ -28,7 +28,7 @@ pub(crate) fn objects_why_to<S: Sink>(
     table: TableChoice<'_>,
     whose: &Processes,
     sink: &mut S,
-) -> Result<(), ToolFault>
+) -> Result<(), WriteFault>
     ensures text { AnswersTo S.written S.failed
         (objects_why_text (choice_of table.entry) tree_bytes.now script_bytes.now whose.now)
         result sink.old sink.new }
@@ -40,7 +40,7 @@ pub(crate) fn objects_why_to<S: Sink>(
 }
 
 /// Writes the lines of a script with reasons, and then the lists of the processes that are asked
-/// for. Every fault but `Write` is answered before anything is written.
+/// for.
 fn write_asked<S: Sink>(
     alloc: Global,
     script_bytes: &[u8],
@@ -48,7 +48,7 @@ fn write_asked<S: Sink>(
     rules: Rules,
     whose: &Processes,
     sink: &mut S,
-) -> Result<(), ToolFault>
+) -> Result<(), WriteFault>
     ensures { script_by rules script_bytes.now ≡ Ok worlds.old.script → IsTwoWorlds worlds.old →
         AnswersTo S.written S.failed (why_lists_asked rules (as_served worlds.old) whose.now)
         result sink.old sink.new }
@@ -65,7 +65,7 @@ fn write_all<S: Sink>(
     rules: Rules,
     numbers: &[u32],
     sink: &mut S,
-) -> Result<(), ToolFault>
+) -> Result<(), WriteFault>
     ensures { script_by rules script_bytes.now ≡ Ok worlds.old.script → IsTwoWorlds worlds.old →
         AnswersTo S.written S.failed (Ok (reason_lines (as_served worlds.old)
         ++ why_lists_of rules (as_served worlds.old) numbers.now)) result sink.old sink.new }

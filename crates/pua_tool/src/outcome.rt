@@ -17,8 +17,10 @@ pub(crate) enum CommandFault<'a> {
     Usage(UsageLine),
     /// The input of this name can't be read.
     Unreadable(&'a str),
-    /// The inputs' bytes, the output or the memory stopped it.
+    /// The inputs' bytes or the memory stopped it.
     Tool(ToolFault),
+    /// A put failed.
+    Put,
 }
 
 impl CommandFault<'_> {
@@ -29,6 +31,7 @@ impl CommandFault<'_> {
             CommandFault::Usage(_) => USAGE,
             CommandFault::Unreadable(_) => DEVICE,
             CommandFault::Tool(fault) => fault.status(),
+            CommandFault::Put => DEVICE,
         }
     }
 
@@ -43,6 +46,7 @@ impl CommandFault<'_> {
                 put_line(err, &[Piece::Text("pua: cannot read "), Piece::Text(name)])
             }
             CommandFault::Tool(fault) => put_line(err, &fault.line()),
+            CommandFault::Put => put_line(err, &[Piece::Text("pua: cannot write")]),
         }
     }
 }

@@ -4,14 +4,14 @@ ghost use Rattle.std.specs.Prelude.{◌≡◌, ◌≢◌, Ok, Err, IfErr, IfOk, 
 ghost use Rattle.pua_tool.specs.Answers.{AnswersTo};
 ghost use Rattle.pua_tool.specs.Texts.{by_profile, choice_of, given_bytes, run_text};
 
-use crate::fault::ToolFault;
+use crate::fault::{ToolFault, WriteFault};
 use crate::objects::put_text;
 use crate::script::replay_script;
 use crate::table::TableChoice;
 use pua_calls::Rules;
 use pua_io::Sink;
 use pua_texts::answer_text;
-use std::alloc::{AllocError, Global};
+use std::alloc::Global;
 
 /// Writes the text of a run by the standard rules, where a text with rows may stand in the place
 /// of some. It answers what `run_by` does.
@@ -21,7 +21,7 @@ pub fn run_to<S: Sink>(
     script_bytes: &[u8],
     table: Option<&[u8]>,
     sink: &mut S,
-) -> Result<(), ToolFault>
+) -> Result<(), WriteFault>
     ensures text { AnswersTo S.written S.failed
         (run_text (by_profile (given_bytes table.entry)) tree_bytes.now script_bytes.now)
         result sink.old sink.new }
@@ -39,15 +39,15 @@ pub fn run_to<S: Sink>(
 /// where the process is refused the call but for this promise, which opens the path by itself.
 ///
 /// The first that holds of `Table`, `Listing` and `Script` is answered before anything is written.
-/// So is `OutOfMemory`, wherever a growth was refused. `Write` is answered only where a put failed
-/// in this call, and a front of the text is then written.
+/// So is `OutOfMemory`, wherever a growth was refused. `Put` is answered only where a put failed in
+/// this call, and a front of the text is then written.
 pub fn run_by<S: Sink>(
     alloc: Global,
     tree_bytes: &[u8],
     script_bytes: &[u8],
     table: TableChoice<'_>,
     sink: &mut S,
-) -> Result<(), ToolFault>
+) -> Result<(), WriteFault>
     ensures text { AnswersTo S.written S.failed
         (run_text (choice_of table.entry) tree_bytes.now script_bytes.now)
         result sink.old sink.new }
@@ -68,13 +68,9 @@ fn text_of(
         script_bytes.now ≡ Ok (string_bytes text)) }
     ensures refused { IfErr result (λ fault. fault ≢ ToolFault.OutOfMemory →
         (run_text (choice_of table.entry) tree_bytes.now script_bytes.now ≡ Err fault)) }
-    ensures unwritten { IfErr result (λ fault. fault ≢ ToolFault.Write) }
 {
     let replay = replay_script(alloc, tree_bytes, script_bytes, table)?;
     let text = answer_text(alloc, replay.answers.as_slice());
     replay.release();
-    match text {
-        Ok(text) => Ok(text),
-        Err(AllocError) => Err(ToolFault::OutOfMemory),
-    }
+    Ok(text?)
 }

@@ -8,7 +8,7 @@ ghost use Rattle.pua_tool.specs.Texts.{choice_of};
 ghost use Rattle.pua_tool.specs.TwoWorlds.{IsTwoWorlds, as_served};
 ghost use Rattle.pua_tool.specs.WhyTexts.{reason_lines, run_why_text};
 
-use crate::fault::ToolFault;
+use crate::fault::WriteFault;
 use crate::objects::put_text;
 use crate::table::TableChoice;
 use crate::two_worlds::{TwoWorlds, two_worlds};
@@ -25,15 +25,15 @@ use std::alloc::Global;
 /// [`run_to`](crate::run_to) tells it.
 ///
 /// The first that holds of `Table`, `Listing` and `Script` is answered before anything is written.
-/// So is `OutOfMemory`, wherever a growth was refused. `Write` is answered only where a put failed
-/// in this call, and a front of the text is then written.
+/// So is `OutOfMemory`, wherever a growth was refused. `Put` is answered only where a put failed in
+/// this call, and a front of the text is then written.
 pub fn run_why_to<S: Sink>(
     alloc: Global,
     tree_bytes: &[u8],
     script_bytes: &[u8],
     table: TableChoice<'_>,
     sink: &mut S,
-) -> Result<(), ToolFault>
+) -> Result<(), WriteFault>
     ensures text { AnswersTo S.written S.failed
         (run_why_text (choice_of table.entry) tree_bytes.now script_bytes.now)
         result sink.old sink.new }
@@ -41,10 +41,7 @@ pub fn run_why_to<S: Sink>(
     let mut worlds = two_worlds(alloc, tree_bytes, script_bytes, table)?;
     let text = text_of(alloc, script_bytes, &mut worlds);
     worlds.release();
-    let Ok(text) = text else {
-        return Err(ToolFault::OutOfMemory);
-    };
-    put_text(text.as_str(), sink)
+    put_text(text?.as_str(), sink)
 }
 
 /// The lines of a script that was read from these bytes, with reasons.

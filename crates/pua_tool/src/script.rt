@@ -12,7 +12,7 @@ use crate::fault::ToolFault;
 use crate::table::TableChoice;
 use pua_calls::{CallTable, Rules, TableFault};
 use pua_script::{Script, ScriptFault, World, read_script_by};
-use pua_tree::{ListingFault, SlabTree, read_listing_slab};
+use pua_tree::{ListingFault, OutOfMemory, SlabTree, read_listing_slab};
 use pua_why::{ToldAnswer, run_told};
 use std::alloc::Global;
 
@@ -52,7 +52,6 @@ pub(crate) fn replay_script(
         ≡ Ok (as_replayed replay)) }
     ensures refused { IfErr result (λ fault. fault ≢ ToolFault.OutOfMemory →
         (replay_of (choice_of table.entry) tree_bytes.now script_bytes.now ≡ Err fault)) }
-    ensures unwritten { IfErr result (λ fault. fault ≢ ToolFault.Write) }
 {
     let rules = table.rules;
     let table = read_table(alloc, table)?;
@@ -74,29 +73,24 @@ fn replay_over(
         × (as_replayed replay ≡ replay_by table tree asks)) }
     ensures refused { IfErr result (λ fault. fault ≢ ToolFault.OutOfMemory →
         (as_script (script_by rules script_bytes.now) ≡ Err fault)) }
-    ensures unwritten { IfErr result (λ fault. fault ≢ ToolFault.Write) }
 {
     let script = read_requests(alloc, rules, script_bytes)?;
-    replay_requests(alloc, tree, table, &script)
+    Ok(replay_requests(alloc, tree, table, &script)?)
 }
 
-/// Serves requests over a tree, by a table. `OutOfMemory` where a growth was refused.
+/// Serves requests over a tree, by a table. The only error is that a growth was refused.
 fn replay_requests(
     alloc: Global,
     tree: ProgramTree,
     table: CallTable,
     requests: &Script,
-) -> Result<Replay, ToolFault>
-    ensures done { IfOk result (λ replay. as_replayed replay ≡ replay_by table tree requests.now) }
-    ensures memory { IfErr result (λ fault. fault ≡ ToolFault.OutOfMemory) }
-    ensures unwritten { IfErr result (λ fault. fault ≢ ToolFault.Write) }
+) -> Result<Replay, OutOfMemory>
+    ensures { IfOk result (λ replay. as_replayed replay ≡ replay_by table tree requests.now) }
 {
-    let Ok(mut world) = World::new(alloc, tree, table) else {
-        return Err(ToolFault::OutOfMemory);
-    };
+    let mut world = World::new(alloc, tree, table)?;
     let Ok(answers) = run_told(alloc, &mut world, requests) else {
         release(world);
-        return Err(ToolFault::OutOfMemory);
+        return Err(OutOfMemory);
     };
     Ok(Replay { world, answers })
 }
@@ -106,7 +100,6 @@ pub(crate) fn read_table(alloc: Global, choice: TableChoice<'_>) -> Result<CallT
     ensures read { IfOk result (λ table. table_by (choice_of choice.entry) ≡ Ok table) }
     ensures refused { IfErr result (λ fault. fault ≢ ToolFault.OutOfMemory →
         (table_by (choice_of choice.entry) ≡ Err fault)) }
-    ensures unwritten { IfErr result (λ fault. fault ≢ ToolFault.Write) }
 {
     let base = CallTable::of(choice.rules);
     let Some(bytes) = choice.rows else {
@@ -123,7 +116,6 @@ pub(crate) fn read_tree(alloc: Global, bytes: &[u8]) -> Result<ProgramTree, Tool
     ensures read { IfOk result (λ tree. as_listing (listing bytes.now) ≡ Ok tree) }
     ensures refused { IfErr result (λ fault. fault ≢ ToolFault.OutOfMemory →
         (as_listing (listing bytes.now) ≡ Err fault)) }
-    ensures unwritten { IfErr result (λ fault. fault ≢ ToolFault.Write) }
 {
     match read_listing_slab(alloc, bytes) {
         Ok(tree) => Ok(tree),
@@ -137,7 +129,6 @@ pub(crate) fn read_requests(alloc: Global, rules: Rules, bytes: &[u8]) -> Result
     ensures read { IfOk result (λ asks. as_script (script_by rules bytes.now) ≡ Ok asks) }
     ensures refused { IfErr result (λ fault. fault ≢ ToolFault.OutOfMemory →
         (as_script (script_by rules bytes.now) ≡ Err fault)) }
-    ensures unwritten { IfErr result (λ fault. fault ≢ ToolFault.Write) }
 {
     match read_script_by(alloc, rules, bytes) {
         Ok(requests) => Ok(requests),

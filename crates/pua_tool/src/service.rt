@@ -16,6 +16,7 @@ ghost use Rattle.pua_tool.specs.declared.outcome.CommandFault.{CommandFault};
 use crate::advised::{Halt, end};
 use crate::audit::audit_by;
 use crate::fault::ToolFault;
+use crate::fault::WriteFault::{self, NoText};
 use crate::front::script_at;
 use crate::how::how_to;
 use crate::job::job_of;
@@ -109,7 +110,8 @@ fn serve<'c, I: Inputs, O: Sink>(
     };
     match write_at(alloc, command, &taken, out) {
         Ok(()) => Ok(()),
-        Err(fault) => Err(Halt::Unwritten(fault, taken.script)),
+        Err(NoText(fault)) => Err(Halt::Unwritten(fault, taken.script)),
+        Err(WriteFault::Put) => Err(Halt::Put),
     }
 }
 
@@ -190,7 +192,7 @@ fn write_at<O: Sink>(
     command: &Command<'_>,
     taken: &Taken,
     out: &mut O,
-) -> Result<(), ToolFault>
+) -> Result<(), WriteFault>
     ensures { (answer : Result (List ℕ) ToolFault)
         × IsTextAt command.now.at command.now.text (record {
           rules = command.now.rules;
@@ -211,7 +213,7 @@ fn write_text<O: Sink>(
     script: &[u8],
     text: &Text<'_>,
     out: &mut O,
-) -> Result<(), ToolFault>
+) -> Result<(), WriteFault>
     ensures { (answer : Result (List ℕ) ToolFault) × IsTextAsked text.now (record {
       rules = rules;
       rows = option_map (λ bytes. bytes.items) taken.now.table;

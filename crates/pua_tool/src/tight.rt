@@ -3,14 +3,13 @@
 ghost use Rattle.std.specs.Prelude.{◌≡◌, ◌≢◌, Err, IfErr, IfOk, Ok};
 ghost use Rattle.pua_tool.specs.Answers.{AnswersTo};
 ghost use Rattle.pua_tool.specs.Texts.{choice_of};
-ghost use Rattle.pua_tool.specs.TightTexts.{tight_fault, tight_text};
+ghost use Rattle.pua_tool.specs.TightTexts.{tight_text};
 
-use crate::fault::ToolFault;
+use crate::fault::{ToolFault, WriteFault};
 use crate::objects::put_bytes;
 use crate::script::read_table;
 use crate::table::TableChoice;
 use pua_io::Sink;
-use pua_tight::TightFault;
 use std::alloc::Global;
 
 /// Writes a script without the promises and letters that none of its answers needs. From the last
@@ -21,15 +20,15 @@ use std::alloc::Global;
 /// that are chosen, and what a call needs by the table of calls.
 ///
 /// The first that holds of `Table`, `Listing` and `Script` is answered before anything is written.
-/// So is `OutOfMemory`, wherever a growth was refused. `Write` is answered only where a put failed
-/// in this call, and a front of the text is then written.
+/// So is `OutOfMemory`, wherever a growth was refused. `Put` is answered only where a put failed in
+/// this call, and a front of the text is then written.
 pub fn tight_to<S: Sink>(
     alloc: Global,
     tree_bytes: &[u8],
     script_bytes: &[u8],
     table: TableChoice<'_>,
     sink: &mut S,
-) -> Result<(), ToolFault>
+) -> Result<(), WriteFault>
     ensures text { AnswersTo S.written S.failed
         (tight_text (choice_of table.entry) tree_bytes.now script_bytes.now)
         result sink.old sink.new }
@@ -50,24 +49,8 @@ fn text_of(
         script_bytes.now ≡ Ok text.items) }
     ensures refused { IfErr result (λ fault. fault ≢ ToolFault.OutOfMemory →
         (tight_text (choice_of table.entry) tree_bytes.now script_bytes.now ≡ Err fault)) }
-    ensures unwritten { IfErr result (λ fault. fault ≢ ToolFault.Write) }
 {
     let rules = table.rules;
     let table = read_table(alloc, table)?;
-    match pua_tight::tight_text(alloc, tree_bytes, script_bytes, rules, &table) {
-        Ok(text) => Ok(text),
-        Err(fault) => Err(of_tight(fault)),
-    }
-}
-
-/// Why a script was not tightened, as the tool reports it.
-pub(crate) fn of_tight(fault: TightFault) -> ToolFault
-    ensures told { result ≡ tight_fault fault }
-    ensures unwritten { result ≢ ToolFault.Write }
-{
-    match fault {
-        TightFault::Listing(fault) => ToolFault::Listing(fault),
-        TightFault::Script(fault) => ToolFault::Script(fault),
-        TightFault::OutOfMemory => ToolFault::OutOfMemory,
-    }
+    Ok(pua_tight::tight_text(alloc, tree_bytes, script_bytes, rules, &table)?)
 }

@@ -8,12 +8,11 @@ ghost use Rattle.pua_tool.specs.Texts.{choice_of};
 ghost use Rattle.pua_tool.specs.TightTexts.{calls_for, need_text, tight_why_text, use_lines};
 ghost use Rattle.pua_tool.specs.TightTexts.{use_text, word_text, words_by};
 
-use crate::fault::ToolFault;
+use crate::fault::{ToolFault, WriteFault};
 use crate::objects::put_text;
 use crate::pathless::push_pathless;
 use crate::script::read_table;
 use crate::table::TableChoice;
-use crate::tight::of_tight;
 use pua_calls::Rules;
 use pua_io::Sink;
 use pua_tight::{Piece, WordUse, word_uses};
@@ -30,15 +29,15 @@ use std::fmt::Write;
 /// after `spare`, where there are some: a line `uses` alone says that such a call is made.
 ///
 /// The first that holds of `Table`, `Listing` and `Script` is answered before anything is written.
-/// So is `OutOfMemory`, wherever a growth was refused. `Write` is answered only where a put failed
-/// in this call, and a front of the text is then written.
+/// So is `OutOfMemory`, wherever a growth was refused. `Put` is answered only where a put failed in
+/// this call, and a front of the text is then written.
 pub fn tight_why_to<S: Sink>(
     alloc: Global,
     tree_bytes: &[u8],
     script_bytes: &[u8],
     table: TableChoice<'_>,
     sink: &mut S,
-) -> Result<(), ToolFault>
+) -> Result<(), WriteFault>
     ensures text { AnswersTo S.written S.failed
         (tight_why_text (choice_of table.entry) tree_bytes.now script_bytes.now)
         result sink.old sink.new }
@@ -59,14 +58,10 @@ fn text_of(
         script_bytes.now ≡ Ok (string_bytes text)) }
     ensures refused { IfErr result (λ fault. fault ≢ ToolFault.OutOfMemory →
         (tight_why_text (choice_of table.entry) tree_bytes.now script_bytes.now ≡ Err fault)) }
-    ensures unwritten { IfErr result (λ fault. fault ≢ ToolFault.Write) }
 {
     let rules = table.rules;
     let words = words_by(alloc, tree_bytes, script_bytes, table)?;
-    match lines_of(alloc, rules, words.as_slice()) {
-        Ok(text) => Ok(text),
-        Err(AllocError) => Err(ToolFault::OutOfMemory),
-    }
+    Ok(lines_of(alloc, rules, words.as_slice())?)
 }
 
 /// The words that may be left out of a script, with what needs each, or the first fault: the
@@ -81,14 +76,10 @@ fn words_by(
         script_bytes.now ≡ Ok words.items) }
     ensures refused { IfErr result (λ fault. fault ≢ ToolFault.OutOfMemory →
         (words_by (choice_of table.entry) tree_bytes.now script_bytes.now ≡ Err fault)) }
-    ensures unwritten { IfErr result (λ fault. fault ≢ ToolFault.Write) }
 {
     let rules = table.rules;
     let table = read_table(alloc, table)?;
-    match word_uses(alloc, tree_bytes, script_bytes, rules, &table) {
-        Ok(words) => Ok(words),
-        Err(fault) => Err(of_tight(fault)),
-    }
+    Ok(word_uses(alloc, tree_bytes, script_bytes, rules, &table)?)
 }
 
 /// A line for each word, by these rules.

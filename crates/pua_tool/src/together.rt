@@ -1,6 +1,6 @@
 //! The text of what several processes can ever touch together.
 
-ghost use Rattle.std.specs.Prelude.{◌≡◌, ◌≢◌, ◌∷◌, ◌++◌, None, Some, Ok, IfOk, IfErr};
+ghost use Rattle.std.specs.Prelude.{◌≡◌, ◌∷◌, ◌++◌, None, Some, Ok, IfOk};
 ghost use Rattle.pua_calls.specs.TmpTable.{tmp_table};
 ghost use Rattle.pua_texts.specs.Members.{named_by};
 ghost use Rattle.pua_texts.specs.TogetherLines.{living, one_for, together_list};
@@ -12,7 +12,7 @@ ghost use Rattle.pua_tool.specs.TogetherTexts.{together_text};
 
 use crate::acting::{check_members, check_veils, living_of, members_of};
 use crate::ever_fault::fault_of;
-use crate::fault::ToolFault;
+use crate::fault::WriteFault::{self, NoText};
 use crate::objects::put_lists;
 use crate::script::{ProgramTree, Replay, replay_script};
 use crate::table::TableChoice;
@@ -22,6 +22,7 @@ use pua_io::Sink;
 use pua_policy::Process;
 use pua_script::World;
 use pua_texts::{Joined, Member, answer_text, begin_together};
+use pua_tree::OutOfMemory;
 use pua_words::Processes;
 use std::alloc::Global;
 
@@ -35,7 +36,7 @@ pub(crate) fn together_to<S: Sink>(
     table: TableChoice<'_>,
     whose: &Processes,
     sink: &mut S,
-) -> Result<(), ToolFault>
+) -> Result<(), WriteFault>
     ensures text { AnswersTo S.written S.failed
         (together_text (choice_of table.entry) tree_bytes.now script_bytes.now whose.now)
         result sink.old sink.new }
@@ -47,14 +48,14 @@ pub(crate) fn together_to<S: Sink>(
 }
 
 /// Writes the answers of a script, and then the list of the processes that are asked for where the
-/// script ends. Every fault but `Write` is answered before anything is written.
+/// script ends.
 fn members_to<S: Sink>(
     alloc: Global,
     replay: &Replay,
     rules: Rules,
     whose: &Processes,
     sink: &mut S,
-) -> Result<(), ToolFault>
+) -> Result<(), WriteFault>
     ensures { AnswersTo S.written S.failed
         (together_after rules (as_replayed replay.now) whose.now) result sink.old sink.new }
 {
@@ -63,14 +64,13 @@ fn members_to<S: Sink>(
 }
 
 /// Writes the answers of a script, and then the list of these processes where the script ends.
-/// Every fault but `Write` is answered before anything is written.
 fn list_to<S: Sink>(
     alloc: Global,
     replay: &Replay,
     rules: Rules,
     members: &[Member<'_>],
     sink: &mut S,
-) -> Result<(), ToolFault>
+) -> Result<(), WriteFault>
     ensures { AnswersTo S.written S.failed
         (together_of rules (as_replayed replay.now) (named_by members.now))
         result sink.old sink.new }
@@ -101,8 +101,7 @@ fn list_to<S: Sink>(
 }
 
 /// Writes the front of a text, and then the list of these processes, of which the first that lives
-/// and the others that do are given. The list goes by the table with tmppath. Every fault but
-/// `Write` is answered before anything is written.
+/// and the others that do are given. The list goes by the table with tmppath.
 fn joint_to<S: Sink>(
     alloc: Global,
     world: &World<ProgramTree>,
@@ -112,7 +111,7 @@ fn joint_to<S: Sink>(
     more: &[Member<'_>],
     front: &str,
     sink: &mut S,
-) -> Result<(), ToolFault>
+) -> Result<(), WriteFault>
     ensures { named_by (first.now ∷ more.now) ≡ living (named_by members.now) →
         first_refused world.now.table (named_by members.now) ≡ None →
         AnswersTo S.written S.failed (Ok (front.now
@@ -126,7 +125,7 @@ fn joint_to<S: Sink>(
     let both = bounded_exec(alloc, &one, &wide)?;
     let list = match list_lasting(alloc, tree, &one, both.as_ref(), &wide) {
         Ok(list) => list,
-        Err(fault) => return Err(fault_of(first.number, fault)),
+        Err(fault) => return Err(NoText(fault_of(first.number, fault))),
     };
     let joint = Some(Joined {
         one: &one,
@@ -142,17 +141,13 @@ fn join_all(
     first: &Member<'_>,
     more: &[Member<'_>],
     table: &CallTable,
-) -> Result<Process, ToolFault>
-    ensures joined { IfOk result (λ one.
+) -> Result<Process, OutOfMemory>
+    ensures { IfOk result (λ one.
         one_for table.now (named_by (first.now ∷ more.now)) ≡ Some one) }
-    ensures memory { IfErr result (λ fault. fault ≡ ToolFault.OutOfMemory) }
-    ensures unwritten { IfErr result (λ fault. fault ≢ ToolFault.Write) }
 {
     let mut others = Vec::new(alloc);
     for member in more {
-        let Ok(()) = others.push(member.process) else {
-            return Err(ToolFault::OutOfMemory);
-        };
+        others.push(member.process)?;
     }
-    Ok(join(alloc, first.process, others.as_slice(), table)?)
+    join(alloc, first.process, others.as_slice(), table)
 }

@@ -3,14 +3,14 @@
 ghost use Rattle.std.specs.Prelude.{◌≡◌, ◌≢◌, Err, IfErr, IfOk, Ok};
 ghost use Rattle.pua_tool.specs.Answers.{AnswersTo};
 ghost use Rattle.pua_tool.specs.Texts.{choice_of};
-ghost use Rattle.pua_tool.specs.TreeTexts.{list_fault, tree_text};
+ghost use Rattle.pua_tool.specs.TreeTexts.{tree_text};
 
-use crate::fault::ToolFault;
+use crate::fault::{ToolFault, WriteFault};
 use crate::objects::put_bytes;
 use crate::script::replay_script;
 use crate::table::TableChoice;
 use pua_io::Sink;
-use pua_listing::{ListFault, list_tree};
+use pua_listing::list_tree;
 use std::alloc::Global;
 
 /// Writes the listing of the tree that a script leaves: all lines are served one after another over
@@ -19,15 +19,15 @@ use std::alloc::Global;
 /// call needs by the table of calls.
 ///
 /// The first that holds of `Table`, `Listing`, `Script` and `TooManyNames` is answered before
-/// anything is written. So is `OutOfMemory`, wherever a growth was refused. `Write` is answered
-/// only where a put failed in this call, and a front of the text is then written.
+/// anything is written. So is `OutOfMemory`, wherever a growth was refused. `Put` is answered only
+/// where a put failed in this call, and a front of the text is then written.
 pub fn tree_to<S: Sink>(
     alloc: Global,
     tree_bytes: &[u8],
     script_bytes: &[u8],
     table: TableChoice<'_>,
     sink: &mut S,
-) -> Result<(), ToolFault>
+) -> Result<(), WriteFault>
     ensures text { AnswersTo S.written S.failed
         (tree_text (choice_of table.entry) tree_bytes.now script_bytes.now)
         result sink.old sink.new }
@@ -49,24 +49,9 @@ fn text_of(
         script_bytes.now ≡ Ok text.items) }
     ensures refused { IfErr result (λ fault. fault ≢ ToolFault.OutOfMemory →
         (tree_text (choice_of table.entry) tree_bytes.now script_bytes.now ≡ Err fault)) }
-    ensures unwritten { IfErr result (λ fault. fault ≢ ToolFault.Write) }
 {
     let replay = replay_script(alloc, tree_bytes, script_bytes, table)?;
     let text = list_tree(alloc, replay.world.tree());
     replay.release();
-    match text {
-        Ok(text) => Ok(text),
-        Err(fault) => Err(of_list(fault)),
-    }
-}
-
-/// Why a tree was not listed, as the tool reports it.
-fn of_list(fault: ListFault) -> ToolFault
-    ensures told { result ≡ list_fault fault }
-    ensures unwritten { result ≢ ToolFault.Write }
-{
-    match fault {
-        ListFault::TooManyNames => ToolFault::TooManyNames,
-        ListFault::OutOfMemory => ToolFault::OutOfMemory,
-    }
+    Ok(text?)
 }

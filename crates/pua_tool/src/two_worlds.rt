@@ -50,13 +50,12 @@ pub(crate) fn two_worlds(
         × (script_by choice.entry.rules script_bytes.now ≡ Ok done.script) × IsTwoWorlds done) }
     ensures refused { IfErr result (λ fault. fault ≢ ToolFault.OutOfMemory →
         (served_script (choice_of choice.entry) tree_bytes.now script_bytes.now ≡ Err fault)) }
-    ensures unwritten { IfErr result (λ fault. fault ≢ ToolFault.Write) }
 {
     let rules = choice.rules;
     let table = read_table(alloc, choice)?;
     let before = world_of(alloc, tree_bytes, table)?;
     match read_both(alloc, before.tree(), rules, script_bytes, table) {
-        Ok((requests, after)) => serve(alloc, requests, before, after),
+        Ok((requests, after)) => Ok(serve(alloc, requests, before, after)?),
         Err(fault) => {
             release(before);
             Err(fault)
@@ -76,13 +75,10 @@ fn read_both(
     ensures world { IfOk result (λ read. read.1 ≡ with_table table (new_world tree.now)) }
     ensures refused { IfErr result (λ fault. fault ≢ ToolFault.OutOfMemory →
         (as_script (script_by rules script_bytes.now) ≡ Err fault)) }
-    ensures unwritten { IfErr result (λ fault. fault ≢ ToolFault.Write) }
 {
     let requests = read_requests(alloc, rules, script_bytes)?;
-    match world_over(alloc, tree, table) {
-        Ok(world) => Ok((requests, world)),
-        Err(_) => Err(ToolFault::OutOfMemory),
-    }
+    let world = world_over(alloc, tree, table)?;
+    Ok((requests, world))
 }
 
 /// A new world over a copy of a tree.
@@ -97,23 +93,21 @@ fn world_over(
     World::new(alloc, copy, table)
 }
 
-/// Serves requests in the second of two worlds that are alike. `OutOfMemory` where a growth was
+/// Serves requests in the second of two worlds that are alike. The only error is that a growth was
 /// refused.
 fn serve(
     alloc: Global,
     requests: Script,
     before: World<ProgramTree>,
     mut after: World<ProgramTree>,
-) -> Result<TwoWorlds, ToolFault>
-    ensures done { IfOk result (λ done. (as_served done ≡ asked_over before requests)
+) -> Result<TwoWorlds, OutOfMemory>
+    ensures { IfOk result (λ done. (as_served done ≡ asked_over before requests)
         × (after ≡ before → IsTwoWorlds done)) }
-    ensures memory { IfErr result (λ fault. fault ≡ ToolFault.OutOfMemory) }
-    ensures unwritten { IfErr result (λ fault. fault ≢ ToolFault.Write) }
 {
     let Ok(answers) = after.run(alloc, &requests) else {
         release(before);
         release(after);
-        return Err(ToolFault::OutOfMemory);
+        return Err(OutOfMemory);
     };
     Ok(TwoWorlds {
         script: requests,
@@ -132,11 +126,7 @@ fn world_of(
     ensures new { IfOk result (λ world. IsNewOver tree_bytes.now table world) }
     ensures refused { IfErr result (λ fault. fault ≢ ToolFault.OutOfMemory →
         (as_listing (listing tree_bytes.now) ≡ Err fault)) }
-    ensures unwritten { IfErr result (λ fault. fault ≢ ToolFault.Write) }
 {
     let tree = read_tree(alloc, tree_bytes)?;
-    match World::new(alloc, tree, table) {
-        Ok(world) => Ok(world),
-        Err(_) => Err(ToolFault::OutOfMemory),
-    }
+    Ok(World::new(alloc, tree, table)?)
 }

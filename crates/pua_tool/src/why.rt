@@ -10,7 +10,7 @@ ghost use Rattle.pua_tool.specs.Texts.{choice_of};
 ghost use Rattle.pua_tool.specs.WhyTexts.{as_request, chain_lines, request_line};
 ghost use Rattle.pua_tool.specs.WhyTexts.{why_text};
 
-use crate::fault::ToolFault;
+use crate::fault::{ToolFault, WriteFault};
 use crate::objects::put_text;
 use crate::table::TableChoice;
 use crate::two_worlds::{TwoWorlds, two_worlds};
@@ -30,7 +30,7 @@ use std::fmt::Write;
 /// [`run_why_to`](crate::run_why_to) would write it of the script's next line.
 ///
 /// The first that holds of `Table`, `Listing`, `Script` and `Request` is answered before anything
-/// is written. So is `OutOfMemory`, wherever a growth was refused. `Write` is answered only where a
+/// is written. So is `OutOfMemory`, wherever a growth was refused. `Put` is answered only where a
 /// put failed in this call, and a front of the text is then written.
 #[tactic(auto, unfolding(crate::specs::WhyTexts::why_text))]
 pub fn why_to<S: Sink>(
@@ -41,7 +41,7 @@ pub fn why_to<S: Sink>(
     process: u32,
     fields: &[&[u8]],
     sink: &mut S,
-) -> Result<(), ToolFault>
+) -> Result<(), WriteFault>
     ensures text { AnswersTo S.written S.failed
         (why_text (choice_of table.entry) tree_bytes.now script_bytes.now process
         (map (λ field. field.now) fields.now)) result sink.old sink.new }
@@ -68,13 +68,9 @@ fn asked_text(
     ensures refused { IfErr result (λ fault. fault ≢ ToolFault.OutOfMemory →
         as_request (request_by rules 1 (request_line process
         (map (λ field. field.now) fields.now))) ≡ Err fault) }
-    ensures unwritten { IfErr result (λ fault. fault ≢ ToolFault.Write) }
 {
     let request = read_asked(alloc, rules, process, fields)?;
-    match text_of(alloc, worlds, &request) {
-        Ok(text) => Ok(text),
-        Err(OutOfMemory) => Err(ToolFault::OutOfMemory),
-    }
+    Ok(text_of(alloc, worlds, &request)?)
 }
 
 /// The request of a process, by the fields after its number, which are read by these rules.
@@ -89,11 +85,8 @@ fn read_asked(
     ensures refused { IfErr result (λ fault. fault ≢ ToolFault.OutOfMemory →
         as_request (request_by rules 1 (request_line process
         (map (λ field. field.now) fields.now))) ≡ Err fault) }
-    ensures unwritten { IfErr result (λ fault. fault ≢ ToolFault.Write) }
 {
-    let Ok(line) = line_of(alloc, process, fields) else {
-        return Err(ToolFault::OutOfMemory);
-    };
+    let line = line_of(alloc, process, fields)?;
     match read_request_by(alloc, rules, 1, line.as_slice()) {
         Ok(request) => Ok(request),
         Err(ScriptFault::OutOfMemory) => Err(ToolFault::OutOfMemory),

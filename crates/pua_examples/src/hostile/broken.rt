@@ -7,7 +7,7 @@ use pua_audit::Base;
 use pua_examples_trees::LISTING;
 use pua_examples_trees::told::{count, wrong_unless};
 use pua_tool::{
-    DEVICE, DONE, InputFault, Job, MemoryInputs, MemorySink, ReadSource, Sink, ToolFault,
+    DEVICE, DONE, InputFault, Job, MemoryInputs, MemorySink, ReadSource, Sink, WriteFault,
     read_bytes,
 };
 use std::alloc::Global;
@@ -179,7 +179,7 @@ fn is_cut(
     let wanted = if held.len() == text.len() {
         Ok(())
     } else {
-        Err(ToolFault::Write)
+        Err(WriteFault::Put)
     };
     answer == wanted && sink.bytes() == held
 }

@@ -1,7 +1,7 @@
 //! Calls of functions whose contracts are long to load. Each is cited here alone, and nothing of it
 //! is promised on: what they do is compared with what is written.
 
-use pua_tool::{Inputs, Job, Sink, ToolFault, audit_to, command};
+use pua_tool::{Inputs, Job, Sink, WriteFault, audit_to, command};
 use std::alloc::Global;
 
 /// Does what the words of a command ask for, and answers its status.
@@ -22,6 +22,6 @@ pub(crate) fn audit_done<S: Sink>(
     script: &[u8],
     job: &Job<'_>,
     sink: &mut S,
-) -> Result<(), ToolFault> {
+) -> Result<(), WriteFault> {
     audit_to(alloc, tree, script, job, sink)
 }

@@ -1,7 +1,7 @@
 //! Wrong bodies of `pua_tool` at sinks that fail, and at one that never does.
 
 use pua_tool::{
-    DONE, ListWords, MemoryInputs, MemorySink, PutFault, Sink, StreamSink, TableChoice, ToolFault,
+    DONE, ListWords, MemoryInputs, MemorySink, PutFault, Sink, StreamSink, TableChoice, WriteFault,
     command, list_to, program, run_to,
 };
 use std::alloc::Global;
@@ -28,7 +28,7 @@ fn spurious_write_fault(alloc: Global, tree: &[u8], script: &[u8], list: &ListWo
     let mut sink = Taking;
     let table = TableChoice::STANDARD;
     let written = list_to(alloc, tree, script, table, list, &mut sink);
-    if let Err(ToolFault::Write) = written {
+    if let Err(WriteFault::Put) = written {
         unreachable!()
     }
 }
@@ -36,7 +36,7 @@ fn spurious_write_fault(alloc: Global, tree: &[u8], script: &[u8], list: &ListWo
 /// Nor is the text of a run.
 fn spurious_write_fault_of_a_run(alloc: Global, tree: &[u8], script: &[u8]) {
     let mut sink = Taking;
-    if let Err(ToolFault::Write) = run_to(alloc, tree, script, None, &mut sink) {
+    if let Err(WriteFault::Put) = run_to(alloc, tree, script, None, &mut sink) {
         unreachable!()
     }
 }

@@ -2,13 +2,13 @@
 
 use pua_calls::Rules;
 use pua_tool::{
-    Command, DEVICE, MEMORY, MemoryInputs, MemorySink, Text, ToolFault, command, perform,
+    Command, DEVICE, MEMORY, MemoryInputs, MemorySink, Text, WriteFault, command, perform,
 };
 use std::alloc::Global;
 
 /// A put that failed is a device's fault.
 fn fault_statuses_exchanged() {
-    if ToolFault::Write.status() != DEVICE {
+    if WriteFault::Put.status() != DEVICE {
         unreachable!()
     }
 }

@@ -16,7 +16,7 @@ returns-in-Some-clause-refused c =
     sym (refused_here c.args.members.now c.member-item.result c.loop-member.member-index c.loop-member-test.true c.member-item.is c.args.table.now
     c.in-Some.reason (sym c.in-Some.is ∙ c.why_refused.ensures.exact)
     ∙ c.loop-member.invariant)
-    ∙ ap (λ fault. Some fault) (sym c.reason_of.ensures.told)
+    ∙ ap (λ fault. Some fault) (sym c.reason_of.ensures)
 
 pub returns-clause-listed : goal.returns-clause-listed
 returns-clause-listed c =

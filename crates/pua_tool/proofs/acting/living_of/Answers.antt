@@ -20,11 +20,11 @@ loop-member-preserved-then-ended c =
 pub loop-member-preserved : goal.loop-member-preserved
 loop-member-preserved c =
     living_next c.args.members.now c.member-item.result c.loop-member.member-index c.loop-member-test.true c.member-item.is
-    c.loop-member.left.items _ c.in-Ok.ensures.items (sym c.if-ended.false ∙ c.ended.ensures.state)
+    c.loop-member.left.items _ c.in_ok-push.ensures.items (sym c.if-ended.false ∙ c.ended.ensures.state)
     ∙ c.loop-member.invariant
 
-pub returns-clause-living : goal.returns-clause-living
-returns-clause-living c =
+pub returns : goal.returns
+returns c =
     sym (ap (λ ms. named_by c.loop-member.left.items ++ living (named_by ms))
     (drop_of_length-le c.args.members.now (omega (arith, c.loop-member-test.false)))
     ∙ append-nil (named_by c.loop-member.left.items))

@@ -11,7 +11,7 @@ loop-number-init g c =
 pub loop-number-preserved : goal.loop-number-preserved
 loop-number-preserved g c =
     made_next (world_of c.args.world.now) c.args.numbers.now c.loop-number.number-index _ c.loop-number-test.true c.loop-number.members.items _ _
-    c.in-Ok.ensures.items c.in-Some.ensures refl
+    c.in_ok-push.ensures.items c.in-Some.ensures refl
     ∙ c.loop-number.invariant
 
 pub returns-in_default-clause-refused : goal.returns-in_default-clause-refused

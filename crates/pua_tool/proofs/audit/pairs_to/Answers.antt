@@ -1,6 +1,6 @@
 use Rattle.pua_tool.proofs.Common.{map, line_seen}
 use Rattle.pua_tool.proofs.Common.{◌≡◌, ℕ, List, ◌++◌, Ok, Err, ap, subst, sym, ◌∙◌, err_from_is_err_and, ◌>>=◌, kept_at, Tells, as_audit}
-use Rattle.pua_tool.proofs.Common.{as_replayed}
+use Rattle.pua_tool.proofs.Common.{as_replayed, NoText}
 use Rattle.std.specs.Prelude.{ok_or}
 use Rattle.pua_texts.specs.Lines.{front_of, pair_lines}
 use Rattle.pua_tool.specs.Texts.{beginning_of, pairs_after, wants_of}
@@ -16,10 +16,9 @@ returns-in_err-list g c =
     let p = err_from_is_err_and c.from_residual.result c.from_residual.ensures.1 in
     rw (p.1, p.2) (next_answers g.S.Sink.written g.S.Sink.failed (ok_or (kept_at done.world w.process) NoProcess)
     (λ h. as_audit (beginning_of done.world.tree done.table h w) >>= λ b. Ok (pairs_after w done.answers b)) h
-    (Err c.in_err-list.field-0.0) c.args.sink.now c.args.sink.now (ap (λ made. ok_or made NoProcess) (sym c.in-Some.ensures))
+    (Err (NoText c.in_err-list.field-0.0)) c.args.sink.now c.args.sink.now (ap (λ made. ok_or made NoProcess) (sym c.in-Some.ensures))
     (first_refuses g.S.Sink.written g.S.Sink.failed (as_audit (beginning_of done.world.tree done.table h w))
-    (λ b. Ok (pairs_after w done.answers b)) c.in_err-list.field-0.0 c.args.sink.now c.in_err-list.ensures.unwritten
-    (λ other. (λ i. as_audit (beginning_of (sym c.tree.ensures i) (sym c.table.ensures i) h w)) ∙ c.in_err-list.ensures.refused other)))
+    (λ b. Ok (pairs_after w done.answers b)) c.in_err-list.field-0.0 c.args.sink.now (λ other. (λ i. as_audit (beginning_of (sym c.tree.ensures i) (sym c.table.ensures i) h w)) ∙ c.in_err-list.ensures.refused other)))
 
 pub returns : goal.returns
 returns g c =
@@ -30,7 +29,7 @@ returns g c =
     let b = begins.0 in
     let same : beginning_of done.world.tree done.table h w ≡ Ok b =
     (λ i. beginning_of (sym c.tree.ensures i) (sym c.table.ensures i) h w) ∙ begins.1 in
-    let front : c.as_str.result.now ≡ front_of w.after w.process done.answers = c.as_str.ensures.value ∙ c.in-Ok.ensures ∙
+    let front : c.as_str.result.now ≡ front_of w.after w.process done.answers = c.as_str.ensures.value ∙ c.in_ok-front.ensures ∙
     ap (λ told. front_of w.after w.process (map line_seen told)) c.as_slice.ensures.value in
     let text = pairs_after w done.answers b in
     let written : Tells text c.write_audit.result (g.S.Sink.written c.args.sink.now) (g.S.Sink.written c.write_audit.new.sink)

@@ -7,7 +7,7 @@ returns-in_err-replay g c =
     let p = err_from_is_err_and c.from_residual.result c.from_residual.ensures.1 in
     rw (p.1, p.2) (record {
       text = text_refused (choice_of c.args.table) c.args.tree_bytes.now c.args.script_bytes.now c.args.whose.now c.args.helping.now
-          g.S.Sink.written g.S.Sink.failed c.in_err-replay.field-0.0 c.args.sink.now c.in_err-replay.ensures.unwritten
+          g.S.Sink.written g.S.Sink.failed c.in_err-replay.field-0.0 c.args.sink.now
           c.in_err-replay.ensures.refused;
     })
 

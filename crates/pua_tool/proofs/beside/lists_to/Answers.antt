@@ -1,7 +1,7 @@
 use Rattle.pua_tool.proofs.Common.{map, line_seen}
-use Rattle.pua_tool.proofs.Common.{◌≡◌, ◌≢◌, ◌∙◌, ◌++◌, ℕ, List, Ok, Some, None, ap, refl, subst, CallTable, Tree, answer_lines, err_from_is_err_and}
-use Rattle.pua_tool.proofs.Common.{AnswersTo, OutOfMemory, Write, as_replayed, flat_map}
-use Rattle.std.proofs.Common.{inr}
+use Rattle.pua_tool.proofs.Common.{◌≡◌, ◌∙◌, ◌++◌, ℕ, List, Ok, Some, None, ap, refl, subst, CallTable, Tree, answer_lines, err_from_is_err_and}
+use Rattle.pua_tool.proofs.Common.{AnswersTo, Err, OutOfMemory, as_replayed, flat_map}
+use Rattle.std.proofs.Common.{inl, inr}
 use Rattle.pua_calls.specs.TmpTable.{tmp_table}
 use Rattle.pua_texts.specs.ListLines.{ListState, list_text, lists_text}
 use Rattle.pua_texts.specs.Members.{named_by}
@@ -19,25 +19,17 @@ returns-in_err-check_all g c =
     let refused = subst (λ (table : CallTable). first_refused table (members ++ helpers) ≡ Some c.in_err-check_all.field-0.0) c.table.ensures
     c.in_err-check_all.ensures.refused in
     rw (p.1, p.2) (fault_answered g.S.Sink.written g.S.Sink.failed (IsBesideOf c.args.rules done members helpers) c.in_err-check_all.field-0.0
-    c.args.sink.now c.in_err-check_all.ensures.unwritten (λ other. refused_of c.args.rules done members helpers _ refused))
+    c.args.sink.now (λ other. refused_of c.args.rules done members helpers _ refused))
 
 pub returns-in_err-lists : goal.returns-in_err-lists
 returns-in_err-lists g c =
     let p = err_from_is_err_and c.from_residual-in_err-lists.result c.from_residual-in_err-lists.ensures.1 in
-    let memory : p.0 ≡ OutOfMemory = p.2 in
-    let unwritten : p.0 ≢ Write = λ same. cc in
-    rw p.1 (fault_answered g.S.Sink.written g.S.Sink.failed
-    (IsBesideOf c.args.rules (as_replayed c.args.replay.now) (named_by c.args.members.now) (named_by c.args.helpers.now)) p.0 c.args.sink.now
-    unwritten (λ other. absurd (other memory)))
+    rw (p.1, p.2) (Err OutOfMemory, inl refl, (λ other. refl, refl))
 
 pub returns-in_err-front : goal.returns-in_err-front
 returns-in_err-front g c =
     let p = err_from_is_err_and c.from_residual-in_err-front.result c.from_residual-in_err-front.ensures.1 in
-    let memory : p.0 ≡ OutOfMemory = p.2 in
-    let unwritten : p.0 ≢ Write = λ same. cc in
-    rw p.1 (fault_answered g.S.Sink.written g.S.Sink.failed
-    (IsBesideOf c.args.rules (as_replayed c.args.replay.now) (named_by c.args.members.now) (named_by c.args.helpers.now)) p.0 c.args.sink.now
-    unwritten (λ other. absurd (other memory)))
+    rw (p.1, p.2) (Err OutOfMemory, inl refl, (λ other. refl, refl))
 
 pub returns : goal.returns
 returns g c =

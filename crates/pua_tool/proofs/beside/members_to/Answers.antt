@@ -11,7 +11,7 @@ returns-in_err-members g c =
     let done = as_replayed c.args.replay.now in
     let p = err_from_is_err_and c.from_residual.result c.from_residual.ensures.1 in
     rw (p.1, p.2) (fault_answered g.S.Sink.written g.S.Sink.failed (IsBesideAfter c.args.rules done c.args.whose.now c.args.helping.now)
-    c.in_err-members.field-0.0 c.args.sink.now c.in_err-members.ensures.unwritten
+    c.in_err-members.field-0.0 c.args.sink.now
     (λ other. behind_err
     (λ members. IsBehind (λ helpers. IsBesideOf c.args.rules done members helpers) (all_made done.world (numbers_in done.world c.args.helping.now)))
     (all_made done.world (numbers_in done.world c.args.whose.now)) _ (c.in_err-members.ensures.refused other)))
@@ -21,7 +21,7 @@ returns-in_err-helpers g c =
     let done = as_replayed c.args.replay.now in
     let p = err_from_is_err_and c.from_residual-in_err-helpers.result c.from_residual-in_err-helpers.ensures.1 in
     rw (p.1, p.2) (fault_answered g.S.Sink.written g.S.Sink.failed (IsBesideAfter c.args.rules done c.args.whose.now c.args.helping.now)
-    c.in_err-helpers.field-0.0 c.args.sink.now c.in_err-helpers.ensures.unwritten
+    c.in_err-helpers.field-0.0 c.args.sink.now
     (λ other. behind_ok
     (λ members. IsBehind (λ helpers. IsBesideOf c.args.rules done members helpers) (all_made done.world (numbers_in done.world c.args.helping.now)))
     (all_made done.world (numbers_in done.world c.args.whose.now)) (named_by c.in_ok-members.members.items) _ c.in_ok-members.ensures.made

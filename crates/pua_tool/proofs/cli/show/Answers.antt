@@ -1,8 +1,9 @@
-use Rattle.pua_tool.proofs.Common.{sym, rules, Write, Tool}
+use Rattle.pua_tool.proofs.Common.{sym, rules}
+use Rattle.pua_tool.specs.declared.outcome.CommandFault.TheVariants.{Put}
 use Rattle.pua_tool.proofs.cli.show.Goals as goal
 
 pub returns-in-Err-clause-told : goal.returns-in-Err-clause-told
-returns-in-Err-clause-told g c other = (Tool Write, sym c.finish.ensures.status, tt, c.finish.ensures.told)
+returns-in-Err-clause-told g c other = (Put, sym c.finish.ensures.status, tt, c.finish.ensures.told)
 
 pub returns-in-Err-clause-whole : goal.returns-in-Err-clause-whole
 returns-in-Err-clause-whole g c = search rules

@@ -12,15 +12,15 @@ use Rattle.pua_tool.specs.RowColumns.{IsCountTo, done_behind, is_now_on}
 use Rattle.pua_tool.proofs.RowColumns.{column_is}
 use Rattle.pua_tool.proofs.columns.column_of.Goals as goal
 
-pub returns-in_default-clause-column : goal.returns-in_default-clause-column
-returns-in_default-clause-column c = λ above on about thing is.
+pub returns-in_default : goal.returns-in_default
+returns-in_default c = λ above on about thing is.
     let done = done_behind c.args.behind.now in
     let none = sym c.in_default.is ∙ c.target_of.ensures ∙ ap (λ (t : Tree). option_map (target_about c.args.last) (thing_of t c.args.row.now)) c.tree.ensures
     ∙ ap (option_map (target_about c.args.last)) is in
     absurd (None≢Some (target_about c.args.last about) none)
 
-pub returns-clause-column : goal.returns-clause-column
-returns-clause-column c = λ above on about thing is.
+pub returns : goal.returns
+returns c = λ above on about thing is.
     let rules = c.args.behind.now.rules in
     let done = done_behind c.args.behind.now in
     let h = c.args.process.now in

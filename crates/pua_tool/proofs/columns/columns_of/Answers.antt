@@ -27,11 +27,11 @@ loop-row-preserved c =
           subst (λ (texts : List (List ℕ)). AreColumns rules done n h (take (i + 1) rows) texts)
           (sym (ap (map string_bytes) c.in_ok-push.ensures.items ∙ map-append string_bytes c.loop-row.columns.items (c.in_ok-column.column ∷ [])))
           (row_column rules done n h rows row i c.loop-row-test.true c.row-item.is texts text (c.loop-row.invariant.columns on)
-          (c.in_ok-column.ensures.column above here));
+          (c.in_ok-column.ensures above here));
     }
 
-pub returns-clause-columns : goal.returns-clause-columns
-returns-clause-columns c = λ on.
+pub returns : goal.returns
+returns c = λ on.
     let past : length c.args.rows.now ≤ c.loop-row.row-index = omega (arith, c.loop-row-test.false) in
     subst (λ (rows : List EverRow). AreColumns c.args.behind.now.rules (done_behind c.args.behind.now) c.args.behind.now.number c.args.process.now rows
     (map string_bytes c.loop-row.columns.items))

@@ -1,6 +1,6 @@
 use Rattle.pua_tool.proofs.Common.{map, line_seen}
 use Rattle.pua_tool.proofs.Common.{◌≡◌, ℕ, List, ◌++◌, Err, Ok, ap, sym, subst, ◌∙◌, None, ProcessState, kept_at, answer_lines, AnswersTo}
-use Rattle.pua_tool.proofs.Common.{◌≢◌, err_from_is_err_and, unless_reason, as_replayed, OutOfMemory, Write}
+use Rattle.pua_tool.proofs.Common.{err_from_is_err_and, unless_reason, as_replayed, refl, NoText}
 use Rattle.std.specs.Prelude.{ok_or}
 use Rattle.pua_calls.specs.TmpTable.{tmp_table}
 use Rattle.pua_ever.specs.LastingList.{IsBoundedExecOf}
@@ -22,43 +22,22 @@ returns-in-Err g c =
     let whose = subst (IsBoundedExecOf wide h) (sym c.as_ref.ensures.value) c.in_ok-both.ensures in
     let text = λ (h : ProcessState). answer_lines 1 done.answers ++ ever_list c.args.rules (tmp_table done.table) done.world.tree n h in
     next_answers g.S.Sink.written g.S.Sink.failed (ok_or (kept_at done.world n) NoProcess)
-    (λ h. unless_reason n (refusal done.table h) (text h)) h (Err fault) c.args.sink.now c.args.sink.now
+    (λ h. unless_reason n (refusal done.table h) (text h)) h (Err (NoText fault)) c.args.sink.now c.args.sink.now
     (ap (λ made. ok_or made NoProcess) (sym c.in-Some.ensures))
     (answers_refused g.S.Sink.written g.S.Sink.failed (unless_reason n (refusal done.table h) (text h)) fault c.args.sink.now
-    c.fault_of.ensures.unwritten
     (λ other. ap (λ reason. unless_reason n reason (text h))
     (sym (refused_too done.table h) ∙ (λ i. refusal (sym ruled i) h) ∙ c.in-Err.ensures.refused whose)
-    ∙ c.fault_of.ensures.told (text h) other))
+    ∙ c.fault_of.ensures (text h) other))
 
 pub returns-in_err-front : goal.returns-in_err-front
 returns-in_err-front g c =
-    let n : ℕ = c.args.number in
-    let done = as_replayed c.args.replay.now in
-    let h = c.in-Some.process.now in
-    let text = λ (h : ProcessState). answer_lines 1 done.answers ++ ever_list c.args.rules (tmp_table done.table) done.world.tree n h in
     let p = err_from_is_err_and c.from_residual-in_err-front.result c.from_residual-in_err-front.ensures.1 in
-    let memory : p.0 ≡ OutOfMemory = p.2 in
-    let unwritten : p.0 ≢ Write = λ same. cc in
-    rw p.1 (next_answers g.S.Sink.written g.S.Sink.failed (ok_or (kept_at done.world n) NoProcess)
-    (λ h. unless_reason n (refusal done.table h) (text h)) h (Err p.0) c.args.sink.now c.args.sink.now
-    (ap (λ made. ok_or made NoProcess) (sym c.in-Some.ensures))
-    (answers_refused g.S.Sink.written g.S.Sink.failed (unless_reason n (refusal done.table h) (text h)) p.0 c.args.sink.now unwritten
-    (λ other. absurd (other memory))))
+    rw (p.1, p.2) (λ other. absurd (other refl), refl)
 
 pub returns-in_err-lists : goal.returns-in_err-lists
 returns-in_err-lists g c =
-    let n : ℕ = c.args.number in
-    let done = as_replayed c.args.replay.now in
-    let h = c.in-Some.process.now in
-    let text = λ (h : ProcessState). answer_lines 1 done.answers ++ ever_list c.args.rules (tmp_table done.table) done.world.tree n h in
     let p = err_from_is_err_and c.from_residual-in_err-lists.result c.from_residual-in_err-lists.ensures.1 in
-    let memory : p.0 ≡ OutOfMemory = p.2 in
-    let unwritten : p.0 ≢ Write = λ same. cc in
-    rw p.1 (next_answers g.S.Sink.written g.S.Sink.failed (ok_or (kept_at done.world n) NoProcess)
-    (λ h. unless_reason n (refusal done.table h) (text h)) h (Err p.0) c.args.sink.now c.args.sink.now
-    (ap (λ made. ok_or made NoProcess) (sym c.in-Some.ensures))
-    (answers_refused g.S.Sink.written g.S.Sink.failed (unless_reason n (refusal done.table h) (text h)) p.0 c.args.sink.now unwritten
-    (λ other. absurd (other memory))))
+    rw (p.1, p.2) (λ other. absurd (other refl), refl)
 
 pub returns : goal.returns
 returns g c =

@@ -1,6 +1,6 @@
 use Rattle.pua_tool.proofs.Common.{line_seen}
-use Rattle.pua_tool.proofs.Common.{◌≡◌, ◌≢◌, ℕ, List, [], ◌++◌, ◌∙◌, map, ap, sym, subst, refl, None, Ok, ProcessState, Tree, CallTable}
-use Rattle.pua_tool.proofs.Common.{answer_lines, err_from_is_err_and, OutOfMemory, Write, unless_reason, AnswersTo}
+use Rattle.pua_tool.proofs.Common.{◌≡◌, ℕ, List, [], ◌++◌, ◌∙◌, map, ap, sym, subst, refl, None, Ok, ProcessState, Tree, CallTable}
+use Rattle.pua_tool.proofs.Common.{answer_lines, err_from_is_err_and, OutOfMemory, unless_reason, AnswersTo}
 use Rattle.std.specs.List.{AllByRecursion}
 use Rattle.std.specs.Prelude.{string_bytes}
 use Rattle.pua_tree.specs.Tree.{WellFormed}
@@ -22,18 +22,15 @@ pub returns-in_default : goal.returns-in_default
 returns-in_default g c =
     let behind = c.args.behind.now in
     let done = done_behind behind in
-    fault_after behind.rules done behind.number g.S.Sink.written g.S.Sink.failed NoProcess c.args.sink.now (λ same. cc)
+    fault_after behind.rules done behind.number g.S.Sink.written g.S.Sink.failed NoProcess c.args.sink.now
     (λ other. no_process behind.rules done behind.number (sym c.in_default.ensures))
 
 pub returns-in_err-both : goal.returns-in_err-both
 returns-in_err-both g c =
     let p = err_from_is_err_and c.from_residual.result c.from_residual.ensures.1 in
     let behind = c.args.behind.now in
-    let memory : p.0 ≡ OutOfMemory = p.2 in
-    let unwritten : p.0 ≢ Write = λ same. cc in
-    rw p.1 (
-    fault_after behind.rules (done_behind behind) behind.number g.S.Sink.written g.S.Sink.failed p.0 c.args.sink.now unwritten
-    (λ other. absurd (other memory)))
+    rw (p.1, p.2) (fault_after behind.rules (done_behind behind) behind.number g.S.Sink.written g.S.Sink.failed OutOfMemory c.args.sink.now
+    (λ other. absurd (other refl)))
 
 pub returns-in-Err : goal.returns-in-Err
 returns-in-Err g c =
@@ -46,40 +43,30 @@ returns-in-Err g c =
     let ruled : wide ≡ tmp_table done.table = c.with_tmppath-wide.ensures ∙ ap tmp_table c.table.ensures in
     let whose = subst (IsBoundedExecOf wide h) (sym c.as_ref.ensures.value) c.in_ok-both.ensures in
     let reason = sym (refused_too done.table h) ∙ (λ i. refusal (sym ruled i) h) ∙ c.in-Err.ensures.refused whose in
-    fault_after behind.rules done n g.S.Sink.written g.S.Sink.failed fault c.args.sink.now c.fault_of.ensures.unwritten
+    fault_after behind.rules done n g.S.Sink.written g.S.Sink.failed fault c.args.sink.now
     (λ other. refused_after behind.rules done n h fault (sym c.in-Some.ensures)
-    (λ text. ap (λ reason. unless_reason n reason text) reason ∙ c.fault_of.ensures.told text other))
+    (λ text. ap (λ reason. unless_reason n reason text) reason ∙ c.fault_of.ensures text other))
 
 pub returns-in_err-columns : goal.returns-in_err-columns
 returns-in_err-columns g c =
     let p = err_from_is_err_and c.from_residual-in_err-columns.result c.from_residual-in_err-columns.ensures.1 in
     let behind = c.args.behind.now in
-    let fault = c.in_err-columns.field-0.0 in
-    let memory : fault ≡ OutOfMemory = c.in_err-columns.ensures.memory in
-    let unwritten : fault ≢ Write = λ same. cc in
-    rw (p.1, p.2)
-    (fault_after behind.rules (done_behind behind) behind.number g.S.Sink.written g.S.Sink.failed fault c.args.sink.now unwritten
-    (λ other. absurd (other memory)))
+    rw (p.1, p.2) (fault_after behind.rules (done_behind behind) behind.number g.S.Sink.written g.S.Sink.failed OutOfMemory c.args.sink.now
+    (λ other. absurd (other refl)))
 
 pub returns-in_err-front : goal.returns-in_err-front
 returns-in_err-front g c =
     let p = err_from_is_err_and c.from_residual-in_err-front.result c.from_residual-in_err-front.ensures.1 in
     let behind = c.args.behind.now in
-    let memory : p.0 ≡ OutOfMemory = p.2 in
-    let unwritten : p.0 ≢ Write = λ same. cc in
-    rw p.1 (
-    fault_after behind.rules (done_behind behind) behind.number g.S.Sink.written g.S.Sink.failed p.0 c.args.sink.now unwritten
-    (λ other. absurd (other memory)))
+    rw (p.1, p.2) (fault_after behind.rules (done_behind behind) behind.number g.S.Sink.written g.S.Sink.failed OutOfMemory c.args.sink.now
+    (λ other. absurd (other refl)))
 
 pub returns-in_err-lists : goal.returns-in_err-lists
 returns-in_err-lists g c =
     let p = err_from_is_err_and c.from_residual-in_err-lists.result c.from_residual-in_err-lists.ensures.1 in
     let behind = c.args.behind.now in
-    let memory : p.0 ≡ OutOfMemory = p.2 in
-    let unwritten : p.0 ≢ Write = λ same. cc in
-    rw p.1 (
-    fault_after behind.rules (done_behind behind) behind.number g.S.Sink.written g.S.Sink.failed p.0 c.args.sink.now unwritten
-    (λ other. absurd (other memory)))
+    rw (p.1, p.2) (fault_after behind.rules (done_behind behind) behind.number g.S.Sink.written g.S.Sink.failed OutOfMemory c.args.sink.now
+    (λ other. absurd (other refl)))
 
 pub returns : goal.returns
 returns g c =
@@ -101,7 +88,7 @@ returns g c =
     (subst (λ (t : Tree). IsLasting t wide h list) at lasting) in
     let on = subst (λ (rows : List EverRow). AllByRecursion (IsRowOn done.world.tree h) rows) (sym c.as_slice.ensures.value) there.items in
     let columns = subst (λ (rows : List EverRow). AreColumns behind.rules done n h rows texts) c.as_slice.ensures.value
-    (c.in_ok-columns.ensures.columns on) in
+    (c.in_ok-columns.ensures on) in
     let lines = lines_told behind.rules done n h [] rows texts (ever_lasting done.world.tree table h) there.rows columns in
     let own = columns_told behind.rules done n h (subst WellFormed at c.known.ensures) lines.told lines.lines_are lines.columns in
     let none : refusal done.table h ≡ None =

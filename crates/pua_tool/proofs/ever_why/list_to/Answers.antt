@@ -1,5 +1,5 @@
-use Rattle.pua_tool.proofs.Common.{◌≡◌, ◌≢◌, ℕ, List, ◌++◌, ◌∙◌, Err, Ok, ap, sym, subst, map, None, Some, ProcessState, Tree, CallTable}
-use Rattle.pua_tool.proofs.Common.{kept_at, AnswersTo, err_from_is_err_and, unless_reason, OutOfMemory, Write, world_of}
+use Rattle.pua_tool.proofs.Common.{◌≡◌, ℕ, List, ◌++◌, ◌∙◌, Err, Ok, ap, sym, subst, map, None, Some, ProcessState, Tree, CallTable}
+use Rattle.pua_tool.proofs.Common.{kept_at, AnswersTo, err_from_is_err_and, unless_reason, NoText, refl, world_of}
 use Rattle.std.specs.Prelude.{[], ok_or, option_copied, string_bytes}
 use Rattle.pua_calls.specs.TmpTable.{tmp_table}
 use Rattle.pua_script.specs.Worlds.{process_at}
@@ -14,7 +14,7 @@ use Rattle.pua_texts.specs.EverHowLines.{AreToldWith, ever_list_with}
 use Rattle.pua_texts.specs.Lines.{with_end}
 use Rattle.pua_texts.specs.WhyLines.{world_left}
 use Rattle.pua_texts.proofs.ForCallers.{dates_are}
-use Rattle.pua_tool.specs.EverWhyTexts.{column_by, ever_why_after, ever_why_list, holder_by}
+use Rattle.pua_tool.specs.EverWhyTexts.{column_by, ever_why_list, holder_by}
 use Rattle.pua_tool.specs.TwoWorlds.{as_served}
 use Rattle.pua_tool.specs.WhyTexts.{reason_lines}
 use Rattle.pua_tool.specs.declared.fault.ToolFault.TheVariants.{NoProcess}
@@ -26,10 +26,7 @@ use Rattle.pua_tool.proofs.ever_why.list_to.Goals as goal
 pub returns-in_err-front : goal.returns-in_err-front
 returns-in_err-front g c =
     let p = err_from_is_err_and c.from_residual.result c.from_residual.ensures.1 in
-    let memory : p.0 ≡ OutOfMemory = p.2 in
-    let unwritten : p.0 ≢ Write = λ same. cc in
-    rw p.1 (λ read is. answers_refused g.S.Sink.written g.S.Sink.failed
-    (ever_why_after c.args.rules (as_served c.args.worlds.now) c.args.number) p.0 c.args.sink.now unwritten (λ other. absurd (other memory)))
+    rw (p.1, p.2) (λ read is. (λ other. absurd (other refl), refl))
 
 pub returns-in_default : goal.returns-in_default
 returns-in_default g c = λ read is.
@@ -39,15 +36,12 @@ returns-in_default g c = λ read is.
     let none : kept_at (world_left p) n ≡ None = (λ i. kept_at (world_of (sym left i)) n) ∙ sym c.in_default.ensures in
     first_refuses g.S.Sink.written g.S.Sink.failed (ok_or (kept_at (world_left p) n) NoProcess)
     (λ h. unless_reason n (refusal p.table h) (reason_lines p ++ ever_why_list c.args.rules p n h)) NoProcess c.args.sink.now
-    (λ same. cc) (λ other. ap (λ made. ok_or made NoProcess) none)
+    (λ other. ap (λ made. ok_or made NoProcess) none)
 
 pub returns-in_err-both : goal.returns-in_err-both
 returns-in_err-both g c =
     let p = err_from_is_err_and c.from_residual-in_err-both.result c.from_residual-in_err-both.ensures.1 in
-    let memory : p.0 ≡ OutOfMemory = p.2 in
-    let unwritten : p.0 ≢ Write = λ same. cc in
-    rw p.1 (λ read is. answers_refused g.S.Sink.written g.S.Sink.failed
-    (ever_why_after c.args.rules (as_served c.args.worlds.now) c.args.number) p.0 c.args.sink.now unwritten (λ other. absurd (other memory)))
+    rw (p.1, p.2) (λ read is. (λ other. absurd (other refl), refl))
 
 pub returns-in-Err : goal.returns-in-Err
 returns-in-Err g c = λ read is.
@@ -62,29 +56,22 @@ returns-in-Err g c = λ read is.
     let whose = subst (IsBoundedExecOf wide h) (sym c.as_ref.ensures.value) c.in_ok-both.ensures in
     let text = λ (h : ProcessState). reason_lines p ++ ever_why_list c.args.rules p n h in
     next_answers g.S.Sink.written g.S.Sink.failed (ok_or (kept_at (world_left p) n) NoProcess)
-    (λ h. unless_reason n (refusal p.table h) (text h)) h (Err fault) c.args.sink.now c.args.sink.now
+    (λ h. unless_reason n (refusal p.table h) (text h)) h (Err (NoText fault)) c.args.sink.now c.args.sink.now
     (ap (λ made. ok_or made NoProcess) made)
     (answers_refused g.S.Sink.written g.S.Sink.failed (unless_reason n (refusal p.table h) (text h)) fault c.args.sink.now
-    c.fault_of.ensures.unwritten
     (λ other. ap (λ reason. unless_reason n reason (text h))
     (sym (refused_too p.table h) ∙ (λ i. refusal (sym ruled i) h) ∙ c.in-Err.ensures.refused whose)
-    ∙ c.fault_of.ensures.told (text h) other))
+    ∙ c.fault_of.ensures (text h) other))
 
 pub returns-in_err-columns : goal.returns-in_err-columns
 returns-in_err-columns g c =
     let p = err_from_is_err_and c.from_residual-in_err-columns.result c.from_residual-in_err-columns.ensures.1 in
-    let memory : p.0 ≡ OutOfMemory = p.2 in
-    let unwritten : p.0 ≢ Write = λ same. cc in
-    rw p.1 (λ read is. answers_refused g.S.Sink.written g.S.Sink.failed
-    (ever_why_after c.args.rules (as_served c.args.worlds.now) c.args.number) p.0 c.args.sink.now unwritten (λ other. absurd (other memory)))
+    rw (p.1, p.2) (λ read is. (λ other. absurd (other refl), refl))
 
 pub returns-in_err-lists : goal.returns-in_err-lists
 returns-in_err-lists g c =
     let p = err_from_is_err_and c.from_residual-in_err-lists.result c.from_residual-in_err-lists.ensures.1 in
-    let memory : p.0 ≡ OutOfMemory = p.2 in
-    let unwritten : p.0 ≢ Write = λ same. cc in
-    rw p.1 (λ read is. answers_refused g.S.Sink.written g.S.Sink.failed
-    (ever_why_after c.args.rules (as_served c.args.worlds.now) c.args.number) p.0 c.args.sink.now unwritten (λ other. absurd (other memory)))
+    rw (p.1, p.2) (λ read is. (λ other. absurd (other refl), refl))
 
 pub returns : goal.returns
 returns g c = λ read is.

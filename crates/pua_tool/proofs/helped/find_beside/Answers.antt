@@ -19,5 +19,5 @@ returns g c = if_ok c.find_living.result (λ found is.
     let h = c.args.process.now in
     subst (λ (b : Bool). IsFound t c.args.table.now h (named_by c.args.others.now) b found) (sym c.if-ended.false ∙ c.ended.ensures.state)
     (subst (λ (hs : List ProcessState). IsFoundWith t c.args.table.now h hs found)
-    (ap (λ (ms : List Member). states (named_by ms)) c.as_slice.ensures.value ∙ ap states c.in-Ok.ensures.living) is))
+    (ap (λ (ms : List Member). states (named_by ms)) c.as_slice.ensures.value ∙ ap states c.in_ok-living.ensures) is))
     c.find_living.ensures

@@ -8,5 +8,5 @@ returns-in_err-text g c =
     let p = err_from_is_err_and c.from_residual.result c.from_residual.ensures.1 in
     rw (p.1, p.2) (record {
       text = fault_told g.S.Sink.written g.S.Sink.failed (choice_of c.args.table) c.args.tree_bytes.now c.args.script_bytes.now
-          (way_wanted c.args.words.now) c.in_err-text.field-0.0 c.args.sink.now c.in_err-text.ensures.unwritten c.in_err-text.ensures.refused;
+          (way_wanted c.args.words.now) c.in_err-text.field-0.0 c.args.sink.now c.in_err-text.ensures.refused;
     })

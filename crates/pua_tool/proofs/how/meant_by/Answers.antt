@@ -7,19 +7,19 @@ use Rattle.pua_tool.specs.HowTexts.{way_wanted}
 use Rattle.pua_tool.proofs.HowTexts.{bad_path, none_meant, some_meant}
 use Rattle.pua_tool.proofs.how.meant_by.Goals as goal
 
-pub returns-in_default-asking-clause-refused : goal.returns-in_default-asking-clause-refused
-returns-in_default-asking-clause-refused g c = λ other. (
+pub returns-in_default-clause-refused : goal.returns-in_default-clause-refused
+returns-in_default-clause-refused g c = λ other. (
   0,
   bad_path (g.T.FileTree.content c.args.tree.now) c.args.process.now (way_wanted c.args.words.now) 0
-      (sym c.in-Ok.ensures ∙ ap (option_map asking_given) c.in_default-asking.is),
+      (sym c.in_ok-asking.ensures ∙ ap (option_map asking_given) c.in_default.is),
 )
 
 pub returns-then-is_empty-clause-refused : goal.returns-then-is_empty-clause-refused
 returns-then-is_empty-clause-refused g c = λ other.
-    let targets = c.in-Ok-find_meant.meant.targets in
+    let targets = c.in_ok-meant.meant.targets in
     let read : path_question c.args.words.now.path.now ≡ Some (asking_given c.in-Some.asking) =
-    sym c.in-Ok.ensures ∙ ap (option_map asking_given) c.in-Some.is in
-    let meant = c.in-Ok-find_meant.ensures in (
+    sym c.in_ok-asking.ensures ∙ ap (option_map asking_given) c.in-Some.is in
+    let meant = c.in_ok-meant.ensures in (
       meant.last,
       none_meant (g.T.FileTree.content c.args.tree.now) c.args.process.now (way_wanted c.args.words.now) meant.last (asking_given c.in-Some.asking) targets.items read
           meant.are (sym targets.ok.0 ∙ eqb-true targets.len 0 (sym c.if-is_empty.ensures)),
@@ -27,10 +27,10 @@ returns-then-is_empty-clause-refused g c = λ other.
 
 pub returns-clause-meant : goal.returns-clause-meant
 returns-clause-meant g c =
-    let targets = c.in-Ok-find_meant.meant.targets in
+    let targets = c.in_ok-meant.meant.targets in
     let read : path_question c.args.words.now.path.now ≡ Some (asking_given c.in-Some.asking) =
-    sym c.in-Ok.ensures ∙ ap (option_map asking_given) c.in-Some.is in
-    let meant = c.in-Ok-find_meant.ensures in
+    sym c.in_ok-asking.ensures ∙ ap (option_map asking_given) c.in-Some.is in
+    let meant = c.in_ok-meant.ensures in
     record {
       last = meant.last;
       above = meant.above;

@@ -3,8 +3,8 @@ use Rattle.pua_ever.specs.LastingList.{IsBoundedExecOf}
 use Rattle.pua_how.specs.Outlooks.{IsOutlook}
 use Rattle.pua_tool.proofs.how.outlook_of.Goals as goal
 
-pub returns-clause-told : goal.returns-clause-told
-returns-clause-told g c =
+pub returns : goal.returns
+returns g c =
     let h = c.args.process.now in
     let wide = c.with_tmppath-wide.result in
     subst (λ (table : CallTable). IsOutlook (g.T.FileTree.content c.args.tree.now) table h c.args.things.now c.args.call c.find_outlook.result)

@@ -31,11 +31,6 @@ returns-in_err-never_text-clause-refused c =
     let p = err_from_is_err_and c.from_residual-in_err-never_text.result c.from_residual-in_err-never_text.ensures.1 in
     rw p.1 (λ other. absurd (other p.2))
 
-pub returns-in_err-never_text-clause-unwritten : goal.returns-in_err-never_text-clause-unwritten
-returns-in_err-never_text-clause-unwritten c =
-    let p = err_from_is_err_and c.from_residual-in_err-never_text.result c.from_residual-in_err-never_text.ensures.1 in
-    rw (p.1, p.2) (λ e. cc)
-
 pub returns-clause-done : goal.returns-clause-done
 returns-clause-done c =
     let wanted = way_wanted c.args.words.now in
@@ -44,17 +39,7 @@ returns-clause-done c =
     c.in_ok-found.ensures.way c.in_ok-found.ensures.none c.if-not-question.false
     (string_bytes c.in_ok-told.field-0) c.in_ok-told.ensures
 
-pub returns-in_err-found-clause-unwritten : goal.returns-in_err-found-clause-unwritten
-returns-in_err-found-clause-unwritten c =
-    let p = err_from_is_err_and c.from_residual-in_err-found.result c.from_residual-in_err-found.ensures.1 in
-    rw (p.1, p.2) c.in_err-found.ensures.unwritten
-
 pub returns-in_err-told-clause-refused : goal.returns-in_err-told-clause-refused
 returns-in_err-told-clause-refused c =
     let p = err_from_is_err_and c.from_residual-in_err-told.result c.from_residual-in_err-told.ensures.1 in
     rw p.1 (λ other. absurd (other p.2))
-
-pub returns-in_err-told-clause-unwritten : goal.returns-in_err-told-clause-unwritten
-returns-in_err-told-clause-unwritten c =
-    let p = err_from_is_err_and c.from_residual-in_err-told.result c.from_residual-in_err-told.ensures.1 in
-    rw (p.1, p.2) (λ e. cc)

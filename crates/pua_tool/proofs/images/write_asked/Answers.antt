@@ -12,7 +12,6 @@ returns-in_err-numbers g c =
     let p = err_from_is_err_and c.from_residual.result c.from_residual.ensures.1 in
     rw (p.1, p.2) (λ is. first_refuses g.S.Sink.written g.S.Sink.failed (numbers_asked (world_left q) c.args.whose.now)
     (λ numbers. Ok (images_after c.args.rules q numbers)) c.in_err-numbers.field-0.0 c.args.sink.now
-    c.in_err-numbers.ensures.unwritten
     (λ other. (λ i. numbers_asked (world_of (sym is.after i)) c.args.whose.now) ∙ c.in_err-numbers.ensures.refused other))
 
 pub returns : goal.returns

@@ -2,7 +2,6 @@ use Rattle.std.proofs.Common.{Bool, refl, sym, subst, Err}
 use Rattle.pua_tool.proofs.Common.{choice_of}
 use Rattle.pua_tool.specs.ListTexts.{IsHelpedWith}
 use Rattle.pua_tool.specs.declared.fault.ToolFault.TheVariants.{ImagesBeside}
-use Rattle.pua_tool.proofs.TextAnswers.{answers_refused}
 use Rattle.pua_tool.proofs.lists.helped_to.Goals as goal
 
 pub returns-then-list : goal.returns-then-list
@@ -12,7 +11,7 @@ returns-then-list g c =
         Err ImagesBeside,
         subst (λ (images : Bool). IsHelpedWith images list.span list.columns list.whose c.args.helping.now (choice_of c.args.table)
             c.args.tree_bytes.now c.args.script_bytes.now (Err ImagesBeside)) (sym c.if-list.true) refl,
-        answers_refused g.S.Sink.written g.S.Sink.failed (Err ImagesBeside) ImagesBeside c.args.sink.now (λ same. cc) (λ other. refl),
+        (λ other. refl, refl),
       );
     }
 

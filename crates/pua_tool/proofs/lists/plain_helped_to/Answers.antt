@@ -1,6 +1,5 @@
 use Rattle.std.proofs.Common.{rules, refl, Err}
 use Rattle.pua_tool.specs.declared.fault.ToolFault.TheVariants.{HowBeside, NowBeside, WhyBeside}
-use Rattle.pua_tool.proofs.TextAnswers.{answers_refused}
 use Rattle.pua_tool.proofs.lists.plain_helped_to.Goals as goal
 
 pub returns-in-Now-default : goal.returns-in-Now-default
@@ -8,7 +7,7 @@ returns-in-Now-default g c = record {
   text = (
     Err NowBeside,
     search rules,
-    answers_refused g.S.Sink.written g.S.Sink.failed (Err NowBeside) NowBeside c.args.sink.now (λ same. cc) (λ other. refl),
+    (λ other. refl, refl),
   );
 }
 
@@ -17,7 +16,7 @@ returns-in-Ever-Why g c = record {
   text = (
     Err WhyBeside,
     search rules,
-    answers_refused g.S.Sink.written g.S.Sink.failed (Err WhyBeside) WhyBeside c.args.sink.now (λ same. cc) (λ other. refl),
+    (λ other. refl, refl),
   );
 }
 
@@ -26,6 +25,6 @@ returns-in-Ever-How g c = record {
   text = (
     Err HowBeside,
     search rules,
-    answers_refused g.S.Sink.written g.S.Sink.failed (Err HowBeside) HowBeside c.args.sink.now (λ same. cc) (λ other. refl),
+    (λ other. refl, refl),
   );
 }

@@ -5,7 +5,6 @@ use Rattle.pua_words.specs.declared.command.Processes.TheVariants as processes
 use Rattle.pua_tool.proofs.Common.{Chosen, choice_of}
 use Rattle.pua_tool.specs.ListTexts.{IsWaysText}
 use Rattle.pua_tool.specs.declared.fault.ToolFault.TheVariants.{SeveralHow}
-use Rattle.pua_tool.proofs.TextAnswers.{answers_refused}
 use Rattle.pua_tool.proofs.lists.ways_to.Goals as goal
 
 none_of_several : (choice : Chosen) (tree script : List ℕ) (whose : Processes) →
@@ -18,7 +17,7 @@ returns-in-Named g c = record {
   text = (
     Err SeveralHow,
     none_of_several (choice_of c.args.table) c.args.tree_bytes.now c.args.script_bytes.now c.args.whose.now c.in-Named.is,
-    answers_refused g.S.Sink.written g.S.Sink.failed (Err SeveralHow) SeveralHow c.args.sink.now (λ same. cc) (λ other. refl),
+    (λ other. refl, refl),
   );
 }
 
@@ -27,6 +26,6 @@ returns-in-Named-2 g c = record {
   text = (
     Err SeveralHow,
     none_of_several (choice_of c.args.table) c.args.tree_bytes.now c.args.script_bytes.now c.args.whose.now c.in-Named.is,
-    answers_refused g.S.Sink.written g.S.Sink.failed (Err SeveralHow) SeveralHow c.args.sink.now (λ same. cc) (λ other. refl),
+    (λ other. refl, refl),
   );
 }

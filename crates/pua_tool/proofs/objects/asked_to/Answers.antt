@@ -11,8 +11,7 @@ returns-in_err-numbers g c =
     let done = as_replayed c.args.replay.now in
     let p = err_from_is_err_and c.from_residual.result c.from_residual.ensures.1 in
     rw (p.1, p.2) (first_refuses g.S.Sink.written g.S.Sink.failed (numbers_asked done.world c.args.whose.now)
-    (λ numbers. Ok (objects_after c.args.rules done.table done.answers done.world numbers)) c.in_err-numbers.field-0.0 c.args.sink.now
-    c.in_err-numbers.ensures.unwritten c.in_err-numbers.ensures.refused)
+    (λ numbers. Ok (objects_after c.args.rules done.table done.answers done.world numbers)) c.in_err-numbers.field-0.0 c.args.sink.now c.in_err-numbers.ensures.refused)
 
 pub returns : goal.returns
 returns g c =

@@ -12,7 +12,7 @@ returns-in_err-replay-clause-refused c =
     let p = err_from_is_err_and c.from_residual.result c.from_residual.ensures.1 in
     rw (p.1, p.2) refuses
 
-pub returns-in-Ok-clause-done : goal.returns-in-Ok-clause-done
-returns-in-Ok-clause-done c =
+pub returns-clause-done : goal.returns-clause-done
+returns-clause-done c =
     (λ i. c.in_ok-replay.ensures.done i >>= λ done. Ok (answer_lines 1 done.answers))
-    ∙ ap Ok (sym (c.in-Ok.ensures ∙ ap (λ told. answer_lines 1 (map line_seen told)) c.as_slice.ensures.value))
+    ∙ ap Ok (sym (c.in_ok-text.ensures ∙ ap (λ told. answer_lines 1 (map line_seen told)) c.as_slice.ensures.value))

@@ -8,7 +8,7 @@ pub returns : goal.returns
 returns g c =
     let worlds = c.in_ok-worlds.ensures.done in
     let asked = as_served c.in_ok-worlds.worlds in
-    let text : c.as_str.result.now ≡ reason_lines asked = c.as_str.ensures.value ∙ c.in-Ok.ensures c.args.table.rules worlds.1 worlds.2 in
+    let text : c.as_str.result.now ≡ reason_lines asked = c.as_str.ensures.value ∙ c.in_ok-text.ensures c.args.table.rules worlds.1 worlds.2 in
     record {
       text = next_answers g.S.Sink.written g.S.Sink.failed
           (served_script (choice_of c.args.table) c.args.tree_bytes.now c.args.script_bytes.now) (λ p. Ok (reason_lines p)) asked

@@ -14,11 +14,5 @@ returns-in-Ok-clause-read c = search rules
 pub returns-in-Err-OutOfMemory-clause-refused : goal.returns-in-Err-OutOfMemory-clause-refused
 returns-in-Err-OutOfMemory-clause-refused c = λ other. absurd (other refl)
 
-pub returns-in-Err-OutOfMemory-clause-unwritten : goal.returns-in-Err-OutOfMemory-clause-unwritten
-returns-in-Err-OutOfMemory-clause-unwritten c = λ written. cc
-
 pub returns-in-Err-clause-refused : goal.returns-in-Err-clause-refused
 returns-in-Err-clause-refused c = search rules
-
-pub returns-in-Err-clause-unwritten : goal.returns-in-Err-clause-unwritten
-returns-in-Err-clause-unwritten c = λ written. cc

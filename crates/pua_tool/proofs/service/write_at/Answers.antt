@@ -3,7 +3,6 @@ use Rattle.pua_tool.specs.Fronts.{script_at}
 use Rattle.pua_tool.specs.Performed.{IsTextOf}
 use Rattle.pua_tool.specs.Texts.{Chosen}
 use Rattle.pua_words.specs.declared.command.Text.{Text}
-use Rattle.pua_tool.proofs.TextAnswers.{answers_refused}
 use Rattle.pua_tool.proofs.service.write_at.Goals as goal
 
 -- a text of what is served
@@ -20,7 +19,7 @@ returns-in_err-script g c =
       Err fault,
       of_served _ (Err fault) _ _ _ (Err fault)
           (ap (script_at c.args.command.now.at) (sym c.as_slice.ensures.value) ∙ c.in_err-script.ensures.refused) refl,
-      answers_refused g.O.Sink.written g.O.Sink.failed (Err fault) fault c.args.out.now c.in_err-script.ensures.unwritten (λ other. refl),
+      (λ other. refl, refl),
     )
 
 pub returns : goal.returns

@@ -11,7 +11,7 @@ returns-in_err-words-clause-refused c =
     let p = err_from_is_err_and c.from_residual.result c.from_residual.ensures.1 in
     rw (p.1, p.2) refuses
 
-pub returns-in-Ok-clause-done : goal.returns-in-Ok-clause-done
-returns-in-Ok-clause-done c =
+pub returns-clause-done : goal.returns-clause-done
+returns-clause-done c =
     (λ i. c.in_ok-words.ensures.done i >>= λ words. Ok (use_lines c.args.table.rules words))
-    ∙ ap Ok (sym (c.in-Ok.ensures ∙ ap (use_lines c.args.table.rules) c.as_slice.ensures.value))
+    ∙ ap Ok (sym (c.in_ok-lines_of.ensures ∙ ap (use_lines c.args.table.rules) c.as_slice.ensures.value))

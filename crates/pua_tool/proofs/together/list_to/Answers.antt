@@ -23,15 +23,13 @@ returns-in_err-check_members g c =
     let refused = subst (λ (table : CallTable). first_refused table named ≡ Some c.in_err-check_members.field-0.0) c.table.ensures
     c.in_err-check_members.ensures.refused in
     rw (p.1, p.2) (answers_refused g.S.Sink.written g.S.Sink.failed (together_of c.args.rules done named) c.in_err-check_members.field-0.0
-    c.args.sink.now c.in_err-check_members.ensures.unwritten
+    c.args.sink.now
     (λ other. ap (λ fault. unless_fault fault (together_lines c.args.rules done named)) (fault_listed done.table named _ refused)))
 
 pub returns-in_err-living : goal.returns-in_err-living
 returns-in_err-living g c =
     let p = err_from_is_err_and c.from_residual-in_err-living.result c.from_residual-in_err-living.ensures.1 in
-    rw (p.1, p.2) (answers_refused g.S.Sink.written g.S.Sink.failed
-    (together_of c.args.rules (as_replayed c.args.replay.now) (named_by c.args.members.now)) c.in_err-living.field-0.0 c.args.sink.now
-    c.in_err-living.ensures.unwritten (λ other. absurd (other c.in_err-living.ensures.memory)))
+    rw (p.1, p.2) (λ other. absurd (other refl), refl)
 
 pub returns-in_err-check_veils : goal.returns-in_err-check_veils
 returns-in_err-check_veils g c =
@@ -39,9 +37,9 @@ returns-in_err-check_veils g c =
     let named = named_by c.args.members.now in
     let p = err_from_is_err_and c.from_residual-in_err-check_veils.result c.from_residual-in_err-check_veils.ensures.1 in
     let none = subst (λ (table : CallTable). first_refused table named ≡ None) c.table.ensures c.in_ok-check_members.ensures.listed in
-    let live = ap named_by c.as_slice.ensures.value ∙ c.in_ok-living.ensures.living in
+    let live = ap named_by c.as_slice.ensures.value ∙ c.in_ok-living.ensures in
     rw (p.1, p.2) (answers_refused g.S.Sink.written g.S.Sink.failed (together_of c.args.rules done named) c.in_err-check_veils.field-0.0
-    c.args.sink.now c.in_err-check_veils.ensures.unwritten
+    c.args.sink.now
     (λ other. ap (λ fault. unless_fault fault (together_lines c.args.rules done named)) (fault_veils done.table named none
     ∙ ap other_veils (sym live) ∙ c.in_err-check_veils.ensures.refused other)))
 
@@ -50,7 +48,7 @@ returns-in-Some g c =
     let done = as_replayed c.args.replay.now in
     let named = named_by c.args.members.now in
     let none = subst (λ (table : CallTable). first_refused table named ≡ None) c.table.ensures c.in_ok-check_members.ensures.listed in
-    let live = ap named_by c.as_slice.ensures.value ∙ c.in_ok-living.ensures.living in
+    let live = ap named_by c.as_slice.ensures.value ∙ c.in_ok-living.ensures in
     let behind = ap named_by (sym (c.as_slice-3.ensures.value) ∙ c.in-Some.ensures.cases.0) in
     let front : c.as_str-front.result.now ≡ answer_lines 1 done.answers = c.as_str-front.ensures.value ∙ c.in_ok-front.ensures ∙
     ap (λ told. answer_lines 1 (map line_seen told)) c.as_slice-2.ensures.value in
@@ -60,7 +58,7 @@ returns-in-Some g c =
     ∙ ap other_veils (sym live) ∙ c.in_ok-check_veils.ensures.alike))
     (subst (λ (text : List ℕ). AnswersTo g.S.Sink.written g.S.Sink.failed (Ok text) c.joint_to.result c.args.sink.now c.joint_to.new.sink)
     (ap (λ front. front ++ together_list c.args.rules (tmp_table done.table) done.world.tree named) front)
-    (c.joint_to.ensures (sym behind ∙ c.in_ok-living.ensures.living) none))
+    (c.joint_to.ensures (sym behind ∙ c.in_ok-living.ensures) none))
 
 pub returns : goal.returns
 returns g c =
@@ -68,9 +66,9 @@ returns g c =
     let tmp : CallTable = tmp_table done.table in
     let named = named_by c.args.members.now in
     let none = subst (λ (table : CallTable). first_refused table named ≡ None) c.table.ensures c.in_ok-check_members.ensures.listed in
-    let live = ap named_by c.as_slice.ensures.value ∙ c.in_ok-living.ensures.living in
+    let live = ap named_by c.as_slice.ensures.value ∙ c.in_ok-living.ensures in
     let nobody : [] ≡ living named = sym (nobody_named c.as_slice-3.result.now c.in-None.ensures.cases)
-    ∙ ap named_by c.as_slice-3.ensures.value ∙ c.in_ok-living.ensures.living in
+    ∙ ap named_by c.as_slice-3.ensures.value ∙ c.in_ok-living.ensures in
     let front : c.as_str-front.result.now ≡ answer_lines 1 done.answers = c.as_str-front.ensures.value ∙ c.in_ok-front.ensures ∙
     ap (λ told. answer_lines 1 (map line_seen told)) c.as_slice-2.ensures.value in
     answers_told g.S.Sink.written g.S.Sink.failed (together_of c.args.rules done named) (together_lines c.args.rules done named)

@@ -10,7 +10,7 @@ returns-in_err-members g c =
     let done = as_replayed c.args.replay.now in
     let p = err_from_is_err_and c.from_residual.result c.from_residual.ensures.1 in
     rw (p.1, p.2) (first_refuses g.S.Sink.written g.S.Sink.failed (all_made done.world (numbers_in done.world c.args.whose.now))
-    (together_of c.args.rules done) c.in_err-members.field-0.0 c.args.sink.now c.in_err-members.ensures.unwritten
+    (together_of c.args.rules done) c.in_err-members.field-0.0 c.args.sink.now
     c.in_err-members.ensures.refused)
 
 pub returns : goal.returns

@@ -12,13 +12,14 @@ returns-in_err-replay-clause-refused c =
     let p = err_from_is_err_and c.from_residual.result c.from_residual.ensures.1 in
     rw (p.1, p.2) refuses
 
-pub returns-in-Ok-clause-done : goal.returns-in-Ok-clause-done
-returns-in-Ok-clause-done c =
+pub returns-clause-done : goal.returns-clause-done
+returns-clause-done c =
     (λ i. c.in_ok-replay.ensures.done i >>= λ done. as_listed (listed done.world.tree))
-    ∙ ap as_listed (ap listed (sym c.tree.ensures) ∙ c.in-Ok.ensures.text)
+    ∙ ap as_listed (ap listed (sym c.tree.ensures) ∙ c.in_ok-text.ensures.text)
 
-pub returns-in-Err-clause-refused : goal.returns-in-Err-clause-refused
-returns-in-Err-clause-refused c = λ other.
+pub returns-in_err-text-clause-refused : goal.returns-in_err-text-clause-refused
+returns-in_err-text-clause-refused c =
+    let p = err_from_is_err_and c.from_residual-in_err-text.result c.from_residual-in_err-text.ensures.1 in
+    rw (p.1, p.2) (λ other.
     (λ i. c.in_ok-replay.ensures.done i >>= λ done. as_listed (listed done.world.tree))
-    ∙ ap as_listed (ap listed (sym c.tree.ensures) ∙ c.in-Err.ensures.fault (λ is. other (c.of_list.ensures.told ∙ ap list_fault is)))
-    ∙ ap Err (sym c.of_list.ensures.told)
+    ∙ ap as_listed (ap listed (sym c.tree.ensures) ∙ c.in_err-text.ensures.fault (λ is. other (ap list_fault is))))

@@ -3,8 +3,8 @@ use Rattle.pua_script.specs.Worlds.{WorldState, run_to}
 use Rattle.pua_script.specs.declared.answer.Answer.{Answer}
 use Rattle.pua_tool.proofs.two_worlds.serve.Goals as goal
 
-pub returns-clause-done : goal.returns-clause-done
-returns-clause-done c = (
+pub returns : goal.returns
+returns c = (
   refl,
   λ same.
       let served : ◌≡◌ {A = List Answer × WorldState} _ _ = c.in-Ok.ensures.served ∙ ap (λ (s : WorldState). run_to s c.args.requests) same in

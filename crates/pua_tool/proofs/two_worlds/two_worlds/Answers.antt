@@ -1,5 +1,5 @@
 use Rattle.pua_tool.proofs.Common.{◌≡◌, ◌≢◌, Ok, Err, ap, sym, ◌∙◌, rules, Tree, script_by, new_world, choice_of}
-use Rattle.pua_tool.proofs.Common.{OutOfMemory, if_err, if_ok}
+use Rattle.pua_tool.proofs.Common.{OutOfMemory}
 use Rattle.pua_script.specs.Worlds.{WorldState, with_table}
 use Rattle.pua_tool.specs.TwoWorlds.{asked_over}
 use Rattle.pua_tool.specs.WhyTexts.{served_script}
@@ -29,8 +29,8 @@ returns-in-Err-clause-refused c = λ other.
     script_refuses (choice_of c.args.choice) c.args.tree_bytes.now c.args.script_bytes.now c.in_ok-table.table c.in_ok-before.before.tree
     c.in-Err.fault c.in_ok-table.ensures.read before.read (c.in-Err.ensures.refused other)
 
-pub returns-in-Ok-clause-done : goal.returns-in-Ok-clause-done
-returns-in-Ok-clause-done c =
+pub returns-in_ok-serve-in-Ok-clause-done : goal.returns-in_ok-serve-in-Ok-clause-done
+returns-in_ok-serve-in-Ok-clause-done c =
     let rules = c.in_ok-table.table in
     let asks = c.in-Ok.requests in
     let before = c.in_ok-before.ensures.new in
@@ -41,11 +41,8 @@ returns-in-Ok-clause-done c =
     let asked = posed_is (choice_of c.args.choice) c.args.tree_bytes.now c.args.script_bytes.now rules tree asks c.in_ok-table.ensures.read
     before.read c.in-Ok.ensures.script
     ∙ ap (λ (s : WorldState). Ok (asked_over s asks)) (sym before.new) in
-    if_ok c.serve.result (λ done served. (
+    let served = c.in_ok-serve-in-Ok.ensures in (
       asked ∙ ap Ok (sym served.0),
       read ∙ ap (λ p. Ok p.asks) (sym served.0),
       served.1 alike,
-    )) c.serve.ensures.done
-
-pub returns-in-Ok-clause-refused : goal.returns-in-Ok-clause-refused
-returns-in-Ok-clause-refused c = if_err c.serve.result (λ fault memory other. absurd (other memory)) c.serve.ensures.memory
+    )
