@@ -18,6 +18,7 @@ use Futures;
 use Listed qw(lists_of state_of);
 use Model;
 use Openings qw(has_opening);
+use Plays qw(asked behind differs told);
 use Things;
 use Tree qw(unspelled);
 use Worlds qw(answer_of program_in worlds_told);
@@ -156,7 +157,7 @@ sub drawn {
         next if defined lacks_c($model);
         $files->{script} = first_script($model);
         $model->run($files->{script});
-        return { files => $files, rules => $words, model => $model };
+        return { program => $PUA, files => $files, rules => $words, model => $model };
     }
 }
 
@@ -207,25 +208,6 @@ sub nested_veils {
     my $inner = $worlds->pick(@dirs)->{path};
     my ($outer) = $inner =~ m{\A(.*)/};
     return ("1 unveil $outer " . $worlds->pick(qw(r rw rx w)), "1 unveil $inner " . $worlds->pick(qw(c wc rwc xc)));
-}
-
-# What the program prints of a world, behind these words; it has to end with status 0.
-sub asked {
-    my ($world, @words) = @_;
-    my ($status, $out, $err) = answer_of($PUA, $world->{files}, words_of($world, @words));
-    return $out if $status == 0 && $err eq '';
-    diag(told($world, @words));
-    BAIL_OUT("status $status: $err");
-}
-
-sub words_of {
-    my ($world, @words) = @_;
-    return (@words, @{ $world->{rules} }, 'listing', 'script');
-}
-
-sub told {
-    my ($world, @words) = @_;
-    return worlds_told($world->{files}, words_of($world, @words));
 }
 
 # Whether there is a fault, which is told with the world's listing, script and list for ever.
@@ -333,12 +315,6 @@ sub with_reasons {
     return join ' ', $kind, $path, $calls, $promises eq '' ? '=' : $promises, @told ? @veils[@told] : '- - -';
 }
 
-sub differs {
-    my ($list, @wanted) = @_;
-    my @lines = map { $_->{text} } @{ $list->{lines} };
-    return "@lines" eq "@wanted" ? undef : join "\n", 'the lines:', @lines, 'and by the model:', @wanted;
-}
-
 # What some random future leaves beyond the list for ever, if one does. The script of the world is then that up to
 # there.
 sub beyond_ever {
@@ -379,35 +355,11 @@ sub played {
     for (1 .. 1 + $worlds->number(5)) {
         my $count = $worlds->pick(1, 2, 4, 8, 16);
         my @lines = $futures->lines($play->{model}, $play->{list}, $count, @{ $play->{alive} });
-        my $fault = behind($world, $play, \@lines);
+        my $fault = behind($world, $play, \@lines, { answer => \&beyond_answer, lists => \&beyond_lists });
         return $fault if defined $fault;
         last if $play->{has_exec} || !@{ $play->{alive} };
     }
     return;
-}
-
-# The first fault of some lines, which are put behind the world's script, and of the lists after them.
-sub behind {
-    my ($world, $play, $lines) = @_;
-    my $script = $world->{files}{script};
-    my $told = asked_behind($world, $script, @$lines);
-    my @answers = splice @{ $told->{answers} }, -@$lines;
-    for my $place (0 .. $#$lines) {
-        chomp(my $line = $lines->[$place]);
-        my $fault = beyond_answer($world, $play, $line, $answers[$place]);
-        return $fault if defined $fault;
-        next if !$play->{has_exec};
-        $told = asked_behind($world, $script, @$lines[ 0 .. $place - 1 ]);
-        last;
-    }
-    return beyond_lists($world, $play, $told->{lists});
-}
-
-# All lists behind a script and some lines, which become the world's.
-sub asked_behind {
-    my ($world, @parts) = @_;
-    $world->{files}{script} = join '', @parts;
-    return lists_of(asked($world, 'objects', '--process', 'all'));
 }
 
 # The fault of a request and its answer. An exec by which a future ends isn't served by the model.
