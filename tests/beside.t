@@ -163,7 +163,7 @@ sub is_told {
     return 1;
 }
 
-# What a list says of its process and of the others, but for what is said of openings, and what it should say.
+# What a list says of its process and of the others, but for openings and what is received, and what it should say.
 sub not_headed {
     my ($world) = @_;
     my @members = @{ $world->{members} };
@@ -171,7 +171,7 @@ sub not_headed {
         my $list   = $world->{evers}{$member};
         my $others = join ',', grep { $_ != $member } @members;
         return "process $member is beside " . ($list->{beside} // 'nobody') if ($list->{beside} // '') ne $others;
-        my $state  = join '', map { "$_\n" } grep { !/\Aopening / } @{ $list->{state} };
+        my $state  = join '', map { "$_\n" } grep { !/\A(?:opening|receive) / } @{ $list->{state} };
         my $wanted = $world->{model}->state($member) =~ s/^opening .*\n//gmr;
         $wanted =~ s/^(unveil \S+\n)/$1exec $world->{found}{exec}\n/m if $world->{found}{exec};
         return "process $member has the state\n$state, and not\n$wanted" if $state ne $wanted;

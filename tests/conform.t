@@ -7,9 +7,10 @@
 # processes and real calls in a directory of their own, as tools/conform.pl does. It has to be root; where it isn't, or
 # chroot(2) is refused, all is passed over.
 #
-# - The program's answers, and the names that it lists afterwards, are those of the plain model (tests/lib/Linux.pm
-#   without any of its rules).
-# - The kernel's answers, and what stands there afterwards, are those of that model with all rules.
+# - The program's answers, the names that it lists afterwards, and what it says that a process has open, are those of the
+#   plain model (tests/lib/Linux.pm without any of its rules).
+# - The kernel's answers, what stands there afterwards, and what is open then and where, are those of that model with all
+#   rules.
 # - Each answer that is another is so by one to three of the rules, and each rule is needed for some.
 # - Each wrong model of the table is noticed.
 use strict;
@@ -34,6 +35,7 @@ plan skip_all => 'chroot(2) is refused here' if !may_chroot($room);
 
 my $PROGRAM = program_in(@ARGV);
 my $CASES = 600;
+my $HELD  = 200;       # about descriptors
 my $SEED  = 20;
 my $MOST_RULES = 3;    # by which one difference may be explained
 
@@ -106,6 +108,13 @@ my @WRONG = (
         $model->{processes}{$number}{dir} = 0 if $answer eq 'ok';
         return $answer;
     }],
+    ['a child has nothing open', 'Model::_fork', sub {
+        my ($right, $model, $process, $number) = @_;
+        my $answer = $right->($model, $process, $number);
+        $model->{processes}{$number}{files} = {} if $answer eq 'ok';
+        return $answer;
+    }],
+    ['what is open has one name', 'Model::_paths_of', sub { my ($right, @rest) = @_; return ($right->(@rest))[0] || () }],
     ['a directory that is made again is the old one', 'Linux::resolve', sub {
         my ($right, $linux, $from, @rest) = @_;
         my $over = exists $linux->{dead}{$from} ? $linux->{dead}{$from} : undef;
@@ -134,6 +143,7 @@ sub followed {
 my (@cases, @wrong, %found, %count);
 my $cases = Cases->new($SEED);
 try_case("case $_", $cases->next_case($Cases::KINDS[ $_ % @Cases::KINDS ])) for 0 .. $CASES - 1;
+try_case("case $_ about descriptors", $cases->next_case('files')) for 1 .. $HELD;
 for my $folder (glob "$Bin/../examples/*") {
     my @files = grep { -f "$folder/$_" } qw(listing script) or next;
     my @lines = map { s/(?:\A| +)#.*//r } split /^/m, content("$folder/script");
@@ -143,6 +153,8 @@ for my $folder (glob "$Bin/../examples/*") {
 is(join('', splice @wrong, 0, 5), '', "$count{cases} cases with $count{calls} calls: the kernel's answers");
 cmp_ok($count{calls}, '>', 15 * $CASES, "$count{same} of them are the program's too");
 cmp_ok($count{trees}, '>', $CASES / 2, "the names afterwards: in $count{trees} cases they are the program's too");
+cmp_ok($count{held}, '>', $HELD, "$count{held} open files, $count{nameless} of which have no name, $count{taken} taken");
+cmp_ok($count{$_}, '>', $HELD / 20, "$count{$_} $_") for qw(nameless taken entered);
 for my $rule (@Linux::RULES) {
     my ($name, $mark, $text) = @$rule;
     my $found = $found{$name} || {};
@@ -162,6 +174,8 @@ sub try_case {
     $fault = is_program($listing, $script, $left) if $fault eq '';
     return push @wrong, "$name: $fault" . worlds_told({ TREE => $listing, SCRIPT => $script }) if $fault ne '';
     $count{cases}++;
+    $count{held} += () = $left =~ /^held /mg;
+    $count{nameless} += () = $left =~ /^held .* -$/mg;
     explained($name, $listing, \@lines, $answers);
     return;
 }
@@ -190,8 +204,12 @@ sub is_program {
     return "the program answers otherwise than the plain model\n$out" if index($out, $answers) != 0;
     return '' unless defined $living;
     my $names = join '', sort map { m{\A((?:dir|file|prog|link) /\S*) }m ? "$1\n" : () } split /\n/, $out;
-    return "the program lists\n$names--- and not\n" . $plain->left if $names ne $plain->left;
-    $count{trees}++ if $names eq $left;
+    my $left_by = join '', $plain->names_left;
+    return "the program lists\n$names--- and not\n$left_by" if $names ne $left_by;
+    my $held = join '', sort map { /\Aheld ([0-9]+) \S+ (\S+) / ? "held $living $1 $2\n" : () } split /\n/, $out;
+    my $wanted = join '', sort $plain->held_by($living);
+    return "the program says\n$held--- and not\n$wanted" if $held ne $wanted;
+    $count{trees}++ if $names eq $left =~ s/^held .*\n//gmr;
     return '';
 }
 
@@ -204,6 +222,8 @@ sub explained {
         my $said = $answers->[$at];
         my $plain = dclone($world)->by->answer(@request);
         $count{calls}++;
+        $count{taken}++ if $request[1] eq 'take' && $said eq 'ok';
+        $count{entered}++ if $request[1] eq 'fchdir' && $said eq 'ok';
         if ($plain eq $said) { $count{same}++ }
         else {
             my @rules = fewest($world, $said, @request);

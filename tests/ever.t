@@ -243,10 +243,11 @@ sub beyond_alone {
     return;
 }
 
-# What the list of both says of their states, without what is said of exec and of openings, and what the model does.
+# What the list of both says of their states, without what is said of execs, of openings and of what can be received, and what
+# the model does.
 sub states_told {
     my ($world) = @_;
-    return join '', map { "$_\n" } grep { !/\A(?:exec|opening) / } @{ $world->{ever}{state} };
+    return join '', map { "$_\n" } grep { !/\A(?:exec|opening|receive) / } @{ $world->{ever}{state} };
 }
 
 sub states_wanted {

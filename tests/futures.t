@@ -20,6 +20,7 @@ use Worlds qw(answer_of program_in worlds_told);
 
 my $SEED   = 11;
 my $WORLDS = 24;
+my $HELD   = 8;     # with descriptors, by OpenBSD's rules
 my $CUTS   = 8;
 
 # How many lines a script has behind those that make its processes, and how many of them are drawn at once.
@@ -44,10 +45,11 @@ my @CLAIMS = (
 my %EDITS = map { $_ => 1 } qw(create mkdir rmdir unlink symlink bind mknod create-rw rename link);
 
 my $worlds = Worlds->new($SEED, { openings => 1 });
-my %counts = map { $_ => 0 } qw(edits opened lists alike audits children names);
+my %counts = map { $_ => 0 } qw(edits opened files lists alike audits children names);
 
-for my $number (1 .. $WORLDS) {
-    my $world = world($number % 3 ? {} : { rules => 'openbsd' });
+for my $number (1 .. $WORLDS + $HELD) {
+    $worlds = Worlds->new($SEED, { files => 1 }) if $number == $WORLDS + 1;
+    my $world = world($number % 3 && $number <= $WORLDS ? {} : { rules => 'openbsd' });
     my @cuts  = map { cut($world, $_ % 4) } 1 .. $CUTS;
     for my $claim (@CLAIMS) {
         my ($fault_of, $what) = @$claim;
@@ -55,8 +57,8 @@ for my $number (1 .. $WORLDS) {
         ok(!defined $faulty, "world $number: $what");
     }
 }
-note("$counts{edits} edits; $counts{opened} answers by a promise; $counts{lists} lists within those of before, ",
-    "of which $counts{alike} are the same after ",
+note("$counts{edits} edits; $counts{files} requests on descriptors; $counts{opened} answers by a promise; ",
+    "$counts{lists} lists within those of before, of which $counts{alike} are the same after ",
     "requests of others; $counts{audits} audits; $counts{children} lists of children; ",
     "$counts{names} names without c");
 done_testing();
@@ -72,7 +74,8 @@ sub world {
     my $futures = Futures->new($worlds, calls(), { proc => 1, exec => 1 }, 10);
     for (1 .. $LINES / $AT_ONCE) {
         my @askers = (1, 1, 2, 3, grep { $_ != $WITNESS } $model->living);
-        my @lines = $worlds->number(4) ? drawn($futures, $model, @askers) : $worlds->requests($AT_ONCE, @askers);
+        my $is_drawn = $worlds->files ? $worlds->number(4) == 0 : $worlds->number(4);
+        my @lines = $is_drawn ? drawn($futures, $model, @askers) : $worlds->requests($AT_ONCE, @askers);
         chomp @lines;
         push @{ $world->{lines} }, @lines;
         answers_of($model, @lines);
@@ -173,8 +176,9 @@ sub serve_rest {
         $cut->{askers}{$asker} = 1;
         next if !is_ok($cut->{end}, $asker, $call, @words);
         $cut->{origins}{ $words[0] } = origin($cut, $asker) if $call eq 'fork';
-        $cut->{moved}{$asker} = 1 if $call eq 'chdir';
+        $cut->{moved}{$asker} = 1 if $call eq 'chdir' || $call eq 'fchdir';
         $counts{edits} += $EDITS{$call} || 0;
+        $counts{files}++ if $call =~ /\A(?:hold|close|fchdir|take)\z/;
     }
     return;
 }

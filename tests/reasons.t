@@ -177,17 +177,26 @@ my @opened  = (
     '3 create /tmp/.', '3 open-w /tmp/b', '3 mkdir /tmp/d', '3 create /etc/a', '3 create /etc/../tmp/c',
     '3 create /tmp/../etc/a', '3 create tmp/e', '3 unlink /tmp/c', '3 pledge error,rpath -', '3 unlink /tmp/b',
 );
+my @files   = (
+    '1 fork 2', '1 close 3', '1 fchdir 3', '1 hold 3 open-r /f', '1 fchdir 3', '1 fork 3', '1 hold 4 open-r /a', '1 fchdir 4',
+    '1 fchdir 5', '1 close 5', '1 close 3', '1 close 3', '3 close 3', '3 fchdir 3', '2 take 3 1 3', '2 take 3 1 4', '2 fchdir 3',
+    '2 take 4 9 3', '2 take 4 3 3', '1 hold 3 open-r /f', '1 pledge error,rpath -', '2 take 5 1 4', '2 take 5 1 9', '1 take 5 2 3',
+    '2 hold 6 open-r /e', '2 pledge error,stdio,recvfd,sendfd -', '3 take 6 2 6', '3 take 6 2 3', '3 take 7 1 3', '1 hold 3 open-w /f',
+    '1 hold 3 open-r /none', '2 hold 3 open-r /a', '3 unveil /f r', '3 hold 3 open-r /a', '3 close 3', '3 hold 3 open-r /f', '2 exit',
+    '3 take 6 2 6', '3 exec /p', '3 close 3', '3 close 3', '3 fchdir 6', '3 pledge error,recvfd -', '3 take 1 1 4', '3 take 1 1 3',
+);
 my @by_hand = (
     [ 'each kind', $listing, $each ],
     [ 'many veils', $empty, [ '1 fork ' . OBSERVER, @veils ] ],
     [ 'many processes', $empty, [ '1 fork ' . OBSERVER, @forks ] ],
     [ 'calls without a path', $empty, [ '1 fork ' . OBSERVER, @uses ], 'openbsd' ],
+    [ 'descriptors', $listing, [ '1 fork ' . OBSERVER, @files ], 'openbsd' ],
     [ 'what promises open', $opened, [ '1 fork ' . OBSERVER, @opened ], 'openbsd' ],
 );
 for (@by_hand) {
     my ($name, $tree, $script, $rules) = @$_;
     my $world = Why::World->new($PROGRAM, $tree, { rules => $rules });
-    ask($world, "world of $name", $script, $name !~ /many/);
+    ask($world, "world of $name", $script, $name !~ /many|descriptors/);
     list($world, "world of $name", $script, \%NEEDS) if $name eq 'each kind';
     add_counts($world->counts);
 }

@@ -5,8 +5,7 @@
 #
 # Each audit that a row has whole is also resumed after each of its lines. With --plain the program is one that reads no
 # table of calls, has no reasons, says nothing behind a fault's line, lists nothing as it was before an exec, and lists for
-# ever by the standard rules alone, of one process without help, saying nothing of execs: rows that ask for more are left
-# out.
+# ever of one process without help: rows that ask for more are left out.
 use strict;
 use warnings;
 use FindBin qw($Bin);
@@ -105,9 +104,9 @@ sub is_left_out {
     return 1 if exists $entry->{advice};
     return 1 if @words && $words[0] =~ /\A(?:why|tree|tight|how)\z/;
     my $is_ever = grep { $_ eq '--ever' } @words;
-    return 1 if $is_ever && (text($entry, 'state') =~ /^exec /m || grep { /\A(?:all|\d+(?:,\d+)+)\z/ } @words);
+    return 1 if $is_ever && grep { /\A(?:all|\d+(?:,\d+)+)\z/ } @words;
     return 1 if ($entry->{status} || 0) != 2 && grep { /\A\d+(?:,\d+)+\z/ } @words;
-    return ($entry->{status} || 0) != 2 && grep { /\A--(?:table|why|how|images|beside)/ || $is_ever && /\A--rules/ } @words;
+    return ($entry->{status} || 0) != 2 && grep { /\A--(?:table|why|how|images|beside)/ } @words;
 }
 
 sub is_right {

@@ -21,11 +21,13 @@
 #                    copy of it, which goes on with the script after an exec, and pledge(2) has its
 #                    execpromises. Without it a `prog` is a file that no system can start: where
 #                    execve(2) says ENOEXEC, the answer is ok, and the process goes on as it is.
-#     --left         prints what stands in the tree afterwards too, a line `KIND PATH` each.
+#     --left         prints what stands in the tree afterwards too, a line `KIND PATH` each, and what
+#                    is open, a line `held PROCESS NUMBER PATH` for each of its names, or with `-`.
 #     --room DIR     makes the fresh directories in DIR, and not in TMPDIR or /tmp.
 #     --help         prints this.
 #
-# Words of its own among the answers: `left-out`; `too-long` for bind and connect with a path of
+# Words of its own among the answers: `left-out`, also for take on other systems than Linux, and where
+# the numbers of its calls aren't known, and for the hold of what no system opens; `too-long` for bind and connect with a path of
 # more than 103 bytes, which no address of a socket holds; `no-answer` of a process that is silent
 # for half a minute. `stdio` is added to all promises and execpromises, since the answers have to be
 # told. The open of a fifo that would wait, and that of a socket, is `ok`, as of the files that pua

@@ -164,6 +164,30 @@ answered('a removed working directory', "tree 1\n0 dir\n1 dir 0 a\n", <<'END_SCR
 1 create f
 2 stat /a/f
 END_SCRIPT
+my $HELD = <<'END_SCRIPT';
+1 hold 3 open-r /etc
+1 fork 2
+2 hold 4 open-rw /etc/passwd
+2 hold 4 open-w /etc
+2 fchdir 3
+2 stat passwd
+2 unlink /etc/passwd
+2 fchdir 4
+2 close 3
+2 fchdir 3
+1 rename /etc /tmp/etc
+1 hold 5 open-r /t
+1 close 5
+1 close 5
+END_SCRIPT
+answered('descriptors', $LISTING, $HELD, 'ok ok ok EISDIR ok ok ok ENOTDIR ok EBADF ok ok ok EBADF', '--left');
+for my $way ([], defined $helper ? ['--helper', $helper] : ()) {
+    last if $^O ne 'linux';
+    my $more = "1 take 6 2 4\n1 take 6 2 9\n1 unlink /tmp/again\n2 exec /tmp/sh\n1 take 7 2 4\n2 exit\n1 take 8 2 4\n";
+    my ($status, $out, $err) = conform('--room', "$room/cases", @$way, '--left', put('t', $LISTING), put('s', "$HELD$more"));
+    is(join(' ', (split / /, answers($out))[-7 .. -1]), 'ok EBADF ok ok ok ok EBADF', "what is taken, as Linux lets it @$way") or diag $err;
+    is(join('', $out =~ /^(held .*\n)/mg), "held 1 3 /tmp/etc\nheld 1 6 -\nheld 1 7 -\n", "and what is open at last @$way");
+}
 my $name = 'd' x 200;
 answered('a deep tree', join("\n", 'tree 1', '0 dir', map({ "$_ dir " . ($_ - 1) . " $name" } 1 .. 40), ''),
     "1 stat /$name\n1 chdir $name/$name/$name/$name\n1 chdir $name/$name/$name/$name\n", 'ok ok ok');

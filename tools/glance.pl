@@ -2,7 +2,7 @@
 # Prints at a glance what `pua objects` printed: a line for each process, and what no line of an
 # object shows:
 #
-#     glance.pl [-d] [-m MANIFEST] [-o HELD] [LIST]...
+#     glance.pl [-d] [-m MANIFEST] [LIST]...
 #
 # LIST is the output of `pua objects`, of now or with `--ever`; standard input if it is left out.
 # What is kept of several, or of all processes by `--process all`, comes one after the other, and so
@@ -10,9 +10,10 @@
 #
 # The line of a process has its veils and its lock, and how many lines of objects have something
 # that can be read, written, executed, made and removed; more than one of them may be about one
-# name. Below it stands, as far as it is so: that it has no veils at all, that it never pledged,
+# name. Below it stands, as far as it is so: what it has open, with what it may do with that; that
+# it takes descriptors from others; that it has no veils at all, that it never pledged,
 # that it can put further veils; that programs which it starts have no sandbox; which sockets it
-# can connect to and where it can bind one; that it takes descriptors from others; its promises
+# can connect to and where it can bind one; its promises
 # for the network; what its promises open past the veils, beside what stdio opens for every
 # process: /dev/null, /etc/localtime and /usr/share/zoneinfo; and which veils it can move below
 # another one, where a kernel may go on by what covered them before.
@@ -30,7 +31,6 @@
 #                  first, or their paths, where they are three at most.
 #     -m MANIFEST  what list.pl -m wrote: says first what the listing doesn't have, and of which
 #                  directories it doesn't have all files.
-#     -o HELD      what trace.pl -o wrote: says of each process what it holds open.
 #     --help       prints this text.
 #
 # A list is read a line at a time, and takes no more memory where it is longer, but for its regions;
@@ -48,7 +48,7 @@ BEGIN {
 use Getopt::Long qw(:config posix_default no_ignore_case bundling);
 use Pua::Calls qw(%OPENINGS is_veiled opened_by);
 use Pua::Help qw(help_of);
-use Pua::Lists qw(@COLUMNS columns has_promise held_of holds manifest_of read_lists state_of);
+use Pua::Lists qw(@COLUMNS columns has_promise holds manifest_of read_lists state_of);
 use Pua::Regions;
 use Pua::Together;
 
@@ -172,27 +172,36 @@ sub about_moves {
     return 'can move below another veil, where a kernel may go by the old place: ' . some(@moved);
 }
 
+# What is to be said of open files.
+sub about_files {
+    my ($state) = @_;
+    my @files = map { ($_->[2] eq '-' ? "a removed $_->[1]" : $_->[2]) . " ($_->[3])" }
+        @{ $state->{held} };
+    return (
+        (@files ? 'holds open ' . some(@files) : ()),
+        $state->{receive} ? 'takes descriptors from others: the list holds until it receives one'
+        : has_promise($state, 'recvfd') ? 'takes descriptors from others (recvfd)' : (),
+    );
+}
+
 # The lines of a process.
 sub lines_about {
-    my ($list, $held) = @_;
+    my ($list) = @_;
     my ($state, $counts) = (state_of($list), $list->{counts});
     my $name = "process $list->{process}" . ($list->{ever} ? ' ever' : '')
         . (defined $list->{before} ? " before $list->{before}" : '')
         . (defined $list->{beside} ? " beside $list->{beside}" : '');
     return "$name: ended" if $state->{ended};
     my $veils = @{ $state->{veils} };
-    my @says;
+    my @says = about_files($state);
     push @says, 'no veils at all: it touches what is not listed too'
         if !$veils && grep { holds($state, $_) } @ABOUT_PATHS;
     push @says, 'it never pledged: it holds all promises' if !$state->{promises};
     push @says, 'not locked: it can put further veils' if ($state->{unveil} || '') eq 'open';
     push @says, about_programs($list, $state, $counts->{executed}), about_sockets($list, $state);
-    push @says, 'takes descriptors from others (recvfd)' if has_promise($state, 'recvfd');
     my @network = grep { has_promise($state, $_) } @NETWORK;
     push @says, 'the network: ' . join ',', @network if @network;
     push @says, about_openings($state), about_moves($list, $state);
-    push @says, 'holds open ' . some(@{ $held->{ $list->{process} } })
-        if $held->{ $list->{process} };
     push @says, $list->{regions}->lines if $list->{regions};
     return ("$name: veils $veils, " . ($state->{unveil} || 'lock not told') . '; '
         . join(', ', map { "$_ $counts->{$_}" } @COLUMNS),
@@ -201,7 +210,7 @@ sub lines_about {
 
 # The lines of a file.
 sub lines_in {
-    my ($file, $held) = @_;
+    my ($file) = @_;
     my (%answer, @lists);
     my $together = Pua::Together->new($MOST_NAMED);
     read_lists($file, {
@@ -227,33 +236,30 @@ sub lines_in {
     my %is_alone = map { $_->{process} => 1 } grep { $_->{ever} && !defined $_->{beside} } @lists;
     my @told = grep { !defined $_->{beside} || !$is_alone{ $_->{process} } } @lists;
     return ('answers: ' . (join(', ', map { "$_ $answers{$_}" } sort keys %answers) || 'none'),
-        (map { lines_about($_, $held) } @told), $together->lines(\&some_of));
+        (map { lines_about($_) } @told), $together->lines(\&some_of));
 }
 
 sub fail { print STDERR "$NAME: @_\n"; exit 1 }
 
-my ($manifest, $held);
-my $understood = GetOptions(
-    'd' => \$by_regions, 'm=s' => \$manifest, 'o=s' => \$held, 'help' => \my $help,
-);
+my $manifest;
+my $understood = GetOptions('d' => \$by_regions, 'm=s' => \$manifest, 'help' => \my $help);
 if ($understood && $help) {
     print help_of(__FILE__, $NAME);
     exit 0;
 }
-if (!$understood || grep { $_ eq '' } @ARGV, grep { defined } $manifest, $held) {
-    print STDERR "usage: $NAME [-d] [-m MANIFEST] [-o HELD] [LIST]...\n";
+if (!$understood || grep { $_ eq '' } @ARGV, grep { defined } $manifest) {
+    print STDERR "usage: $NAME [-d] [-m MANIFEST] [LIST]...\n";
     exit 2;
 }
 my @files = @ARGV ? @ARGV : '/dev/stdin';
 my @lines;
 eval {
     my $missing = defined $manifest ? manifest_of($manifest) : {};
-    my $opened  = defined $held     ? held_of($held)         : {};
     my @not_all = grep { $missing->{$_} eq 'not-all' } sort keys %$missing;
     my @not_in  = grep { $missing->{$_} ne 'not-all' } sort keys %$missing;
     push @lines, 'not in the listing ' . some(@not_in) if @not_in;
     push @lines, 'not all listed in ' . some(@not_all) if @not_all;
-    push @lines, (@files > 1 ? "$_:" : ()), lines_in($_, $opened) for @files;
+    push @lines, (@files > 1 ? "$_:" : ()), lines_in($_) for @files;
     1;
 } or do {
     chomp(my $fault = $@);

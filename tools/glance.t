@@ -106,9 +106,9 @@ process 3: veils 1, locked; read 0, written 0, executed 0, made 0, removed 0
     programs that it starts have no sandbox, though none that is listed can be executed
 process 4: veils 1, given-up; read 0, written 0, executed 0, made 0, removed 0
 process 5: veils 3, locked; read 0, written 0, executed 0, made 0, removed 0
+    takes descriptors from others (recvfd)
     connects to each socket at or below /run, /var: no line shows it
     binds sockets at or below /var: no line shows it
-    takes descriptors from others (recvfd)
     the network: inet,dns
     opens past the veils /etc/resolv.conf, /etc/hosts, /etc/services, /etc/protocols
 process 6: veils 0, locked; read 0, written 0, executed 0, made 0, removed 0
@@ -381,7 +381,7 @@ process 1 before 2: veils 1, locked; read 1, written 0, executed 1, made 0, remo
 process 1: ended
 OUT
 
-# Many paths, several files, what the listing lacks, and what is held open.
+# Many paths, several files, and what the listing lacks.
 {
     file('list', 'objects 1', 'process alive', 'promises stdio,unix', 'execpromises -',
         'unveil locked',
@@ -390,28 +390,73 @@ OUT
         'promises =', 'execpromises -', 'unveil locked');
     file('manifest', 'left-out /usr/include', 'passed-over /root', 'left-out /a\\040b',
         'not-all /var', 'not-all /');
-    file('held', 'held 2 open-r /etc/ssl since line 3', 'held 2 open-rw - since line -',
-        'held 1 open-w /x since line 4');
-    my ($status, $out, $err) = glance('-m', 'manifest', '-o', 'held', 'list', 'other');
-    is($out, <<'END', 'two files, a manifest, and what is held');
+    my ($status, $out, $err) = glance('-m', 'manifest', 'list', 'other');
+    is($out, <<'END', 'two files, and a manifest');
 not in the listing /a\040b, /root, /usr/include
 not all listed in /, /var
 list:
 answers: none
 process 1: veils 7, locked; read 0, written 0, executed 0, made 0, removed 0
     connects to each socket at or below /s1, /s2, /s3, /s4, /s5 and 2 more: no line shows it
-    holds open open-w /x
 other:
 answers: ok 1
 process 1: ended
 process 2: veils 0, locked; read 0, written 0, executed 0, made 0, removed 0
-    holds open open-r /etc/ssl, open-rw -
 END
-    is("$status $err", '0 ', 'two files, a manifest, and what is held: the status');
+    is("$status $err", '0 ', 'two files, and a manifest: the status');
     file('manifest');
-    file('held');
-    is((glance('-m', 'manifest', '-o', 'held', 'other'))[1], (glance('other'))[1],
-        'an empty manifest, and nothing that is held');
+    is((glance('-m', 'manifest', 'other'))[1], (glance('other'))[1], 'an empty manifest');
+}
+
+# What is open stands before all else.
+{
+    file('list', split /\n/, <<'END');
+1 ok
+objects 1
+process alive
+rules openbsd
+promises -
+execpromises -
+unveil open
+no veils
+held 3 file /tmp/other read,write,chmod,chown
+held 3 file /tmp/two read,write,chmod,chown
+held 4 dir - read,chdir,chmod,chown
+dir / stat
+ever 2
+process alive
+rules openbsd
+promises recvfd,rpath
+execpromises -
+unveil given-up
+receive open
+veil /etc r
+held 0 file - =
+dir /etc stat
+objects 3
+process alive
+rules openbsd
+promises recvfd,stdio
+execpromises -
+unveil given-up
+no veils
+END
+    my ($status, $out, $err) = glance('list');
+    is($out, <<'END', 'what is open');
+answers: ok 1
+process 1: veils 0, open; read 1, written 0, executed 0, made 0, removed 0
+    holds open /tmp/other (read,write,chmod,chown), /tmp/two (read,write,chmod,chown), a removed dir (read,chdir,chmod,chown)
+    no veils at all: it touches what is not listed too
+    it never pledged: it holds all promises
+    not locked: it can put further veils
+    programs that it starts have no sandbox, though none that is listed can be executed
+process 2 ever: veils 1, given-up; read 1, written 0, executed 0, made 0, removed 0
+    holds open a removed file (=)
+    takes descriptors from others: the list holds until it receives one
+process 3: veils 0, given-up; read 0, written 0, executed 0, made 0, removed 0
+    takes descriptors from others (recvfd)
+END
+    is("$status $err", '0 ', 'what is open: the status');
 }
 
 # Regions. A directory begins one where another veil covers it, where its calls are others, and where
@@ -521,13 +566,11 @@ END
         [[$list, 'run'], 'run: it has no list of objects'],
         [['-m', file('bad', 'left-out usr'), $list], 'bad: line 1: no line of a manifest'],
         [['-m', 'none', $list], 'none: No such file or directory'],
-        [['-o', file('open', 'held 1 open-r /a since line 1', 'held 1 stat /a since line 1'),
-            $list], 'open: line 2: nothing that is held'],
     );
     is_deeply([glance(@{ $_->[0] })], [1, '', "glance.pl: $_->[1]\n"], "a fault: $_->[1]")
         for @faults;
-    my $usage = "usage: glance.pl [-d] [-m MANIFEST] [-o HELD] [LIST]...\n";
-    for my $words ([''], ['-m', ''], ['-o', '', 'list'], ['-q'], ['-m']) {
+    my $usage = "usage: glance.pl [-d] [-m MANIFEST] [LIST]...\n";
+    for my $words ([''], ['-m', ''], ['-o', 'held', 'list'], ['-q'], ['-m']) {
         my ($status, $out, $err) = glance(@$words);
         is("$status$out", '2', "wrong words: @$words");
         like($err, qr/\Q$usage\E\z/, "wrong words: @$words: the report");

@@ -6,9 +6,10 @@
 # TREE is the listing that `pua tree` prints, of the tree behind the script, and OBJECTS the output
 # of `pua objects`, of now or with `--ever`; standard input if it is left out. What is written is
 # one HTML file, without scripts, that loads nothing. For each list of OBJECTS, of which `--process
-# all` prints several, it has the state of the process, if there are lines about it, and the tree:
-# beside each name what can be read, written, executed, made and removed there, the veil whose place
-# stands there now, and what a promise opens there by itself. A directory is folded where nothing
+# all` prints several, it has the state of the process, if there are lines about it, what it has open
+# before all else, and the tree: beside each name what can be read, written, executed, made and
+# removed there, the veil whose place stands there now, what a promise opens there by itself, and what
+# is open there. A directory is folded where nothing
 # below it can be touched and no veil stands, and so are more than four such names beside others. An
 # open-rw stands in two columns, a create of what is there among what is written, and a connect too.
 #
@@ -56,6 +57,7 @@ my %STATES = (
     'exec bounded'    =>
         'programs that are started keep the veils, and hold the execpromises at most',
     'exec open'       => 'the list holds until a program is started',
+    'receive open'    => 'the list holds until a descriptor is received',
 );
 my $HEAD = <<'END';
 <!DOCTYPE html>
@@ -221,6 +223,8 @@ sub says {
     my ($line, $state, $can_start) = @_;
     return $STATES{$line} if $STATES{$line};
     return 'its directory was removed' if $line =~ /\Aveil - /;
+    return 'open, and no veil hides it' . ($1 eq '-' ? '; it has no name left' : '')
+        if $line =~ /\Aheld \S+ \S+ (\S+) \S+\z/;
     return $can_start ? 'unset: a program that it starts has no veils, and all promises but error'
         : 'unset; it can start no program'
         if $line eq 'execpromises -';
@@ -239,11 +243,12 @@ sub add_state {
     my $state = state_of($list);
     my $can_start = holds($state, 'exec')
         && grep { $_->[2] =~ /(?:\A|,)exec(?:,|\z)/ } @{ $list->{objects} };
-    my @lines = @{ $list->{state} };
+    my $is_first = qr/\A(?:held|receive) /;
+    my @lines = ((grep { /$is_first/ } @{ $list->{state} }), grep { !/$is_first/ } @{ $list->{state} });
     push @$page, "<ul>\n";
     push @$page, "<li><code>no lines on the state of the process</code> </li>\n" unless @lines;
     for my $line (@lines) {
-        my $class = $line =~ /\A(?:unveil open|process ended|no veils|exec open)\z/
+        my $class = $line =~ /\A(?:unveil open|process ended|no veils|exec open|receive open|held .*)\z/
             ? ' class="alarm"' : '';
         push @$page, "<li><code$class>" . text($line) . '</code> '
             . text(says($line, $state, $can_start)) . "</li>\n";
@@ -257,6 +262,8 @@ sub add_state {
         for grep { $_->[0] ne '-' } @{ $state->{veils} };
     push @{ node($tree, $_->[0])->{badges} }, ['veil', "opening $_->[1]"]
         for @{ $state->{openings} };
+    push @{ node($tree, $_->[2])->{badges} }, ['alarm', "held $_->[0] $_->[3]"]
+        for grep { $_->[2] ne '-' } @{ $state->{held} };
     return;
 }
 

@@ -161,6 +161,17 @@ my @site = ('1 dir 0 www', '2 dir 1 site', '3 file 2 index', '4 file 1 key', '5 
         '2 | key file | written: connect chown'], 'sockets have lines, and openings stand in the tree');
 }
 
+# What is open stands before the rest of the state, and in the tree.
+{
+    my $page = page_of('what is open', \@site, ['ever 1', 'process alive', 'promises recvfd,stdio', 'unveil locked', 'receive open',
+        'veil /www r', 'held 3 file /etc/passwd read', 'held 4 dir - read,chdir', 'dir /www stat']);
+    my @state = map { m{<li><code( class="alarm")?>([^<]*)</code> ([^<]*)</li>} ? ($1 ? '! ' : '') . "$2: $3" : () } split /^/, $page;
+    is_deeply([@state[0 .. 3]], ['! receive open: the list holds until a descriptor is received',
+        '! held 3 file /etc/passwd read: open, and no veil hides it',
+        '! held 4 dir - read,chdir: open, and no veil hides it; it has no name left', 'process alive: '], 'what is open stands first');
+    is_deeply([grep { /etc|passwd/ } rows($page)], ['1 | etc/', '2 | passwd file held 3 read'], 'and where it is in the tree');
+}
+
 # Names beside those that can be touched are folded where there are more than four; what a listing lacks stands
 # there.
 {
@@ -322,7 +333,7 @@ for my $output (glob "$Bin/../examples/*/{objects,all,openbsd}-output") {
     my ($status, $page, $err) = page("$story/listing", $output);
     my @counts = map { my $pattern = $_; scalar(() = $page =~ /$pattern/g) } 'class="row">', '<li>', '<b class="veil">';
     my @lines = map { my $pattern = $_; scalar(() = $text =~ /$pattern/mg) } '^(?!veil |opening )[a-z]+ /',
-        '^(?:process|rules|promises|execpromises|unveil|opening|no|veil) ', '^(?:veil|opening) /';
+        '^(?:process|rules|promises|execpromises|unveil|receive|opening|no|veil|held) ', '^(?:veil|opening) /';
     is("$status $err@counts", "0 @lines", 'objects, states and veils: ' . ($output =~ m{([^/]*/[^/]*)\z})[0]);
 }
 done_testing;

@@ -1,7 +1,7 @@
 #!/usr/bin/perl
 # Prints the script of a trace, as pua reads it:
 #
-#     trace.pl [-klvx] [-c ROOT] [-d DIRECTORY] [-e FILE] [-o FILE] [TRACE]
+#     trace.pl [-hklvx] [-c ROOT] [-d DIRECTORY] [-e FILE] [TRACE]
 #
 # TRACE is the text that kdump(1) prints of what `ktrace -i` traced; standard input if it is left
 # out. The script has a line for each call that pua knows, in the order in which the calls
@@ -19,6 +19,12 @@
 #                    run` does: so `pua run TREE SCRIPT | diff FILE -` shows where the two differ.
 #                    By its rules of OpenBSD pua says by which promise a path was opened, and FILE
 #                    doesn't: take it out by `sed 's/ by .*//'`.
+#     -h             writes what an open leaves open as a line `hold`, with a number from 3 on that no
+#                    other open file of the process has, a line `close` where its last descriptor is
+#                    closed, and `fchdir` where it is entered. One that is closed before any other
+#                    line stays an open. By its rules of OpenBSD alone pua knows these lines; it
+#                    prints what each process has open. With -c what was opened outside of ROOT has
+#                    no line.
 #     -k             writes connect, bind, mknod (mkfifo too), chown, create-rw (an open with
 #                    O_RDWR and O_CREAT), and fchmod and fchown by a descriptor that was opened for
 #                    reading, as lines of their own, which `pua` knows as calls by `--rules openbsd`
@@ -26,16 +32,12 @@
 #                    without a path ask for, such as accept, setuid, kill and flock: one for the
 #                    same promises since its last pledge or exec.
 #     -l             keeps what ld.so opens for a program.
-#     -o FILE        writes into FILE what each process still had open at its end, or at the end
-#                    of the trace, though it was opened before the last pledge or lock of the
-#                    process: `held P MODE PATH since line N`, of the script. A path is `-` where
-#                    nothing is known to be there.
 #     -v             names each report.
 #     -x             keeps exits, and what comes after the end of a process.
 #     --help         prints this text.
 #
 # Descriptors are followed, over copies, forks and execs. So a path that begins at a directory's
-# descriptor is written whole, fchdir is a chdir, and fchmod and its like are about the path that
+# descriptor is written whole, without -h fchdir is a chdir, and fchmod and its like are about the path that
 # was opened: a chmod of it, or, with -k and where it was opened for reading, an fchmod. What was
 # renamed or removed by the same path since then is followed too. Where such a path isn't known the
 # call is left out.
@@ -43,8 +45,8 @@
 # After chroot(2) paths are written with the new root before them, without -c.
 #
 # Two kinds of calls are left out since pua would end the process for them, and answer all its later
-# lines `gone`: without -k, what a promise opens by itself, such as /etc/resolv.conf for dns; and a
-# call about a descriptor, where the process doesn't hold the promises that the call needs by a path.
+# lines `gone`: without -h and -k, what a promise opens by itself, such as /etc/resolv.conf for dns; and
+# a call about a descriptor, where the process doesn't hold the promises that the call needs by a path.
 #
 # open is open-r, open-w, open-rw, create or, with -k, create-rw by its flags; access, statfs,
 # pathconf and realpath are stat; truncate is open-w; utimes and chflags are chmod: with -k those of
@@ -77,11 +79,12 @@ use Pua::Process qw($START moved plain tidy);
 use Pua::Reports qw($WRONG $MATTERS $REST spelled);
 
 my ($NAME) = $0 =~ m{([^/]*)\z};
-my $USAGE = "usage: $NAME [-klvx] [-c ROOT] [-d DIRECTORY] [-e FILE] [-o FILE] [TRACE]\n";
+my $USAGE = "usage: $NAME [-hklvx] [-c ROOT] [-d DIRECTORY] [-e FILE] [TRACE]\n";
 
 my $MOST_LINES     = 60_000;    # in a script
 my $MOST_PROCESSES = 256;       # that a script makes
 my $MOST_PATH      = 1023;      # bytes in a path
+my $MOST_NUMBER    = 1023;      # of what is held
 
 # What is followed, though it is no line: what each of these calls does to its process, if it
 # succeeds.
@@ -100,13 +103,13 @@ my %FOLLOWED = (
 
 my $NO_DIRECTORY = qr/\A(?:EBADF|ENOTDIR)\z/;    # what a descriptor of none is answered
 
-my ($directory, $answers_to, $held_to, $only);    # what -d, -e, -o and -c gave
-my ($further, $loaders, $verbose, $exits);        # whether -k, -l, -v and -x were given
+my ($directory, $answers_to, $only);                # what -d, -e and -c gave
+my ($holds, $further, $loaders, $verbose, $exits);  # whether -h, -k, -l, -v and -x were given
 my $started;       # the directory in which the first process began, where it is known
 my $first;         # process 1
 my @processes;     # those that have a number, in its order
-my $taken = 0;     # how many calls were taken
 my @entries;       # what becomes the lines of the script
+my $number_of = 2; # the last number of what is held: an open file has one, whichever descriptors it has
 my %roots = ('/' => 1);    # those that a process had
 my $reports = Pua::Reports->new;
 
@@ -349,7 +352,7 @@ sub path_fields {
 }
 
 # The promise by which a kernel looks up a file by itself, where pua answers otherwise. By its rules of
-# OpenBSD, for which -k is, it answers alike.
+# OpenBSD, for which -h and -k are, it answers alike.
 sub opening {
     my ($call, $as) = @_;
     my ($has, $needs) = ($call->{process}{has}, $NEEDS{$as});
@@ -358,7 +361,7 @@ sub opening {
     return if $has->holds(@$needs) && (!$has->{veiled} || $is_hidden);
     my ($path) = @{ $call->{paths} };
     my ($promise) = grep { $has->{promises}{$_} && opens($_, $path) } sort keys %OPENINGS;
-    return if !defined $promise || $further && opens($promise, $path, $as);
+    return if !defined $promise || ($holds || $further) && opens($promise, $path, $as);
     return $promise;
 }
 
@@ -381,6 +384,8 @@ sub fields {
         return;
     }
     my ($as, @paths) = path_fields($call) or return;
+    my $entered = $call->{name} eq 'fchdir' && $call->{process}{has}->file(descriptor($call, 0));
+    return ('fchdir', $entered->{hold}) if $entered && $entered->{hold};
     if (is_loaders($call, $as) && !$loaders) {
         note($REST, $call->{line}, 'left out: what ld.so opens (-l keeps it)');
         return;
@@ -476,7 +481,7 @@ sub follow {
     if ($as eq 'open') {
         my $flags = flags_of_open($call);
         my $mode = defined $flags ? $MODES[ $flags & 3 ] : undef;
-        my $file = $mode && { path => $path, mode => $mode, opened => $call };
+        my $file = $mode && { path => $path, mode => $mode };
         $has->opens($call->{value}, $file, ($flags || 0) & $BITS{O_CLOEXEC});
     } elsif ($as eq 'chdir') {
         @$has{qw(directory astray)} = ($path, 0);
@@ -492,9 +497,9 @@ sub follow {
         $process->{loading} = ($call->{paths}[1] || '') =~ m{/ld\.so\z};
     } elsif ($as eq 'pledge') {
         my @texts = @{ $call->{texts} }{qw(promise execpromise)};
-        $has->pledges((map { defined $_ ? promises($_) : undef } @texts), $call);
+        $has->pledges(map { defined $_ ? promises($_) : undef } @texts);
     } elsif ($as eq 'unveil') {
-        $has->{ is_null($call->{arguments}[0]) ? 'closed' : 'veiled' } = $call;
+        $has->{veiled} = 1 unless is_null($call->{arguments}[0]);
     }
     return;
 }
@@ -534,7 +539,7 @@ sub take_asked {
     my $is_refused = refused($call);
     return 1 if !$is_refused && $has->{asked}{$asks}++;
     my $answer = $is_refused ? $call->{answer} : 'ok';
-    push @entries, { %$call, fields => ['uses', $asks], answer => $answer, call => $call };
+    push @entries, { %$call, fields => ['uses', $asks], answer => $answer };
     return 1;
 }
 
@@ -574,20 +579,78 @@ sub take_line {
     $reports->be_quiet(!is_told($has));
     my @fields = fields($call);
     $reports->be_quiet(0);
-    push @entries, { %$call, fields => \@fields, call => $call } if @fields && is_told($has);
+    push @entries, { %$call, fields => \@fields } if @fields && is_told($has);
     note($WRONG, $call->{line},
         'may be wrong: paths below ' . spelled($has->{root})
             . ', after chroot(2): links and .. may lead elsewhere (see -c)')
         if @fields && !defined $only && $has->{root} ne '' && grep { ref } @fields;
     follow($call) if $call->{answer} eq 'ok';
+    hold($call) if $holds && $call->{answer} eq 'ok' && $call->{as} eq 'open' && @fields && is_told($has);
+    return;
+}
+
+# The open files of a process that are held, by their numbers.
+sub held_now {
+    my ($has) = @_;
+    return {} unless $has;
+    return { map { $_->{hold} => $_ } grep { $_->{hold} } values %{ $has->{files} } };
+}
+
+# The next number that no open file of a process has; undef where each is taken.
+sub next_number {
+    my ($has) = @_;
+    my $taken = held_now($has);
+    for (3 .. $MOST_NUMBER) {
+        $number_of = $number_of == $MOST_NUMBER ? 3 : $number_of + 1;
+        return $number_of if !$taken->{$number_of};
+    }
+    return;
+}
+
+# An open that succeeded gets a number; what O_CREAT opens is made first.
+sub hold {
+    my ($call) = @_;
+    my $has = $call->{process}{has};
+    my $file = $has->file($call->{value}) or return;
+    my ($entry, $number) = ($entries[-1], next_number($has));
+    return note($MATTERS, $call->{line}, "$call->{name} is not held: the process has too much open")
+        if !defined $number;
+    my ($as, $path) = @{ $entry->{fields} };
+    $file->{hold} = $number;
+    my @held = ('hold', $number, $file->{mode}, $path);
+    if ($as =~ /\Acreate/) { push @entries, { %$entry, fields => \@held, maker => $entry } }
+    else                   { $entry->{fields} = \@held }
+    return;
+}
+
+# Files of which the last descriptor was closed. One that was closed before any other line was only
+# opened.
+sub close_held {
+    my ($call, $before) = @_;
+    my $after = held_now($call->{process}{has});
+    for my $number (sort { $a <=> $b } grep { !$after->{$_} } keys %$before) {
+        my $last = $entries[-1];
+        my $is_last = $last->{process} == $call->{process}
+            && $last->{fields}[0] eq 'hold' && $last->{fields}[1] == $number;
+        if    (!$is_last)      { push @entries, { %$call, fields => ['close', $number], answer => 'ok' } }
+        elsif ($last->{maker}) { pop @entries }
+        else                   { splice @{ $last->{fields} }, 0, 2 }
+    }
     return;
 }
 
 # Takes a call into the script, in the order of the returns.
 sub take {
     my ($call) = @_;
+    my $before = $holds && $call->{process} ? held_now($call->{process}{has}) : undef;
+    take_one($call);
+    close_held($call, $before) if $before && %$before;
+    return;
+}
+
+sub take_one {
+    my ($call) = @_;
     my $process = $call->{process} or return;
-    $call->{order} = $taken++;
     $call->{as}    = $CALLS{ $call->{name} };
     my $killed = ($call->{answer} || '') eq 'killed';
     if (!$process->{has}) {
@@ -651,26 +714,8 @@ sub lines {
         push @answers, @script . ' ' . ($process->{gone} ? 'gone' : $entry->{answer}) . "\n";
         $process->{lines}++;
         $process->{gone} = 1 if $fields[0] eq 'exit' || $entry->{answer} eq 'killed';
-        $entry->{call}{put} = @script if $entry->{call};
     }
     return (\@script, \@answers);
-}
-
-# What the processes still have open, though it was opened before they closed their sandbox for
-# the last time.
-sub held {
-    my @held;
-    for my $process (grep { $_->{made} && !($exits && $_->{gone}) } @processes) {
-        my $closed = $process->{has}{closed} or next;
-        my %files = map { $_ => $_ } values %{ $process->{has}{files} };
-        for my $file (sort { $a->{opened}{order} <=> $b->{opened}{order} } values %files) {
-            next if $file->{opened}{order} > $closed->{order};
-            push @held, join(' ', 'held', $process->{number}, $file->{mode},
-                defined $file->{path} ? path($file->{path}) : '-',
-                'since line', $file->{opened}{put} || '-') . "\n";
-        }
-    }
-    return \@held;
 }
 
 # Reports how the trace begins, and what was noted, by its weight.
@@ -721,14 +766,14 @@ sub write_file {
 }
 
 my $understood = GetOptions(
-    'c=s' => \$only, 'd=s' => \$directory, 'e=s' => \$answers_to, 'o=s' => \$held_to,
-    'k' => \$further, 'l' => \$loaders, 'v' => \$verbose, 'x' => \$exits, 'help' => \my $help,
+    'c=s' => \$only, 'd=s' => \$directory, 'e=s' => \$answers_to, 'h' => \$holds, 'k' => \$further,
+    'l' => \$loaders, 'v' => \$verbose, 'x' => \$exits, 'help' => \my $help,
 );
 if ($understood && $help) {
     print help_of(__FILE__, $NAME);
     exit 0;
 }
-if (!$understood || @ARGV > 1 || grep({ $_ eq '' } @ARGV, grep { defined } $answers_to, $held_to)
+if (!$understood || @ARGV > 1 || grep({ $_ eq '' } @ARGV, grep { defined } $answers_to)
     || grep { !m{\A/} } grep { defined } $only, $directory) {
     print STDERR $USAGE;
     exit 2;
@@ -754,9 +799,7 @@ $started = $first->{has}{directory} = tidy($directory) if defined $directory;
 my @calls = @{ $trace->{calls} };
 take($_) for @calls;
 my ($script, $answers) = lines();
-my $held = held();
 write_file($answers_to, $answers) if defined $answers_to;
-write_file($held_to, $held) if defined $held_to;
 report_all(scalar begins_with_exec(@calls), scalar @$script);
 report_processes();
 write_all(\*STDOUT, 'standard output', $script);

@@ -1068,21 +1068,70 @@ END
 }
 
 # Traces of whole daemons. Each file NAME-RUN.expected has the words of a run over NAME.kdump, and, apart from
-# each other by `--`, the script with its answers, the reports, and what is held.
+# each other by `--`, the script with its answers, and the reports.
 for my $file (glob "$Bin/../tests/data/traces/*.expected") {
     my ($name, $run) = basename($file) =~ /\A(\w+)-(\w+)\.expected\z/;
     my ($words, $expected) = split /\n/, content($file), 2;
-    my ($lines, $reports, $held) = split /^--\n/m, $expected, 3;
-    unlink 'answers', 'held';
+    my ($lines, $reports) = split /^--\n/m, $expected, 2;
+    unlink 'answers';
     my ($status, $out, $err) =
-        trace('-e', 'answers', '-o', 'held', split(/ /, $words), "$Bin/../tests/data/traces/$name.kdump");
+        trace('-e', 'answers', split(/ /, $words), "$Bin/../tests/data/traces/$name.kdump");
     my $number = 0;
     is($out, $lines =~ s/ : \S+$//gmr, "$name, $run: the script");
     is(content('answers'), $lines =~ s/^.* : (\S+)$/++$number . " $1"/gmer, "$name, $run: the answers");
     is($err, $reports =~ s/^/trace.pl: /gmr, "$name, $run: the reports");
-    is(content('held'), $held, "$name, $run: what is held");
     is($status, 0, "$name, $run: the status");
-    is(system("$PUA run tree out > ran"), 0, "$name, $run: pua reads it") if defined $PUA && $words !~ /k/;
+    my $rules = $words =~ /[hk]/ ? 'openbsd' : 'profile';
+    is(system("$PUA run --rules $rules tree out > ran"), 0, "$name, $run: pua reads it") if defined $PUA;
+}
+
+# What stays open is held, until its last descriptor is closed.
+{
+    put('trace', kdump(<<'END'));
+7 open(0x1c60,0x601<O_WRONLY|O_CREAT|O_TRUNC>,0644) = 3 "/new"
+7 close(3) = 0
+7 open(0x1c60,0<O_RDONLY>) = 3 "/a"
+7 close(3) = 0
+7 open(0x1c60,0x202<O_RDWR|O_CREAT>,0600) = 3 "/both"
+7 open(0x1c60,0x20000<O_RDONLY|O_DIRECTORY>) = 4 "/dir"
+7 dup(4) = 5
+7 close(4) = 0
+7 fork() = 8
+7 fchdir(5) = 0
+8 close(3) = 0
+7 close(5) = 0
+7 open(0x1c60,1<O_WRONLY>) = 4 "b"
+7 CALL  pledge(0x1c60,0)
+7 STRU  promise="stdio"
+7 RET   pledge 0
+7 open(0x1c60,0<O_RDONLY>) = 6 "/etc/localtime"
+8 fchdir(5) = 0
+END
+    my ($status, $out, $err) = trace('-hk');
+    is($status . $out, <<'END', 'what is held');
+01 create /new
+1 open-r /a
+1 create-rw /both
+1 hold 5 open-rw /both
+1 hold 6 open-r /dir
+1 fork 2
+1 fchdir 6
+2 close 5
+1 close 6
+1 hold 7 open-w b
+1 pledge stdio -
+1 hold 8 open-r /etc/localtime
+2 fchdir 6
+END
+    is(system("$PUA run --rules openbsd tree out > ran"), 0, 'what is held: pua reads it') if defined $PUA;
+    my $opens = join '', map { qq(7 open(0x1c60,0<O_RDONLY>) = 3 "/a"\n7 stat(0x1c60,0x1d60) = 0 "/b"\n7 close(3) = 0\n) } 1 .. 1_022;
+    put('trace', kdump($opens));
+    (undef, $out) = trace('-h');
+    is_deeply([ $out =~ /hold (\d+)/g ], [3 .. 1_023, 3], 'a number comes again once it is free');
+    put('trace', kdump(join '', map { qq(7 open(0x1c60,0<O_RDONLY>) = $_ "/a"\n) } 3 .. 1_024));
+    (undef, $out, $err) = trace('-h');
+    is_deeply([ $out =~ /hold (\d+)/g ], [3 .. 1_023], 'as many as a process holds');
+    is(said_of_lines($err), "trace.pl: line 3064: open is not held: the process has too much open (1 in all)\n", 'and one more');
 }
 
 # Lines that are no records.
@@ -1158,9 +1207,9 @@ END
 
 # The words.
 {
-    my $usage = "usage: trace.pl [-klvx] [-c ROOT] [-d DIRECTORY] [-e FILE] [-o FILE] [TRACE]\n";
+    my $usage = "usage: trace.pl [-hklvx] [-c ROOT] [-d DIRECTORY] [-e FILE] [TRACE]\n";
     put('trace', kdump('7 CALL  exit(0)'));
-    for my $words (['a', 'b'], [''], ['-e', ''], ['-e'], ['-d', 'home'], ['-d', ''], ['-c', 'www'], ['-c', ''], ['-o', ''], ['-q']) {
+    for my $words (['a', 'b'], [''], ['-e', ''], ['-e'], ['-d', 'home'], ['-d', ''], ['-c', 'www'], ['-c', ''], ['-o', 'a'], ['-q']) {
         my ($status, $out, $err) = trace(@$words);
         is("$status$out", '2', "wrong words: @$words");
         like($err, qr/\Q$usage\E\z/, "wrong words: @$words: the report");

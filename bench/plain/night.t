@@ -5,8 +5,7 @@
 #
 # In each world both have to answer each command of the plain one alike: the run, whole and up to a line, which the script
 # may lack; the lists of all processes; and, of one process, its list, an audit, that audit resumed after one of its pairs,
-# and the list for ever. The plain one makes lists for ever by the standard rules alone and says nothing of execs: where the
-# program's has a line on them it isn't compared. Then the plain one has to pass tests/rows.t, as far as its commands go.
+# and the list for ever. Then the plain one has to pass tests/rows.t, as far as its commands go.
 use strict;
 use warnings;
 use FindBin qw($Bin);
@@ -26,7 +25,7 @@ my $PLAIN = "$room/plain";
 is(system('rustc', '-O', '--edition', '2024', '-o', $PLAIN, "$Bin/pua.rs"), 0, 'the plain program is built') or BAIL_OUT('no rustc');
 
 my %count = map { $_ => 0 } qw(commands bytes refused lasting differ);
-my $worlds = Worlds->new($SEED, { openings => 1 });
+my $worlds = Worlds->new($SEED, { openings => 1, files => 1 });
 for my $number (1 .. $WORLDS) {
     my $rules = $number % 2 ? 'profile' : 'openbsd';
     $worlds->by($rules);
@@ -42,7 +41,7 @@ for my $number (1 .. $WORLDS) {
         my $place = 2 * $worlds->number(@pairs / 2);
         compare($files, [@audit, '--after', "$pairs[$place + 1]:$pairs[$place]"], '--rules', $rules);
     }
-    compare($files, ['objects', '--ever', @of]) if $rules eq 'profile';
+    compare($files, ['objects', '--ever', @of], '--rules', $rules);
 }
 is($count{differ}, 0, "seed $SEED: $count{commands} commands over $WORLDS worlds, $count{bytes} bytes");
 cmp_ok($count{commands}, '>', 5 * $WORLDS, 'commands that were compared');
@@ -57,7 +56,6 @@ sub compare {
     my @words = (@$command, @rules, 'listing', 'script');
     my @here  = answer_of($PROGRAM, $files, @words);
     my $is_ever = grep { $_ eq '--ever' } @words;
-    return $here[1] if $is_ever && $here[1] =~ /^exec /m;
     my @there = answer_of($PLAIN, $files, @words);
     $count{commands}++;
     $count{bytes} += length $here[1];

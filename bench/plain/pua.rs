@@ -3,7 +3,7 @@
 // words are those of `pua`.
 
 use std::borrow::Cow;
-use std::collections::HashMap;
+use std::collections::{BTreeMap, HashMap};
 use std::fs;
 use std::hash::{BuildHasherDefault, Hasher};
 use std::io::{self, Write};
@@ -438,11 +438,17 @@ const ERROR: u64 = 1 << 8;
 const EXEC: u64 = 1 << 9;
 const FATTR: u64 = 1 << 10;
 const PROC: u64 = 1 << 17;
+const RECVFD: u64 = 1 << 20;
 const RPATH: u64 = 1 << 22;
+const SENDFD: u64 = 1 << 23;
+const STDIO: u64 = 1 << 25;
+const TMPPATH: u64 = 1 << 27;
 const UNIX: u64 = 1 << 29;
 const UNVEIL: u64 = 1 << 30;
 const WPATH: u64 = 1 << 34;
 const ALL_BUT_ERROR: u64 = ((1 << 36) - 1) & !ERROR;
+
+const MOST_DESCRIPTOR: u32 = 1_023;
 
 const R: u8 = 1;
 const W: u8 = 2;
@@ -506,11 +512,14 @@ const CALLS: [(Call, &str, u64, u8, bool); 21] = [
 /// rename and link need of their old names, whose new ones need `cpath` and `c`; whether these are OpenBSD's rules, by
 /// which execpromises stay after an exec, and promises open some paths by themselves.
 struct Rules {
-    calls: [(Vec<u64>, u8); 21],
+    calls: [Need; 21],
     rename: OldName,
     link: OldName,
     is_openbsd: bool,
 }
+
+/// What a call needs: one of these sets of promises, and letters.
+type Need = (Vec<u64>, u8);
 
 struct OldName {
     promises: u64,
@@ -523,6 +532,11 @@ static RULES: OnceLock<Rules> = OnceLock::new();
 
 fn rules() -> &'static Rules {
     RULES.get_or_init(Rules::standard)
+}
+
+/// Whether what is held has one of these sets.
+fn lets(sets: &[u64], held: u64) -> bool {
+    sets.iter().any(|promises| held & promises == *promises)
 }
 
 impl Rules {
@@ -598,8 +612,15 @@ fn object_fault(call: Call, object: Object) -> Option<Errno> {
 /// Where a veil is kept: on a directory, or on a name in one.
 type Place = (u32, Option<Box<[u8]>>);
 
+/// What an open file is: the node, and for which letters it was opened.
+#[derive(Clone, Copy)]
+struct OpenFile {
+    node: u32,
+    letters: u8,
+}
+
 /// What stays of a process's calls. Veils stand on directories, and on names in directories; `places` has them in the
-/// order in which they were first kept.
+/// order in which they were first kept. The open files are there by the numbers of their descriptors.
 #[derive(Clone, Default)]
 struct Process {
     promises: Option<u64>,
@@ -610,6 +631,7 @@ struct Process {
     is_locked: bool,
     has_ended: bool,
     dir: u32,
+    files: BTreeMap<u32, OpenFile>,
 }
 
 /// What is left of an object: nothing, or these letters.
@@ -652,7 +674,7 @@ impl Process {
     /// Whether one of these sets is held.
     fn may_by(&self, sets: &[u64]) -> Result<(), Errno> {
         match self.held() {
-            held if sets.iter().any(|promises| held & promises == *promises) => Ok(()),
+            held if lets(sets, held) => Ok(()),
             held if held & ERROR != 0 => Err("ENOSYS"),
             _ => Err("killed"),
         }
@@ -804,6 +826,21 @@ impl Process {
         })
     }
 
+    /// The open file of a descriptor.
+    fn file(&self, descriptor: u32) -> Result<OpenFile, Errno> {
+        self.files.get(&descriptor).copied().ok_or("EBADF")
+    }
+
+    /// What this process sends of its descriptor to one that was pledged or not.
+    fn sent(&self, tree: &Tree, descriptor: u32, is_pledged: bool) -> Result<OpenFile, Errno> {
+        let file = self.file(descriptor)?;
+        if self.held() & SENDFD == 0 {
+            return Err("EPERM");
+        }
+        let is_kept = tree.node(file.node).kind == Kind::Dir && (is_pledged || self.promises.is_some());
+        if is_kept { Err("EINVAL") } else { Ok(file) }
+    }
+
     /// What two paths name, if each is covered with the letters that it needs.
     fn pair<'a>(
         &self,
@@ -844,6 +881,12 @@ enum Action<'a> {
     Fork(u32),
     Exit,
     Uses(Vec<u64>),
+    /// An open whose file is kept as a descriptor.
+    Hold(u32, Call, Path<'a>),
+    Close(u32),
+    Fchdir(u32),
+    /// A descriptor, and that of another process, of which it is taken.
+    Take(u32, u32, u32),
 }
 
 fn read_path(field: &[u8]) -> Result<Path<'_>, &'static str> {
@@ -895,6 +938,16 @@ fn read_perms(field: &[u8]) -> Option<u8> {
     letters.iter().try_fold(0, |perms, byte| Some(perms | 1 << letter(byte)?))
 }
 
+/// For which letters a call opens what its path names, if it is one of the three that open and make nothing.
+fn opened_for(call: Call) -> u8 {
+    match call {
+        Call::OpenR => R,
+        Call::OpenW => W,
+        Call::OpenRw => R | W,
+        _ => 0,
+    }
+}
+
 fn read_call(word: &[u8]) -> Option<Call> {
     let call = CALLS.iter().find(|row| row.1.as_bytes() == word)?.0;
     (!rules().calls[call as usize].0.is_empty()).then_some(call)
@@ -912,10 +965,36 @@ fn neighbour(word: &[u8]) -> Option<Call> {
     }
 }
 
+/// The number of a descriptor.
+fn descriptor(field: &[u8]) -> Result<u32, &'static str> {
+    number(field).filter(|number| *number <= MOST_DESCRIPTOR).ok_or("bad call")
+}
+
+fn process_number(field: &[u8]) -> Option<u32> {
+    number(field).filter(|number| *number > 0)
+}
+
+/// What a line about descriptors asks for, which OpenBSD's rules alone have.
+fn read_on_files<'a>(fields: &[&'a [u8]]) -> Result<Action<'a>, &'static str> {
+    Ok(match *fields {
+        [b"close", file] => Action::Close(descriptor(file)?),
+        [b"fchdir", file] => Action::Fchdir(descriptor(file)?),
+        [b"take", file, from, theirs] => {
+            Action::Take(descriptor(file)?, process_number(from).ok_or("bad call")?, descriptor(theirs)?)
+        }
+        [b"hold", file, word, path] => {
+            let (file, call) = (descriptor(file)?, read_call(word).filter(|call| opened_for(*call) != 0).ok_or("bad call")?);
+            Action::Hold(file, call, read_path(path)?)
+        }
+        _ => return Err("bad call"),
+    })
+}
+
 fn read_action<'a>(fields: &[&'a [u8]]) -> Result<Action<'a>, &'static str> {
     let action = match *fields {
         [b"exit"] => Action::Exit,
-        [b"fork", new] => Action::Fork(number(new).filter(|new| *new > 0).ok_or("bad call")?),
+        [b"fork", new] => Action::Fork(process_number(new).ok_or("bad call")?),
+        [b"hold" | b"close" | b"fchdir" | b"take", ..] if rules().is_openbsd => read_on_files(fields)?,
         [b"uses", sets] if rules().is_openbsd => Action::Uses(read_sets(sets)?),
         [word, path] => match read_call(word).or_else(|| neighbour(word)) {
             None | Some(Call::Symlink) => return Err("bad call"),
@@ -958,7 +1037,7 @@ fn read_script(text: &[u8]) -> Result<Vec<Option<(u32, Action<'_>)>>, String> {
             requests.push(None);
             continue;
         }
-        let process = split(line, &mut fields).then(|| number(fields[0])).flatten().filter(|process| *process > 0);
+        let process = split(line, &mut fields).then(|| process_number(fields[0])).flatten();
         let read = process.ok_or("bad line").and_then(|process| Ok((process, read_action(&fields[1..])?)));
         requests.push(Some(read.map_err(|fault| format!("pua: script: line {}: {fault}", at + 1))?));
     }
@@ -973,10 +1052,21 @@ struct World {
 }
 
 impl World {
+    /// What a process is sent of another one's descriptor.
+    fn sent(&self, to: u32, from: u32, theirs: u32) -> Result<OpenFile, Errno> {
+        let is_pledged = self.processes.get(&to).is_some_and(|process| process.promises.is_some());
+        let sender = self.processes.get(&from).filter(|sender| !sender.has_ended).ok_or("EBADF")?;
+        sender.sent(&self.tree, theirs, is_pledged)
+    }
+
     /// The answer, and the promise that opened what is refused without.
     fn serve(&mut self, number: u32, action: &Action) -> (&'static str, Option<&'static str>) {
         let made = &self.processes;
         let is_refused = matches!(action, Action::Fork(new) if made.contains_key(new) || made.len() == 256);
+        let sent = match action {
+            Action::Take(_, from, theirs) => self.sent(number, *from, *theirs),
+            _ => Err("EBADF"),
+        };
         let Some(process) = self.processes.get_mut(&number).filter(|process| !process.has_ended) else {
             return ("gone", None);
         };
@@ -988,7 +1078,12 @@ impl World {
                 return ("ok", None);
             }
             Action::Fork(_) => process.may(PROC).map(|()| None),
+            Action::Take(file, ..) => process.may(RECVFD).and(sent).map(|sent| {
+                process.files.insert(*file, sent);
+                None
+            }),
             Action::OnPath(call, path) => on_path(&mut self.tree, process, *call, path),
+            Action::Hold(file, call, path) => hold(&self.tree, process, *file, *call, path),
             action => act(&mut self.tree, process, action).map(|()| None),
         };
         if done == Err("killed") {
@@ -996,6 +1091,20 @@ impl World {
         }
         done.map_or_else(|errno| (errno, None), |opener| ("ok", opener))
     }
+}
+
+/// Opens what a path names, and keeps it: the promise that opened it, where it is refused without.
+fn hold(
+    tree: &Tree,
+    process: &mut Process,
+    file: u32,
+    call: Call,
+    path: &[u8],
+) -> Result<Option<&'static str>, Errno> {
+    let (found, opener) = process.opened(tree, call, path)?;
+    let opened = found.node().map(|node| OpenFile { node, letters: opened_for(call) });
+    process.files.extend(opened.map(|opened| (file, opened)));
+    Ok(opener)
 }
 
 /// Makes a call on a path: the promise that opened it, where it is refused without.
@@ -1062,7 +1171,16 @@ fn act(tree: &mut Tree, process: &mut Process, action: &Action) -> Result<(), Er
             Ok(())
         }
         Action::Uses(sets) => process.may_by(sets),
-        Action::OnPath(..) | Action::Fork(_) => unreachable!(),
+        Action::Close(file) => process.files.remove(file).map(|_| ()).ok_or("EBADF"),
+        Action::Fchdir(file) => {
+            let dir = process.file(*file)?.node;
+            if tree.node(dir).kind != Kind::Dir {
+                return Err("ENOTDIR");
+            }
+            process.dir = dir;
+            Ok(())
+        }
+        Action::OnPath(..) | Action::Fork(_) | Action::Hold(..) | Action::Take(..) => unreachable!(),
     }
 }
 
@@ -1196,13 +1314,17 @@ const OBJECTS: [Object; 6] = [
 
 impl Allowed {
     fn new(held: u64) -> Allowed {
-        let calls = |fits: &dyn Fn(Call, &(Vec<u64>, u8)) -> bool| {
-            let fitting = CALLS.iter().zip(&rules().calls).filter(|(row, need)| fits(row.0, need));
+        Allowed::by(&rules().calls, held)
+    }
+
+    fn by(needs: &[Need; 21], held: u64) -> Allowed {
+        let calls = |fits: &dyn Fn(Call, &Need) -> bool| {
+            let fitting = CALLS.iter().zip(needs).filter(|(row, need)| fits(row.0, need));
             fitting.fold(0, |calls, (row, _)| calls | 1 << row.0 as u32)
         };
         Allowed {
             by_letters: std::array::from_fn(|kept| calls(&|_, (sets, letters)| {
-                sets.iter().any(|promises| held & promises == *promises) && kept as u8 & letters == *letters
+                lets(sets, held) && kept as u8 & letters == *letters
             })),
             by_object: OBJECTS.map(|object| calls(&|call, _| object_fault(call, object).is_none())),
         }
@@ -1562,7 +1684,7 @@ fn read_words(words: &[String]) -> Option<(Command, Words<'_>)> {
             _ => return None,
         }
     }
-    if read.is_ever && (read.process.is_none() || read.is_openbsd) {
+    if read.is_ever && read.process.is_none() {
         return None;
     }
     let has_enough = if is_audit { read.limit.is_some() && read.operands.len() >= 2 } else { read.operands.len() == 2 };
@@ -1587,8 +1709,8 @@ const OPENINGS: [(&str, &str); 14] = [
     ("tty", "/dev/tty open-r,open-w,open-rw veils"),
 ];
 
-/// Adds the lines of a process's state.
-fn state(out: &mut Vec<u8>, tree: &Tree, process: &Process) {
+/// Adds the lines of a process's state; in a list for ever with what that is of.
+fn state(out: &mut Vec<u8>, tree: &Tree, process: &Process, lasting: Option<&Lasting>) {
     if process.has_ended {
         out.extend_from_slice(b"process ended\n");
         return;
@@ -1601,9 +1723,14 @@ fn state(out: &mut Vec<u8>, tree: &Tree, process: &Process) {
     let (promises, execpromises) = (keywords(process.promises), keywords(process.execpromises));
     let rules = if rules().is_openbsd { "rules openbsd\n" } else { "" };
     let _ = writeln!(out, "process alive\n{rules}promises {promises}\nexecpromises {execpromises}\nunveil {unveil}");
+    let opened = lasting.map_or(process.promises.unwrap_or(0), |lasting| lasting.held);
+    out.extend_from_slice(lasting.map_or("", |lasting| lasting.execs).as_bytes());
     if !rules.is_empty() {
-        let is_pledged = |promise: &str| promises.split(',').any(|pledged| pledged == promise);
-        for (_, opening) in OPENINGS.iter().filter(|(promise, _)| is_pledged(promise)) {
+        if lasting.is_some_and(|lasting| lasting.held & RECVFD != 0) {
+            out.extend_from_slice(b"receive open\n");
+        }
+        let opens = |promise: &&str| KEYWORDS.iter().position(|keyword| keyword == promise).is_some_and(|bit| opened & 1 << bit != 0);
+        for (_, opening) in OPENINGS.iter().filter(|(promise, _)| opens(promise)) {
             let _ = writeln!(out, "opening {opening}");
         }
     }
@@ -1621,6 +1748,58 @@ fn state(out: &mut Vec<u8>, tree: &Tree, process: &Process) {
     }
     if process.places.is_empty() {
         out.extend_from_slice(b"no veils\n");
+    }
+    for (number, file) in &process.files {
+        held(out, tree, process, *number, *file);
+    }
+}
+
+/// Adds the lines of an open file: one for each name that it has now.
+fn held(out: &mut Vec<u8>, tree: &Tree, process: &Process, number: u32, file: OpenFile) {
+    let node = tree.node(file.node);
+    let (kind, is_dir) = (word(node.kind), node.kind == Kind::Dir);
+    let mut paths: Vec<Vec<u8>> = if is_dir {
+        vec![place_path(tree, &(file.node, None))]
+    } else {
+        names(tree, file.node).iter().map(|place| place_path(tree, place)).collect()
+    };
+    if paths.is_empty() {
+        paths.push(b"-".to_vec());
+    }
+    let (may, is_for) = (|promises| process.held() & promises != 0, |letters| file.letters & letters != 0);
+    let uses = [
+        ("read", is_for(R) && may(STDIO)),
+        ("write", is_for(W) && may(STDIO)),
+        ("chdir", is_dir && may(STDIO)),
+        ("chmod", may(FATTR)),
+        ("chown", may(CHOWN | FATTR)),
+    ];
+    let uses: Vec<&str> = uses.iter().filter(|(_, is_allowed)| *is_allowed).map(|(word, _)| *word).collect();
+    let uses = if uses.is_empty() { "=".into() } else { uses.join(",") };
+    for path in paths {
+        let _ = write!(out, "held {number} {kind} ");
+        out.extend_from_slice(&path);
+        let _ = writeln!(out, " {uses}");
+    }
+}
+
+/// The names of what is no directory, by the numbers of their directories.
+fn names(tree: &Tree, node: u32) -> Vec<Place> {
+    let named = |(dir, over): (u32, &Node)| {
+        let rows = over.rows.iter().filter(|(_, id)| **id == node);
+        rows.map(|(name, _)| (dir, Some(name.clone()))).collect::<Vec<_>>()
+    };
+    let mut places: Vec<Place> = (0..).zip(&tree.nodes).flat_map(named).collect();
+    places.sort_unstable();
+    places
+}
+
+fn word(kind: Kind) -> &'static str {
+    match kind {
+        Kind::Dir => "dir",
+        Kind::File => "file",
+        Kind::Prog => "prog",
+        Kind::Link => "link",
     }
 }
 
@@ -1758,7 +1937,7 @@ fn objects(world: &World, words: &Words, mut front: Vec<u8>) -> Result<(), (u8, 
     for number in numbers {
         let process = world.processes.get(&number).ok_or_else(|| (1, "pua: no such process".to_string()))?;
         let _ = writeln!(front, "objects {number}");
-        state(&mut front, &world.tree, process);
+        state(&mut front, &world.tree, process, None);
         let out = std::mem::take(&mut front);
         let allowed = Allowed::new(process.held());
         let list = List { tree: &world.tree, process, allowed, path: Vec::new(), out };
@@ -1781,19 +1960,19 @@ struct Ways<'a> {
 }
 
 impl<'a> Ways<'a> {
-    fn is_living(self, dir: u32) -> bool {
-        let node = self.tree.node(dir);
-        node.links > 0 && node.kind == Kind::Dir
-    }
-
     fn living(self) -> impl Iterator<Item = u32> {
-        (0..self.tree.nodes.len() as u32).filter(move |dir| self.is_living(*dir))
+        (0..self.tree.nodes.len() as u32).filter(move |dir| self.tree.is_living_dir(*dir))
     }
 
     /// The names with veils of their own that have c, each with its directory and its letters.
     fn names_with_c(self) -> impl Iterator<Item = (u32, &'a [u8], u8)> {
         let names = self.process.on_names.iter().flat_map(|(dir, names)| names.iter().map(|(name, kept)| (*dir, &**name, *kept)));
-        names.filter(move |(dir, _, kept)| self.is_living(*dir) && kept & C != 0)
+        names.filter(move |(dir, _, kept)| self.tree.is_living_dir(*dir) && kept & C != 0)
+    }
+
+    /// The same of those that are free.
+    fn free_names(self) -> impl Iterator<Item = (u32, &'a [u8], u8)> {
+        self.names_with_c().filter(move |(dir, name, _)| self.is_free(*dir, name))
     }
 
     fn row_has_c(self, dir: u32, name: &[u8], node: u32) -> bool {
@@ -1825,7 +2004,7 @@ impl<'a> Ways<'a> {
     }
 
     fn gives_way(self, dir: u32) -> bool {
-        self.is_living(dir)
+        self.tree.is_living_dir(dir)
             && has_c(self.process.dir_cover(self.tree, dir))
             && self.can_empty(dir)
             && self.has_c_outside(dir)
@@ -1833,60 +2012,111 @@ impl<'a> Ways<'a> {
 
     fn is_way_in(self, dir: u32) -> bool {
         has_c(self.process.dir_cover(self.tree, dir))
-            || self.names_with_c().any(|(other, name, _)| other == dir && self.is_free(dir, name))
+            || self.free_names().any(|(other, ..)| other == dir)
             || self.tree.node(dir).rows.values().any(|node| self.gives_way(*node))
     }
 
     fn dir_covers(self) -> Vec<Cover> {
         self.living().filter(|dir| self.is_way_in(*dir)).map(|dir| self.process.dir_cover(self.tree, dir)).collect()
     }
-
-    fn file_covers(self) -> Vec<Cover> {
-        let free = self.names_with_c().filter(|(dir, name, _)| self.is_free(*dir, name));
-        let mut covers: Vec<Cover> = free.map(|(_, _, kept)| Some(kept)).collect();
-        if self.living().any(|dir| has_c(self.process.dir_cover(self.tree, dir))) {
-            covers.extend(self.dir_covers());
-        }
-        covers
-    }
 }
 
-/// The list of all that a process can ever touch.
+/// What calls need in a list for ever: by OpenBSD's rules `tmppath` is one more set of those that it opens.
+fn wide_calls() -> [Need; 21] {
+    let mut calls = rules().calls.clone();
+    for call in [Call::Create, Call::CreateRw, Call::Unlink] {
+        let sets = &mut calls[call as usize].0;
+        if rules().is_openbsd && sets.iter().all(|set| set & !TMPPATH != 0) {
+            sets.push(TMPPATH);
+        }
+    }
+    calls
+}
+
+fn bits(calls: &[Call]) -> u32 {
+    calls.iter().fold(0, |bits, call| bits | 1 << *call as u32)
+}
+
+const EDITS: [Call; 8] =
+    [Call::Create, Call::Mkdir, Call::Rmdir, Call::Unlink, Call::Symlink, Call::Bind, Call::Mknod, Call::CreateRw];
+const MAKES_FILES: [Call; 4] = [Call::Create, Call::Bind, Call::Mknod, Call::CreateRw];
+
+/// By which a file can be made a program.
+const WRITES: [Call; 6] = [Call::OpenW, Call::OpenRw, Call::Create, Call::CreateRw, Call::Chmod, Call::Fchmod];
+
+/// What a line is about, its path or `new`, and its calls.
+type EverLine = (&'static str, Vec<u8>, u32);
+
+/// All that a process that holds some promises can ever touch by itself.
 struct Ever<'a> {
-    list: List<'a>,
     ways: Ways<'a>,
+    held: u64,
+    allowed: Allowed,
     may_edit: bool,
+    may_rename: bool,
+    may_link: bool,
+    for_names: Vec<Cover>,
     for_dirs: Vec<Cover>,
     for_files: Vec<Cover>,
+    path: Vec<u8>,
+    lines: Vec<EverLine>,
 }
 
 impl<'a> Ever<'a> {
-    fn new(tree: &'a Tree, process: &'a Process, out: Vec<u8>) -> Ever<'a> {
-        let ways = Ways { tree, process };
-        Ever {
-            list: List { tree, process, allowed: Allowed::new(process.held()), path: Vec::new(), out },
+    fn new(ways: Ways<'a>, held: u64) -> Ever<'a> {
+        let calls = wide_calls();
+        let may_name = |promises| held & (promises | CPATH) == promises | CPATH;
+        let mut ever = Ever {
             ways,
-            may_edit: process.may(CPATH).is_ok(),
+            held,
+            allowed: Allowed::by(&calls, held),
+            may_edit: may_name(0) || EDITS.iter().any(|call| lets(&calls[*call as usize].0, held)),
+            may_rename: may_name(rules().rename.promises),
+            may_link: may_name(rules().link.promises),
+            for_names: ways.free_names().map(|(_, _, kept)| Some(kept)).collect(),
             for_dirs: ways.dir_covers(),
-            for_files: ways.file_covers(),
-        }
+            for_files: Vec::new(),
+            path: Vec::new(),
+            lines: Vec::new(),
+        };
+        let covers = ways.living().map(|dir| ways.process.dir_cover(ways.tree, dir));
+        let open: Vec<Cover> = covers.filter(|cover| has_c(*cover)).collect();
+        let inside = if open.iter().any(|cover| ever.can_move(*cover)) { &ever.for_dirs[..] } else { &[] };
+        ever.for_files = [&ever.for_names[..], &open, inside].concat();
+        ever
     }
 
-    fn covers(&self, moves: bool, now: Cover, others: &[Cover]) -> Vec<Cover> {
-        if self.may_edit && moves && has_c(now) { others.to_vec() } else { vec![now] }
+    fn can_move(&self, cover: Cover) -> bool {
+        self.may_rename && has_c(cover) && cover_fault(cover, rules().rename.letters).is_none()
+    }
+
+    fn can_link(&self, cover: Cover, kind: Kind) -> bool {
+        let is_led_on = kind == Kind::Link && rules().link.is_followed;
+        self.may_link && !is_led_on && cover_fault(cover, rules().link.letters).is_none()
+    }
+
+    fn calls(&self, covers: &[Cover], object: Object) -> u32 {
+        covers.iter().fold(0, |calls, cover| calls | self.allowed.on(*cover, object))
     }
 
     /// The line of what `path` leads to, under each of some covers, if a call is ever allowed on it.
-    fn line(&mut self, kind: &str, covers: &[Cover], object: Object) {
-        let calls = covers.iter().fold(0, |calls, cover| calls | self.list.allowed.on(*cover, object));
-        let path = if self.list.path.is_empty() { b"/".to_vec() } else { self.list.path.clone() };
-        self.put(kind, &path, if matches!(object, Object::Node(Kind::Link)) { calls & KEPT } else { calls });
+    fn line(&mut self, kind: &'static str, covers: &[Cover], object: Object) {
+        let path = if self.path.is_empty() { b"/".to_vec() } else { self.path.clone() };
+        self.put(kind, path, covers, object, false);
     }
 
-    fn put(&mut self, kind: &str, path: &[u8], calls: u32) {
-        let names: Vec<&str> = CALLS.iter().filter(|row| calls & 1 << row.0 as u32 != 0).map(|row| row.1).collect();
-        if !names.is_empty() {
-            self.list.out.extend_from_slice(&[kind.as_bytes(), b" ", path, b" ", names.join(",").as_bytes(), b"\n"].concat());
+    /// The same of what has this path, and of a file by whether it can be made a program whatever covers it.
+    fn put(&mut self, kind: &'static str, path: Vec<u8>, covers: &[Cover], object: Object, is_turned: bool) {
+        let mut calls = self.calls(covers, object);
+        match object {
+            Object::Node(Kind::Link) => calls &= KEPT,
+            Object::Node(Kind::File) if is_turned || calls & bits(&WRITES) != 0 => {
+                calls |= self.calls(covers, Object::Node(Kind::Prog)) & bits(&[Call::Exec]);
+            }
+            _ => {}
+        }
+        if calls != 0 {
+            self.lines.push((kind, path, calls));
         }
     }
 
@@ -1895,7 +2125,8 @@ impl<'a> Ever<'a> {
     fn dir(&mut self, dir: u32, at: Option<(u32, &[u8])>) {
         let (tree, process) = (self.ways.tree, self.ways.process);
         let now = process.dir_cover(tree, dir);
-        let covers = self.covers(!process.on_dirs.contains_key(&dir), now, &self.for_dirs);
+        let moves = !process.on_dirs.contains_key(&dir) && self.can_move(now);
+        let covers = if moves { self.for_dirs.clone() } else { vec![now] };
         let is_empty = tree.node(dir).rows.is_empty();
         let is_removable = at.is_some() && self.ways.can_empty(dir) && (self.may_edit || is_empty);
         self.line("dir", &covers, Object::Dir((!is_removable).then_some("ENOTEMPTY")));
@@ -1907,12 +2138,12 @@ impl<'a> Ever<'a> {
         let mut names: Vec<&[u8]> = tree.node(dir).rows.keys().chain(veiled).map(|name| &**name).collect();
         names.sort_unstable();
         names.dedup();
-        let len = self.list.path.len();
+        let len = self.path.len();
         for name in names {
-            self.list.path.push(b'/');
-            spell(&mut self.list.path, name);
+            self.path.push(b'/');
+            spell(&mut self.path, name);
             self.name(dir, name);
-            self.list.path.truncate(len);
+            self.path.truncate(len);
         }
     }
 
@@ -1929,38 +2160,89 @@ impl<'a> Ever<'a> {
         let now = self.ways.process.cover(tree, Found::Slot(dir, name, node));
         let Some(node) = node else { return self.line("missing", &[now], Object::Missing) };
         let kind = tree.node(node).kind;
-        let word = match kind {
-            Kind::Dir => return self.dir(node, Some((dir, name))),
-            Kind::File => "file",
-            Kind::Prog => "prog",
-            Kind::Link => "link",
-        };
-        let covers = self.covers(true, now, &self.for_files);
-        self.line(word, &covers, Object::Node(kind));
+        if kind == Kind::Dir {
+            return self.dir(node, Some((dir, name)));
+        }
+        let mut covers = if self.can_move(now) { Vec::new() } else { vec![now] };
+        if self.can_move(now) || self.can_link(now, kind) {
+            covers.extend_from_slice(&self.for_files);
+        }
+        self.put(word(kind), self.path.clone(), &covers, Object::Node(kind), self.is_turned_held(node));
         self.freed(dir, name);
     }
 
-    /// The line of what can be made, if the call that makes it can be allowed.
-    fn made(&mut self, kind: &str, maker: Call, is_dir: bool, object: Object) {
-        let allowed = &self.list.allowed;
-        let calls = |covers: &[Cover], object| covers.iter().fold(0, |calls, cover| calls | allowed.on(*cover, object));
-        let names: Vec<Cover> = self.for_dirs.iter().chain(&self.for_files).copied().collect();
-        if self.may_edit && calls(&names, Object::Missing) & 1 << maker as u32 != 0 {
-            let ever = calls(if is_dir { &self.for_dirs } else { &self.for_files }, object);
-            self.put(kind, b"new", if matches!(object, Object::Node(Kind::Link)) { ever & KEPT } else { ever });
+    /// Whether the process has a node open so that it can write it, or set its mode.
+    fn is_turned_held(&self, node: u32) -> bool {
+        let sets_modes = self.held & FATTR != 0;
+        self.ways.process.files.values().any(|file| file.node == node && (sets_modes || file.letters & W != 0))
+    }
+
+    /// The line of what can be made, if a call that makes it can be allowed.
+    fn made(&mut self, kind: &'static str, makers: &[Call], object: Object) {
+        let names = [&self.for_names[..], &self.for_dirs].concat();
+        if self.may_edit && self.calls(&names, Object::Missing) & bits(makers) != 0 {
+            let is_in_dirs = makers == [Call::Mkdir];
+            let covers = if is_in_dirs { self.for_dirs.clone() } else { self.for_files.clone() };
+            self.put(kind, b"new".to_vec(), &covers, object, true);
         }
     }
 
-    fn listed(mut self) -> Vec<u8> {
-        if !self.list.process.has_ended {
-            self.dir(ROOT, None);
-            self.made("dir", Call::Mkdir, true, Object::Dir(None));
-            self.made("other", Call::Mkdir, true, Object::Missing);
-            self.made("file", Call::Create, false, Object::Node(Kind::File));
-            self.made("link", Call::Symlink, false, Object::Node(Kind::Link));
+    fn listed(mut self) -> Vec<EverLine> {
+        self.dir(ROOT, None);
+        for (kind, makers, object) in NEW {
+            self.made(kind, makers, object);
         }
-        self.list.out
+        self.lines
     }
+}
+
+/// What can be made, by which calls, and what it is.
+const NEW: [(&str, &[Call], Object); 4] = [
+    ("dir", &[Call::Mkdir], Object::Dir(None)),
+    ("other", &[Call::Mkdir], Object::Missing),
+    ("file", &MAKES_FILES, Object::Node(Kind::File)),
+    ("link", &[Call::Symlink], Object::Node(Kind::Link)),
+];
+
+/// A list for ever, what it says of execs, and by which promises it is: those of the process, or of what it starts too.
+struct Lasting {
+    lines: Vec<EverLine>,
+    execs: &'static str,
+    held: u64,
+}
+
+/// The execpromises by which all that a process starts is bounded, if it is.
+fn bound(process: &Process) -> Option<u64> {
+    let given = process.execpromises?;
+    let goes_on = !rules().is_openbsd && lets(&rules().calls[Call::Exec as usize].0, given);
+    let unveils = !process.is_locked && (process.held() | given) & UNVEIL != 0;
+    (!goes_on && !unveils).then_some(given)
+}
+
+/// The list that holds longest.
+fn lasting(ways: Ways) -> Lasting {
+    let held = ways.process.held();
+    let lines = Ever::new(ways, held).listed();
+    if !lines.iter().any(|(_, _, calls)| calls & bits(&[Call::Exec]) != 0) {
+        return Lasting { lines, execs: "", held };
+    }
+    match bound(ways.process) {
+        None => Lasting { lines, execs: "exec open\n", held },
+        Some(given) => {
+            let lines = through(Ever::new(ways, held | given).listed(), held, given);
+            Lasting { lines, execs: "exec bounded\n", held: held | given }
+        }
+    }
+}
+
+/// What is left of the lines of both sets of promises: the calls that one of them lets through by itself.
+fn through(lines: Vec<EverLine>, held: u64, given: u64) -> Vec<EverLine> {
+    let needs = wide_calls();
+    let passing = CALLS.iter().filter(|row| [held, given].iter().any(|set| lets(&needs[row.0 as usize].0, *set)));
+    let passes = passing.fold(0, |calls, row| calls | 1 << row.0 as u32);
+    let comes = |kind: &str| NEW.iter().any(|(new, makers, _)| *new == kind && bits(makers) & passes != 0);
+    let left = lines.into_iter().filter(|(kind, path, _)| path != b"new" || comes(kind));
+    left.map(|(kind, path, calls)| (kind, path, calls & passes)).filter(|line| line.2 != 0).collect()
 }
 
 /// The list for ever of a process, unless it can still put veils.
@@ -1970,8 +2252,17 @@ fn ever(world: &World, number: u32, mut front: Vec<u8>) -> Result<(), (u8, Strin
         return Err((1, format!("pua: process {number} can still unveil")));
     }
     let _ = writeln!(front, "ever {number}");
-    state(&mut front, &world.tree, process);
-    flush(&mut Ever::new(&world.tree, process, front).listed()).map_err(|_| (3, "pua: cannot write".to_string()))
+    if process.has_ended {
+        state(&mut front, &world.tree, process, None);
+    } else {
+        let list = lasting(Ways { tree: &world.tree, process });
+        state(&mut front, &world.tree, process, Some(&list));
+        for (kind, path, calls) in list.lines {
+            let names: Vec<&str> = CALLS.iter().filter(|row| calls & 1 << row.0 as u32 != 0).map(|row| row.1).collect();
+            front.extend_from_slice(&[kind.as_bytes(), b" ", &path, b" ", names.join(",").as_bytes(), b"\n"].concat());
+        }
+    }
+    flush(&mut front).map_err(|_| (3, "pua: cannot write".to_string()))
 }
 
 fn audit(world: &World, words: &Words, front: Vec<u8>) -> Result<(), (u8, String)> {
@@ -2074,8 +2365,7 @@ fn perform(command: Command, words: &Words) -> Result<(), (u8, String)> {
     }
 }
 
-/// Those of the program beside which this one stands. Here no table is read, and lists for ever are those by the standard
-/// rules of one process, which say nothing of execs.
+/// Those of the program beside which this one stands. Here no table is read, and lists for ever are of one process.
 const USAGE: &str = "pua: usage: pua run [--table FILE] TREE SCRIPT; \
                      pua audit --limit N [--process P] [--base root|cwd] [--after CALL:PATH] [--table FILE] TREE SCRIPT [NAME...]";
 const OBJECTS_USAGE: &str = "pua: usage: pua objects [--ever] [--how|--why] [--images] [--process P,...|all] [--beside Q,...|all] [--at N] [--rules profile|openbsd] [--table FILE] TREE SCRIPT";

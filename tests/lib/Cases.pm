@@ -1,5 +1,5 @@
 # Random trees and scripts without pledge and unveil, by a seed, for a comparison of answers with those of a kernel: of
-# seven kinds in turn, each with what such a comparison has shown to matter.
+# seven kinds in turn, each with what such a comparison has shown to matter; and of one more, `files`, about descriptors.
 #
 # The numbers are those of Worlds.pm, so that every machine has the same cases.
 package Cases;
@@ -159,8 +159,22 @@ sub _requests {
     return 'link ' . $path->() . ' ' . $path->() if $drawn < ($is_rename ? 500 : 250);
     return 'symlink ' . $cases->_text($case) . ' ' . $path->() if $drawn < ($is_rename ? 530 : 320);
     return $cases->_removal($case) if $kind eq 'removed' && $drawn < 600;
+    return $cases->_on_files($path, $processes) if $kind eq 'files' && $drawn < 800;
     my $call = $cases->_seldom(90) ? $cases->pick(@CALLS) : $cases->pick(qw(mkdir rmdir chdir));
     return "$call " . $path->();
+}
+
+# A process opens and keeps something, which it may remove then, closes it, enters it, or takes it of another process.
+sub _on_files {
+    my ($cases, $path, $processes) = @_;
+    my ($number, $at) = ($cases->pick(3, 3, 4, 5), $path->());
+    my $drawn = $cases->number(100);
+    my $hold = "hold $number " . $cases->pick(qw(open-r open-r open-w open-rw)) . " $at";
+    return ($hold, "unlink $at", "rmdir $at") if $drawn < 15;
+    return $hold if $drawn < 45;
+    return "fchdir $number" if $drawn < 65;
+    return "close $number" if $drawn < 80;
+    return join ' ', 'take', $number, $cases->pick(@$processes), $cases->pick(3, 3, 4, 5);
 }
 
 # A target that a script gives to a link.

@@ -22,11 +22,14 @@ my @EDITS = qw(create mkdir rmdir unlink symlink bind mknod create-rw);
 my @OPENED = qw(create unlink create-rw);
 my $OPENER = 'tmppath';
 
+# What a file is that can be made a program whatever covers it: one that is made, or that the process holds so.
+my $TURNED = 'turned';
+
 # What can be made, by its kind: the calls that make it, and what it is.
 my @NEW = (
     { kind => 'dir', calls => ['mkdir'], is => 'gone' },
     { kind => 'other', calls => ['mkdir'], is => 'missing' },
-    { kind => 'file', calls => ['create', 'bind', 'mknod', 'create-rw'], is => 'file' },
+    { kind => 'file', calls => ['create', 'bind', 'mknod', 'create-rw'], is => $TURNED },
     { kind => 'link', calls => ['symlink'], is => 'link' },
 );
 
@@ -307,12 +310,21 @@ sub lets {
     return 0;
 }
 
-# The line of something, if a call can be allowed on it under one of some covers. A file that can be written, or have
-# its mode set, and one that is new can be made a program: so exec is that of a program then.
+# Whether a process has a file open so that it can write it, or set its mode: who holds fattr sets that of whatever is open.
+sub is_turned_held {
+    my ($process, $node) = @_;
+    my $sets_modes = Model::_holds($process, 'fattr');
+    return scalar grep { $_->{node} == $node && ($sets_modes || $_->{letters} =~ /w/) } values %{ $process->{files} };
+}
+
+# The line of something, if a call can be allowed on it under one of some covers. A file that can be written, or have its
+# mode set, by a call or by what is open, and one that is new can be made a program: so exec is that of a program then.
 sub _line {
     my ($ever, $kind, $path, $is, @covers) = @_;
+    my $turns = $is eq $TURNED;
+    $is = 'file' if $turns;
     my %has = map { $_ => $ever->_is_allowed($_, $is, @covers) } @Model::CALLS;
-    my $turns = $is eq 'file' && ($path eq 'new' || grep { $has{$_} } qw(open-w open-rw create create-rw chmod fchmod));
+    $turns ||= $is eq 'file' && grep { $has{$_} } qw(open-w open-rw create create-rw chmod fchmod);
     $has{exec} = 1 if $turns && $ever->_is_allowed('exec', 'prog', @covers);
     my @calls = grep { $has{$_} } @Model::CALLS;
     return () if !@calls;
@@ -356,7 +368,8 @@ sub _lines_at {
     return $ever->_lines_in($found->{dir}) if $kind eq 'dir';
     return $ever->_missing($dir, $name)    if $kind eq 'missing';
     my @covers = $ever->_covers_of_name($found, $kind);
-    return ($ever->_line($kind, $model->_path_in($dir, $name), $kind, @covers), $ever->_freed($dir, $name));
+    my $is = $kind eq 'file' && is_turned_held($ever->{process}, $found->{node}) ? $TURNED : $kind;
+    return ($ever->_line($kind, $model->_path_in($dir, $name), $is, @covers), $ever->_freed($dir, $name));
 }
 
 # A name that nothing has, and its own veil.

@@ -368,10 +368,11 @@ sub _lines_at {
     return ($joint->_line($kind, $model->_path_in($dir, $name), %has), @name);
 }
 
-# Whether one of the crew can make a file a program, at any of its names.
+# Whether one of the crew can make a file a program, at any of its names or by what it holds open.
 sub _turns {
     my ($joint, $node) = @_;
     my $model = $joint->{model};
+    return 1 if grep { EverModel::is_turned_held($_->{process}, $node) } @{ $joint->{crew} };
     for my $source ($joint->_rows) {
         my ($dir, $name) = $source =~ m{\Arow ([0-9]+)/(.*)\z}s;
         next if $model->{rows}{$dir}{$name} != $node;

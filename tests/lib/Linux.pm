@@ -235,12 +235,25 @@ sub _link {
     return 'ok';
 }
 
-# --- What stands in the tree ---
+# --- What stands in the tree, and what is open ---
 
-# A line `KIND PATH` for each thing.
+# A line `KIND PATH` for each thing, and `held PROCESS NUMBER PATH` for each name of what the living have open.
 sub left {
     my ($model) = @_;
-    return join '', map { "$_\n" } sort 'dir /', _left_in($model, 0, '');
+    return join '', sort $model->names_left, map { $model->held_by($_) } $model->living;
+}
+
+sub names_left { return map { "$_\n" } sort 'dir /', _left_in($_[0], 0, '') }
+
+sub held_by {
+    my ($model, $number) = @_;
+    my @lines;
+    my $files = $model->{processes}{$number}{files};
+    for my $file (sort keys %$files) {
+        my @paths = $model->_paths_of($files->{$file});
+        push @lines, map { "held $number $file $_\n" } @paths ? sort @paths : '-';
+    }
+    return @lines;
 }
 
 sub _left_in {

@@ -12,8 +12,8 @@ sub twin { return $_[0] + 100 }
 sub bare { return $_[0] + 200 }
 
 # What a twin and a bare mirror do where the process was answered ok.
-my %TWIN = map { $_ => 1 } qw(pledge unveil chdir exec exit fork);
-my %BARE = map { $_ => 1 } qw(unveil chdir fork);
+my %TWIN = map { $_ => 1 } qw(pledge unveil chdir exec exit fork hold close fchdir take);
+my %BARE = map { $_ => 1 } qw(unveil chdir fork hold close fchdir take);
 
 # Lines with those of the mirrors behind each of them, by the answers to the former.
 sub mirrored {

@@ -4,7 +4,8 @@
 # A model is a tree (Tree.pm, which also says what is *found* by a path), the table of calls, and processes by their
 # numbers. A process has: dir, the number of its working directory; promises and execpromises, each a set (a hash) or
 # undef where no pledge gave any; veils, their places in their order, and letters, those kept by place; locked and
-# ended. A place is the number of a directory, or that and a name, with a slash between them.
+# ended; and files, by descriptor, each a node with its kind and the letters for which it is open. A place is the number of
+# a directory, or that and a name, with a slash between them.
 package Model;
 use strict;
 use warnings;
@@ -116,7 +117,14 @@ my %REQUESTS = (
     fork    => \&_fork,
     exit    => \&_exit,
     uses    => \&_uses,
+    hold    => \&_hold,
+    close   => \&_close,
+    fchdir  => \&_fchdir,
+    take    => \&_take,
 );
+
+# For which letters a call opens what is held.
+my %OPENED = ('open-r' => 'r', 'open-w' => 'w', 'open-rw' => 'rw');
 
 # A world: the tree of a listing, and process 1. In %$how, optional: rules, `openbsd` for OpenBSD's; table, the
 # text of a table of calls.
@@ -126,7 +134,7 @@ sub new {
     my $model = $class->SUPER::new($listing);
     $model->{openbsd}   = $is_openbsd;
     $model->{needs}     = { %STANDARD, $is_openbsd ? %OPENBSD : (), _rows_of($how->{table}) };
-    $model->{processes} = { 1 => { dir => 0, veils => [], letters => {} } };
+    $model->{processes} = { 1 => { dir => 0, veils => [], letters => {}, files => {} } };
     return $model;
 }
 
@@ -445,8 +453,8 @@ sub _fork {
     return $answer if $answer;
     my $processes = $model->{processes};
     return 'EAGAIN' if $processes->{$number} || keys %$processes == $MOST_PROCESSES;
-    $processes->{$number}
-        = { %$process, veils => [ @{ $process->{veils} } ], letters => { %{ $process->{letters} } } };
+    my %copies = (veils => [ @{ $process->{veils} } ], map { $_ => { %{ $process->{$_} } } } qw(letters files));
+    $processes->{$number} = { %$process, %copies };
     return 'ok';
 }
 
@@ -460,6 +468,81 @@ sub _exit {
 sub _uses {
     my ($model, $process, $promises) = @_;
     return _unpromised($process, split /\|/, $promises) || 'ok';
+}
+
+# --- Descriptors ---
+
+# An open whose file is kept under a number.
+sub _hold {
+    my ($model, $process, $number, $call, $path) = @_;
+    my ($answer, $found) = $model->_decided($process, $call, unspelled($path));
+    return $answer if $answer;
+    my $node = exists $found->{dir} ? $found->{dir} : $found->{node};
+    $process->{files}{$number} = { node => $node, kind => $model->_kind($found), letters => $OPENED{$call} };
+    return 'ok';
+}
+
+sub _close {
+    my ($model, $process, $number) = @_;
+    return delete $process->{files}{$number} ? 'ok' : 'EBADF';
+}
+
+sub _fchdir {
+    my ($model, $process, $number) = @_;
+    my $file = $process->{files}{$number} or return 'EBADF';
+    return 'ENOTDIR' if $file->{kind} ne 'dir';
+    $process->{dir} = $file->{node};
+    return 'ok';
+}
+
+# What another process has and sent.
+sub _take {
+    my ($model, $process, $number, $from, $theirs) = @_;
+    my $answer = _unpromised($process, 'recvfd');
+    return $answer if $answer;
+    my $sender = $model->{processes}{$from};
+    my $file = $sender && !$sender->{ended} && $sender->{files}{$theirs} or return 'EBADF';
+    return 'EPERM' if !_holds($sender, 'sendfd');
+    return 'EINVAL' if $file->{kind} eq 'dir' && ($process->{promises} || $sender->{promises});
+    $process->{files}{$number} = $file;
+    return 'ok';
+}
+
+# The lines of what a process has open: one for each name that a file has now, or one with a dash.
+sub _held {
+    my ($model, $process) = @_;
+    my @lines;
+    for my $number (sort { $a <=> $b } keys %{ $process->{files} }) {
+        my $file = $process->{files}{$number};
+        my @paths = $model->_paths_of($file);
+        my $uses = join(',', _uses_of($process, $file)) || '=';
+        push @lines, map { "held $number $file->{kind} $_ $uses\n" } @paths ? @paths : '-';
+    }
+    return @lines;
+}
+
+# Where an open file stands now, by the numbers of the directories.
+sub _paths_of {
+    my ($model, $file) = @_;
+    my ($node, $rows) = ($file->{node}, $model->{rows});
+    return if !$model->{kind}{$node};
+    return $model->_path($node) if $file->{kind} eq 'dir';
+    my @paths;
+    for my $dir (sort { $a <=> $b } keys %$rows) {
+        push @paths, map { $model->_path_in($dir, $_) } grep { $rows->{$dir}{$_} == $node } sort keys %{ $rows->{$dir} };
+    }
+    return @paths;
+}
+
+# What a process may do with an open file.
+sub _uses_of {
+    my ($process, $file) = @_;
+    my %opened = map { $_ => 1 } split //, $file->{letters};
+    my %is_for = (read => $opened{r}, write => $opened{w}, chdir => $file->{kind} eq 'dir');
+    my @uses = _holds($process, 'stdio') ? grep { $is_for{$_} } qw(read write chdir) : ();
+    push @uses, 'chmod' if _holds($process, 'fattr');
+    push @uses, 'chown' if grep { _holds($process, $_) } qw(chown fattr);
+    return @uses;
 }
 
 # --- The texts ---
@@ -560,7 +643,7 @@ sub state {
     my @veils = map { "veil " . $model->_shown_place($_) . ' ' . ($process->{letters}{$_} || '=') . "\n" }
         @{ $process->{veils} };
     @veils = ("no veils\n") if !@veils;
-    return join '', "process alive\n", @rules, @sets, "unveil $unveil\n", @openings, @veils;
+    return join '', "process alive\n", @rules, @sets, "unveil $unveil\n", @openings, @veils, $model->_held($process);
 }
 
 sub _shown {

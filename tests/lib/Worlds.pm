@@ -82,6 +82,32 @@ my @OPENERS = (
 # Promises of such lists, beside others.
 my @BESIDE = ('stdio', 'dns', 'getpw', 'tty', 'tmppath', 'tmppath', 'stdio,tmppath', 'dns,getpw', 'tmppath,tty,error');
 
+# What it asks for where scripts are about descriptors; and promises of such scripts, beside others.
+my @FILE_REQUESTS = (
+    ('hold FD OPEN FILE') x 4, 'hold FD open-r DIR', 'hold FD OPEN PATH', 'hold FD OPEN HIGH',
+    ('close FD', 'fchdir FD') x 3, ('take FD ANYONE FD') x 4,
+);
+my @PASSING = ('recvfd', 'sendfd', ('recvfd,sendfd') x 3);
+my @OPENS = qw(open-r open-w open-rw);
+my @FDS   = qw(0 3 3 4 5);
+
+# Lines on descriptors that tell more one after the other: where an open file has no name, or many, or another one; what
+# is done from a directory that the veils hide, or that was removed; what a child and a program have; what is passed on.
+my @FILE_STRETCHES = (
+    "ASKER hold 3 OPEN FILE\nASKER link FILE NEW\nASKER unlink FILE",
+    "ASKER hold 4 OPEN FILE\nASKER unlink FILE\nASKER create FILE\nASKER take 5 ASKER 4",
+    "ASKER hold 5 OPEN FILE\nASKER rename FILE NEW\nASKER hold 5 OPEN NEW",
+    "ASKER hold 4 open-r DIR\nASKER unveil HIGH r\nASKER fchdir 4\nASKER stat NAME\nASKER create NAME\nASKER hold 3 open-r NAME",
+    "ASKER hold 5 open-r LEAF\nASKER rmdir LEAF\nASKER mkdir LEAF\nASKER fchdir 5\nASKER stat .\nASKER stat LEAF",
+    "ASKER hold 4 open-r DIR\nASKER rename DIR NEW\nASKER fchdir 4\nASKER stat ..",
+    "ASKER hold 3 OPEN FILE\nASKER fork 3\n3 close 3\nASKER hold 4 OPEN FILE\n3 take 5 ASKER 4",
+    "ASKER unveil PROG x\nASKER hold 3 open-r DIR\nASKER pledge - SET\nASKER exec PROG\nASKER fchdir 3\nASKER stat NAME",
+    "ASKER hold 0 open-r DIR\nASKER fork 4\n4 take 4 ASKER 0\n4 pledge stdio,rpath,proc,unveil,recvfd -\n4 take 5 ASKER 0\n4 fchdir 5",
+    "ASKER fork 4\nASKER hold 3 open-r DIR\nASKER pledge stdio,rpath,wpath,cpath,proc,unveil,sendfd -\n4 take 5 ASKER 3\n4 fchdir 5",
+    "ASKER fork 5\n5 hold 3 OPEN FILE\n5 exit\nASKER take 4 5 3",
+    "ASKER fork 4\nASKER hold 3 OPEN FILE\n4 pledge rpath,proc,unveil,error -\n4 take 3 ASKER 3\n4 hold 3 OPEN FILE\n4 close 3",
+);
+
 # What stands at a path that a promise opens.
 my @OPENED_KINDS = qw(file file file file file prog link dir);
 
@@ -109,11 +135,11 @@ my @STRETCHES = (
 
 # Makes a generator of worlds. Those of one seed are always the same. In %$how, optional: paths_alone, where scripts
 # have no call without a path; openings, where by OpenBSD's rules trees have paths that promises open, and scripts ask
-# for these.
+# for these; files, where by these rules scripts are about descriptors.
 sub new {
     my ($class, $seed, $how) = @_;
     my $worlds = bless { state => 1 + $seed % 2147483646, names => [@NAMES] }, $class;
-    @$worlds{qw(paths_alone openings)} = @$how{qw(paths_alone openings)};
+    @$worlds{qw(paths_alone openings files)} = @$how{qw(paths_alone openings files)};
     @$worlds{qw(paths of)} = (['/'], { dir => [''] });
     $worlds->number(2) for 1 .. 5;
     return $worlds;
@@ -336,6 +362,7 @@ sub _request {
     my ($worlds) = @_;
     my @requests = (@REQUESTS, $worlds->{further} ? @MORE : (), $worlds->uses ? @WITHOUT_PATH : ());
     push @requests, @OPENING_REQUESTS if $worlds->opens;
+    push @requests, (@FILE_REQUESTS) x 2 if $worlds->files;
     my $request = $worlds->pick($worlds->number($SELDOM_IN) ? @requests : @SELDOM);
     return join ' ', map { $worlds->_drawn($_) } split / /, $request;
 }
@@ -343,7 +370,7 @@ sub _request {
 # Lines of one process that belong together, without the end of the last.
 sub _stretch {
     my ($worlds, $asker) = @_;
-    my $lines = $worlds->pick(@STRETCHES);
+    my $lines = $worlds->pick($worlds->files && $worlds->number(3) ? @FILE_STRETCHES : @STRETCHES);
     $lines =~ s/ASKER/$asker/g;
     my %drawn;
     $lines =~ s/([A-Z]+)/$drawn{$1} = exists $drawn{$1} ? $drawn{$1} : $worlds->_drawn($1)/ge;
@@ -360,11 +387,15 @@ sub promises {
     return $list if !$worlds->{further} || $list =~ /\A[-=]\z/;
     my @more = $worlds->number(3) ? $worlds->pick('unix', 'dpath', 'unix,dpath,chown') : ();
     push @more, $worlds->pick(@BESIDE) if $worlds->opens && $worlds->number(3);
+    push @more, $worlds->pick(@PASSING) if $worlds->files && $worlds->number(3);
     return join ',', $list, @more;
 }
 
 # Whether by the rules of the worlds promises open paths, and scripts ask for these.
 sub opens { return $_[0]{further} && $_[0]{openings} }
+
+# Whether scripts are about descriptors.
+sub files { return $_[0]{further} && $_[0]{files} }
 
 # Whether scripts have calls without a path, and what one asks for.
 sub uses { return $_[0]{further} && !$_[0]{paths_alone} }
@@ -394,6 +425,9 @@ sub _drawn {
         : $word eq 'OPENED'       ? $worlds->_opened_path
         : $word eq 'OPENERS'      ? $worlds->pick(@OPENERS)
         : $word eq 'CHILD'        ? $worlds->pick(3, 4)
+        : $word eq 'ANYONE'       ? $worlds->pick(1, 1, 2, 2, 3, 4)
+        : $word eq 'OPEN'         ? $worlds->pick(@OPENS)
+        : $word eq 'FD'           ? $worlds->pick(@FDS)
         :                           $word;
 }
 
@@ -474,7 +508,7 @@ sub _end {
 # The rules by which a script can be read: OpenBSD's alone where it has a call of theirs.
 sub rules_of {
     my ($script) = @_;
-    my $further = join '|', @FURTHER, 'uses';
+    my $further = join '|', @FURTHER, qw(uses hold close fchdir take);
     return $script =~ /^[0-9]+ (?:$further) /m ? ('openbsd') : ('profile', 'openbsd');
 }
 

@@ -8,28 +8,34 @@ use Rattle.pua_tree.specs.Names.{has_byte, same_bytes}
 use Rattle.pua_tree.specs.Spelling.{bytes_spelled, fields, is_field, number_within}
 use Rattle.pua_tree.specs.Steps.{◌>>=◌}
 use Rattle.pua_tree.specs.Listing.{only_if}
+use Rattle.pua_tree.proofs.ForCallers.{None≢Some, same_word}
 use Rattle.pua_path.specs.declared.errno.Errno.{Errno}
 use Rattle.pua_calls.specs.Promises.{holds, error, promises_of}
 use Rattle.pua_calls.specs.Neighbours.{call_asked_by}
 use Rattle.pua_calls.specs.declared.rules.Rules.{Rules}
+use Rattle.pua_calls.specs.declared.rules.Rules.TheVariants.{Standard, Openbsd}
 use Rattle.pua_calls.specs.declared.call.Call.{Call}
 use Rattle.pua_script.specs.Limits.{most_number}
 use Rattle.pua_script.specs.Requests.{Asked, is_symlink}
 use Rattle.pua_script.specs.FaultTexts.{script_told}
-use Rattle.pua_script.specs.Scripts.{PathForm, PledgeForm, ForkForm, UsesForm, asks_promises, form_of, further_set, sets_in, sets_of}
+use Rattle.pua_script.specs.Scripts.{PathForm, PledgeForm, ForkForm, UsesForm, CloseForm, FchdirForm, asks_promises, form_of, further_set}
+use Rattle.pua_script.specs.Scripts.{sets_in, sets_of}
+use Rattle.pua_script.specs.Scripts.{descriptor_in, file_form, files_form, hold_form, if_openbsd, number_in, open_named, take_form}
 use Rattle.pua_script.specs.Scripts.{action_of, action_in, request_of_fields, request_by, path_in, given_in, is_dash, perms_in}
 use Rattle.pua_script.specs.Scripts.{is_blank, request_of_text, text_in, unveil_of, with_paths}
 use Rattle.pua_script.specs.Requests.{comment}
 use Rattle.pua_script.specs.declared.request.Given.{Given}
 use Rattle.pua_script.specs.declared.request.Action.{Action}
-use Rattle.pua_script.specs.declared.request.Action.TheVariants.{OnPath, Symlink, Rename, Link, Pledge, Unveil, Lock, Uses}
+use Rattle.pua_script.specs.declared.request.Action.TheVariants.{OnPath, Symlink, Rename, Link, Pledge, Unveil, Lock, Uses, Hold}
 use Rattle.pua_script.specs.declared.fault.ScriptFault.{ScriptFault}
 use Rattle.pua_script.specs.declared.fault.ScriptFault.TheVariants.{BadLine, BadCall, BadPath, BadList}
 use Rattle.pua_advice.specs.declared.arguments.Arguments.{Arguments}
-use Rattle.pua_advice.specs.declared.arguments.Arguments.TheVariants.{Nothing, Path, TargetAndPath, TwoPaths, Promises, PathAndLetters, AnyPromises}
+use Rattle.pua_advice.specs.declared.arguments.Arguments.TheVariants.{Nothing, Number, Path, TargetAndPath, TwoPaths, Promises}
+use Rattle.pua_advice.specs.declared.arguments.Arguments.TheVariants.{PathAndLetters, AnyPromises}
+use Rattle.pua_advice.specs.declared.arguments.Arguments.TheVariants.{Descriptor, ToHold, ToTake}
 use Rattle.pua_advice.specs.Advice.{Advised, EmptyLine, ExtraBlank, HiddenByte, NoNumber, NoCall, UnknownCall, Takes, NoPath, HasNul}
 use Rattle.pua_advice.specs.Advice.{UnknownPromise, UnneededPromise, RepeatedPromise, promise_advice, keyword_advice, unless_set, keywords_advice}
-use Rattle.pua_advice.specs.Advice.{uses_advice}
+use Rattle.pua_advice.specs.Advice.{uses_advice, NoDescriptor, NoOpening, descriptor_advice, opening_advice, files_taken, three_advice}
 use Rattle.pua_advice.specs.Advice.{EmptyPromise, is_visible, field_advice, form_advice, call_takes, arguments_of, misuse, number_advice}
 use Rattle.pua_advice.specs.Advice.{unspelled_advice, path_advice, list_advice, unveil_advice, alone_advice, one_advice, two_advice}
 use Rattle.pua_advice.specs.Advice.{action_advice, fields_advice, text_advice, advice_of}
@@ -97,6 +103,37 @@ ill_formed (b ∷ more) e = some_bad (fields (b ∷ more)) e
 pub skip : {A : Type 0} (b : Bool) (x y : A) → b ≡ false → cond b x y ≡ y
 skip b x y e = ap (λ t. cond t x y) e
 
+-- words that ask for nothing with three arguments
+three_formless : (word : List ℕ) → same_bytes word (codes "hold") ≡ false → same_bytes word (codes "take") ≡ false →
+    (rules : Rules) (a b c : List ℕ) → form_of rules word (a ∷ b ∷ c ∷ []) ≡ None
+three_formless word h t Standard a b c = refl
+three_formless word h t Openbsd a b c = skip _ _ _ h ∙ skip _ _ _ t
+
+pub uses_formless : (rules : Rules) (word : List ℕ) → asks_promises rules word ≡ true → (a b c : List ℕ) →
+    form_of rules word (a ∷ b ∷ c ∷ []) ≡ None
+uses_formless Standard word t a b c = refl
+uses_formless Openbsd word t a b c =
+    subst (λ w. form_of Openbsd w (a ∷ b ∷ c ∷ []) ≡ None) (sym (same_word word (codes "uses") t)) refl
+
+asked_formless : (rules : Rules) (word : List ℕ) (call : Call) → call_asked_by rules word ≡ Some call → (a b c : List ℕ) →
+    form_of rules word (a ∷ b ∷ c ∷ []) ≡ None
+asked_formless Standard word call asked a b c = refl
+asked_formless Openbsd word call asked a b c = by (same_bytes word (codes "hold")) (same_bytes word (codes "take")) refl refl
+  where
+    no_call : (name : List ℕ) → same_bytes word name ≡ true → call_asked_by Openbsd name ≡ None → ⊥
+    no_call name is none = None≢Some call (sym none ∙ ap (call_asked_by Openbsd) (sym (same_word word name is)) ∙ asked)
+
+    by : (h t : Bool) → same_bytes word (codes "hold") ≡ h → same_bytes word (codes "take") ≡ t
+        → cond h (hold_form (descriptor_in a) (open_named b) c)
+        (cond t (take_form (descriptor_in a) (number_in b) (descriptor_in c)) None) ≡ None
+    by true t is other = absurd (no_call (codes "hold") is refl)
+    by false true is other = absurd (no_call (codes "take") other refl)
+    by false false is other = refl
+
+-- what stands behind a word, by what word about descriptors it is: of close, fchdir, hold and take
+abbrev pub said_of : Bool → Bool → Bool → Bool → Option Arguments
+said_of c f h t = cond c (Some Descriptor) (cond f (Some Descriptor) (cond h (Some ToHold) (cond t (Some ToTake) None)))
+
 module _ (rules : Rules) (n : ℕ) where
   -- a word that is said to be no call's is none's
   abbrev pub Fits : Advised → Type 0
@@ -124,6 +161,8 @@ module _ (rules : Rules) (n : ℕ) where
   form_fits (UnknownPromise word) is = tt
   form_fits (UnneededPromise word) is = tt
   form_fits (RepeatedPromise word) is = tt
+  form_fits (NoDescriptor word) is = tt
+  form_fits (NoOpening word) is = tt
 
   -- of two steps
   agree_then : {A B : Type 0} (o p : Option Advised) (r : Result A ScriptFault) (next : A → Result B ScriptFault) → Agrees o r →
@@ -222,9 +261,117 @@ module _ (rules : Rules) (n : ℕ) where
   misuse_agrees word None e = (refl, e)
   misuse_agrees word (Some what) e = (refl, tt)
 
-  many_agree : (word a b c : List ℕ) (more : List (List ℕ)) →
-      Agrees (action_advice rules (word ∷ a ∷ b ∷ c ∷ more)) (action_in rules n (word ∷ a ∷ b ∷ c ∷ more))
-  many_agree word a b c more = misuse_agrees word (arguments_of rules word) refl
+  many_agree : (word a b c d : List ℕ) (more : List (List ℕ)) →
+      Agrees (action_advice rules (word ∷ a ∷ b ∷ c ∷ d ∷ more)) (action_in rules n (word ∷ a ∷ b ∷ c ∷ d ∷ more))
+  many_agree word a b c d more = misuse_agrees word (arguments_of rules word) refl
+
+  -- of lines about descriptors
+  close_agrees : (a : List ℕ) → Agrees (descriptor_advice a) (ok_or (option_map CloseForm (descriptor_in a)) (BadCall n) >>= action_of n)
+  close_agrees a = by (descriptor_in a)
+    where
+      by : (o : Option ℕ) → Agrees (cond (is_some o) None (Some (NoDescriptor a))) (ok_or (option_map CloseForm o) (BadCall n) >>= action_of n)
+      by None = (refl, tt)
+      by (Some number) = tt
+
+  fchdir_agrees : (a : List ℕ) → Agrees (descriptor_advice a) (ok_or (option_map FchdirForm (descriptor_in a)) (BadCall n) >>= action_of n)
+  fchdir_agrees a = by (descriptor_in a)
+    where
+      by : (o : Option ℕ) → Agrees (cond (is_some o) None (Some (NoDescriptor a))) (ok_or (option_map FchdirForm o) (BadCall n) >>= action_of n)
+      by None = (refl, tt)
+      by (Some number) = tt
+
+  hold_agrees : (a b c : List ℕ) → Agrees (option_or (descriptor_advice a) (option_or (opening_advice b) (path_advice c)))
+      (ok_or (hold_form (descriptor_in a) (open_named b) c) (BadCall n) >>= action_of n)
+  hold_agrees a b c = by (descriptor_in a) (open_named b)
+    where
+      by : (o : Option ℕ) (p : Option Call)
+          → Agrees (option_or (cond (is_some o) None (Some (NoDescriptor a))) (option_or (cond (is_some p) None (Some (NoOpening b))) (path_advice c)))
+          (ok_or (hold_form o p c) (BadCall n) >>= action_of n)
+      by None p = (refl, tt)
+      by (Some number) None = (refl, tt)
+      by (Some number) (Some call) =
+          agree_made (path_advice c) (ok_or (path_in c) (BadPath n)) (λ path. Hold number call path) (path_agrees c)
+
+  take_agrees : (a b c : List ℕ) → Agrees (option_or (descriptor_advice a) (option_or (number_advice b) (descriptor_advice c)))
+      (ok_or (take_form (descriptor_in a) (number_in b) (descriptor_in c)) (BadCall n) >>= action_of n)
+  take_agrees a b c = by (descriptor_in a) (number_in b) (descriptor_in c)
+    where
+      by : (o p q : Option ℕ)
+          → Agrees (option_or (cond (is_some o) None (Some (NoDescriptor a)))
+          (option_or (cond (is_some p) None (Some (NoNumber b))) (cond (is_some q) None (Some (NoDescriptor c)))))
+          (ok_or (take_form o p q) (BadCall n) >>= action_of n)
+      by None p q = (refl, tt)
+      by (Some number) None q = (refl, tt)
+      by (Some number) (Some from) None = (refl, tt)
+      by (Some number) (Some from) (Some theirs) = tt
+
+  -- of a word that may be of such a line, and what stands behind it
+  module _ (word : List ℕ) where
+    alone_said : (c f h t : Bool) → arguments_of rules word ≡ said_of c f h t →
+        Agrees {A = Action} (alone_advice word (said_of c f h t)) (Err (BadCall n))
+    alone_said true f h t e = (refl, tt)
+    alone_said false true h t e = (refl, tt)
+    alone_said false false true t e = (refl, tt)
+    alone_said false false false true e = (refl, tt)
+    alone_said false false false false e = (refl, e)
+
+    one_said : (a : List ℕ) (c f h t : Bool) → arguments_of rules word ≡ said_of c f h t → Agrees (one_advice word (said_of c f h t) a)
+        (ok_or (cond c (option_map CloseForm (descriptor_in a)) (cond f (option_map FchdirForm (descriptor_in a)) None)) (BadCall n) >>= action_of n)
+    one_said a true f h t e = close_agrees a
+    one_said a false true h t e = fchdir_agrees a
+    one_said a false false true t e = (refl, tt)
+    one_said a false false false true e = (refl, tt)
+    one_said a false false false false e = (refl, e)
+
+    two_said : (a b : List ℕ) (c f h t : Bool) → arguments_of rules word ≡ said_of c f h t →
+        Agrees {A = Action} (two_advice word (said_of c f h t) a b) (Err (BadCall n))
+    two_said a b true f h t e = (refl, tt)
+    two_said a b false true h t e = (refl, tt)
+    two_said a b false false true t e = (refl, tt)
+    two_said a b false false false true e = (refl, tt)
+    two_said a b false false false false e = (refl, e)
+
+    -- close and fchdir are no hold and no take
+    three_said : (x y z : List ℕ) (c f h t : Bool) → (c ≡ true → (h ≡ false) × (t ≡ false)) → (f ≡ true → (h ≡ false) × (t ≡ false)) →
+        arguments_of rules word ≡ said_of c f h t → Agrees (three_advice word (said_of c f h t) x y z)
+        (ok_or (cond h (hold_form (descriptor_in x) (open_named y) z)
+        (cond t (take_form (descriptor_in x) (number_in y) (descriptor_in z)) None)) (BadCall n) >>= action_of n)
+    three_said x y z true f true t no_close no_fchdir e = absurd (true≢false (no_close refl).0)
+    three_said x y z true f false true no_close no_fchdir e = absurd (true≢false (no_close refl).1)
+    three_said x y z true f false false no_close no_fchdir e = (refl, tt)
+    three_said x y z false true true t no_close no_fchdir e = absurd (true≢false (no_fchdir refl).0)
+    three_said x y z false true false true no_close no_fchdir e = absurd (true≢false (no_fchdir refl).1)
+    three_said x y z false true false false no_close no_fchdir e = (refl, tt)
+    three_said x y z false false true t no_close no_fchdir e = hold_agrees x y z
+    three_said x y z false false false true no_close no_fchdir e = take_agrees x y z
+    three_said x y z false false false false no_close no_fchdir e = (refl, e)
+
+    alone_filed : (r : Rules) → arguments_of rules word ≡ files_taken r word →
+        Agrees {A = Action} (alone_advice word (files_taken r word)) (Err (BadCall n))
+    alone_filed Standard e = (refl, e)
+    alone_filed Openbsd e = alone_said (same_bytes word (codes "close")) (same_bytes word (codes "fchdir")) (same_bytes word (codes "hold"))
+        (same_bytes word (codes "take")) e
+
+    one_filed : (a : List ℕ) (r : Rules) → arguments_of rules word ≡ files_taken r word →
+        Agrees (one_advice word (files_taken r word) a) (ok_or (if_openbsd r (file_form word a)) (BadCall n) >>= action_of n)
+    one_filed a Standard e = (refl, e)
+    one_filed a Openbsd e = one_said a (same_bytes word (codes "close")) (same_bytes word (codes "fchdir")) (same_bytes word (codes "hold"))
+        (same_bytes word (codes "take")) e
+
+    two_filed : (a b : List ℕ) (r : Rules) → arguments_of rules word ≡ files_taken r word →
+        Agrees {A = Action} (two_advice word (files_taken r word) a b) (Err (BadCall n))
+    two_filed a b Standard e = (refl, e)
+    two_filed a b Openbsd e = two_said a b (same_bytes word (codes "close")) (same_bytes word (codes "fchdir")) (same_bytes word (codes "hold"))
+        (same_bytes word (codes "take")) e
+
+    three_filed : (a b c : List ℕ) (r : Rules) → arguments_of rules word ≡ files_taken r word →
+        Agrees (three_advice word (files_taken r word) a b c) (ok_or (if_openbsd r (files_form word a b c)) (BadCall n) >>= action_of n)
+    three_filed a b c Standard e = (refl, e)
+    three_filed a b c Openbsd e = three_said a b c (same_bytes word (codes "close")) (same_bytes word (codes "fchdir")) (same_bytes word (codes "hold"))
+        (same_bytes word (codes "take"))
+        (λ is. (ap (λ w. same_bytes w (codes "hold")) (same_word word (codes "close") is), ap (λ w. same_bytes w (codes "take")) (same_word word (codes "close") is)))
+        (λ is. (ap (λ w. same_bytes w (codes "hold")) (same_word word (codes "fchdir") is), ap (λ w. same_bytes w (codes "take")) (same_word word (codes "fchdir") is)))
+        e
 
   -- of a word and what stands behind it
   abbrev Word : List ℕ → Type 0
@@ -236,11 +383,17 @@ module _ (rules : Rules) (n : ℕ) where
   one_refused word a what formless =
       subst (λ form. Agrees (Some (Takes word what)) (ok_or form (BadCall n) >>= action_of n)) (sym formless) (refl, tt)
 
+  three_refused : (word a b c : List ℕ) (what : Arguments) → form_of rules word (a ∷ b ∷ c ∷ []) ≡ None →
+      Agrees (Some (Takes word what)) (action_in rules n (word ∷ a ∷ b ∷ c ∷ []))
+  three_refused word a b c what formless =
+      subst (λ form. Agrees (Some (Takes word what)) (ok_or form (BadCall n) >>= action_of n)) (sym formless) (refl, tt)
+
   exit_agrees : Word (codes "exit")
   exit_agrees [] = tt
   exit_agrees (a ∷ []) = one_refused (codes "exit") a Nothing (exit_formless rules a)
   exit_agrees (a ∷ b ∷ []) = (refl, tt)
-  exit_agrees (a ∷ b ∷ c ∷ more) = many_agree (codes "exit") a b c more
+  exit_agrees (a ∷ b ∷ c ∷ []) = three_refused (codes "exit") a b c Nothing (three_formless (codes "exit") refl refl rules a b c)
+  exit_agrees (a ∷ b ∷ c ∷ d ∷ more) = many_agree (codes "exit") a b c d more
 
   fork_agrees : Word (codes "fork")
   fork_agrees [] = (refl, tt)
@@ -250,31 +403,36 @@ module _ (rules : Rules) (n : ℕ) where
       by None = (refl, tt)
       by (Some number) = tt
   fork_agrees (a ∷ b ∷ []) = (refl, tt)
-  fork_agrees (a ∷ b ∷ c ∷ more) = many_agree (codes "fork") a b c more
+  fork_agrees (a ∷ b ∷ c ∷ []) = three_refused (codes "fork") a b c Number (three_formless (codes "fork") refl refl rules a b c)
+  fork_agrees (a ∷ b ∷ c ∷ d ∷ more) = many_agree (codes "fork") a b c d more
 
   rename_agrees : Word (codes "rename")
   rename_agrees [] = (refl, tt)
   rename_agrees (a ∷ []) = one_refused (codes "rename") a TwoPaths (rename_formless rules a)
   rename_agrees (a ∷ b ∷ []) = paths_agree Rename a b
-  rename_agrees (a ∷ b ∷ c ∷ more) = many_agree (codes "rename") a b c more
+  rename_agrees (a ∷ b ∷ c ∷ []) = three_refused (codes "rename") a b c TwoPaths (three_formless (codes "rename") refl refl rules a b c)
+  rename_agrees (a ∷ b ∷ c ∷ d ∷ more) = many_agree (codes "rename") a b c d more
 
   link_agrees : Word (codes "link")
   link_agrees [] = (refl, tt)
   link_agrees (a ∷ []) = one_refused (codes "link") a TwoPaths (link_formless rules a)
   link_agrees (a ∷ b ∷ []) = paths_agree Link a b
-  link_agrees (a ∷ b ∷ c ∷ more) = many_agree (codes "link") a b c more
+  link_agrees (a ∷ b ∷ c ∷ []) = three_refused (codes "link") a b c TwoPaths (three_formless (codes "link") refl refl rules a b c)
+  link_agrees (a ∷ b ∷ c ∷ d ∷ more) = many_agree (codes "link") a b c d more
 
   pledge_agrees : Word (codes "pledge")
   pledge_agrees [] = (refl, tt)
   pledge_agrees (a ∷ []) = one_refused (codes "pledge") a Promises (pledge_formless rules a)
   pledge_agrees (a ∷ b ∷ []) = lists_agree a b
-  pledge_agrees (a ∷ b ∷ c ∷ more) = many_agree (codes "pledge") a b c more
+  pledge_agrees (a ∷ b ∷ c ∷ []) = three_refused (codes "pledge") a b c Promises (three_formless (codes "pledge") refl refl rules a b c)
+  pledge_agrees (a ∷ b ∷ c ∷ d ∷ more) = many_agree (codes "pledge") a b c d more
 
   unveil_word_agrees : Word (codes "unveil")
   unveil_word_agrees [] = (refl, tt)
   unveil_word_agrees (a ∷ []) = one_refused (codes "unveil") a PathAndLetters (unveil_formless rules a)
   unveil_word_agrees (a ∷ b ∷ []) = unveil_agrees (codes "unveil") a b
-  unveil_word_agrees (a ∷ b ∷ c ∷ more) = many_agree (codes "unveil") a b c more
+  unveil_word_agrees (a ∷ b ∷ c ∷ []) = three_refused (codes "unveil") a b c PathAndLetters (three_formless (codes "unveil") refl refl rules a b c)
+  unveil_word_agrees (a ∷ b ∷ c ∷ d ∷ more) = many_agree (codes "unveil") a b c d more
 
   symlink_agrees : Word (codes "symlink")
   symlink_agrees [] =
@@ -284,24 +442,32 @@ module _ (rules : Rules) (n : ℕ) where
       (one_refused (codes "symlink") a TargetAndPath (symlink_formless rules a))
   symlink_agrees (a ∷ b ∷ []) =
       subst (λ o. Agrees (two_advice (codes "symlink") o a b) (with_paths n Symlink a b)) (sym (symlink_taken rules)) (paths_agree Symlink a b)
-  symlink_agrees (a ∷ b ∷ c ∷ more) = many_agree (codes "symlink") a b c more
+  symlink_agrees (a ∷ b ∷ c ∷ []) =
+      subst (λ o. Agrees (three_advice (codes "symlink") o a b c) (action_in rules n (codes "symlink" ∷ a ∷ b ∷ c ∷ []))) (sym (symlink_taken rules))
+      (three_refused (codes "symlink") a b c TargetAndPath (three_formless (codes "symlink") refl refl rules a b c))
+  symlink_agrees (a ∷ b ∷ c ∷ d ∷ more) = many_agree (codes "symlink") a b c d more
 
   -- what one argument asks for behind a word of this call
-  abbrev formed : List ℕ → Option Call → Result Action ScriptFault
-  formed a o = ok_or (option_map (λ c. PathForm c a) (only_if (λ c. not (is_symlink c)) o)) (BadCall n) >>= action_of n
+  abbrev formed : List ℕ → List ℕ → Option Call → Result Action ScriptFault
+  formed word a o = ok_or (option_or (option_map (λ c. PathForm c a) (only_if (λ c. not (is_symlink c)) o))
+      (if_openbsd rules (file_form word a))) (BadCall n) >>= action_of n
+
+  -- what stands behind such a word
+  abbrev pub behind_call : List ℕ → Option Call → Option Arguments
+  behind_call word o = option_or (option_map call_takes o) (files_taken rules word)
 
   -- of the words of calls with one path, and of those of none
   module _ (word : List ℕ) (e : same_bytes word (codes "exit") ≡ false) (f : same_bytes word (codes "fork") ≡ false)
       (r : same_bytes word (codes "rename") ≡ false) (l : same_bytes word (codes "link") ≡ false)
       (p : same_bytes word (codes "pledge") ≡ false) (u : same_bytes word (codes "unveil") ≡ false)
       (s : same_bytes word (codes "symlink") ≡ false) where
-    pub asked_or_taken : arguments_of rules word ≡ cond (asks_promises rules word) (Some AnyPromises) (option_map call_takes (call_asked_by rules word))
+    pub asked_or_taken : arguments_of rules word ≡ cond (asks_promises rules word) (Some AnyPromises) (behind_call word (call_asked_by rules word))
     asked_or_taken = skip _ _ _ e ∙ skip _ _ _ f ∙ skip _ _ _ r ∙ skip _ _ _ l ∙ skip _ _ _ p ∙ skip _ _ _ u
 
     -- of a word behind which promises stand
     module _ (t : asks_promises rules word ≡ true) where
       pub promised : arguments_of rules word ≡ Some AnyPromises
-      promised = asked_or_taken ∙ ap (λ b. cond b (Some AnyPromises) (option_map call_takes (call_asked_by rules word))) t
+      promised = asked_or_taken ∙ ap (λ b. cond b (Some AnyPromises) (behind_call word (call_asked_by rules word))) t
 
       asked_agrees : Word word
       asked_agrees [] =
@@ -309,29 +475,37 @@ module _ (rules : Rules) (n : ℕ) where
           (subst (λ o. Agrees {A = Action} (alone_advice word o) (Err (BadCall n))) (sym promised) (refl, tt))
       asked_agrees (a ∷ []) =
           subst (λ form. Agrees (one_advice word (arguments_of rules word) a) (ok_or form (BadCall n) >>= action_of n))
-          (sym (skip _ _ _ f ∙ ap (λ b. cond b (Some (UsesForm a)) (option_map (λ c. PathForm c a) (only_if (λ c. not (is_symlink c)) (call_asked_by rules word)))) t))
+          (sym (skip _ _ _ f ∙ ap (λ b. cond b (Some (UsesForm a)) (option_or (option_map (λ c. PathForm c a)
+          (only_if (λ c. not (is_symlink c)) (call_asked_by rules word))) (if_openbsd rules (file_form word a)))) t))
           (subst (λ o. Agrees (one_advice word o a) (action_of n (UsesForm a))) (sym promised) (uses_agree word a))
       asked_agrees (a ∷ b ∷ []) =
           subst (λ form. Agrees (two_advice word (arguments_of rules word) a b) (ok_or form (BadCall n) >>= action_of n))
           (sym (skip _ _ _ s ∙ skip _ _ _ r ∙ skip _ _ _ l ∙ skip _ _ _ p ∙ skip _ _ _ u))
           (subst (λ o. Agrees {A = Action} (two_advice word o a b) (Err (BadCall n))) (sym promised) (refl, tt))
-      asked_agrees (a ∷ b ∷ c ∷ more) = many_agree word a b c more
+      asked_agrees (a ∷ b ∷ c ∷ []) =
+          subst (λ o. Agrees (three_advice word o a b c) (action_in rules n (word ∷ a ∷ b ∷ c ∷ []))) (sym promised)
+          (three_refused word a b c AnyPromises (uses_formless rules word t a b c))
+      asked_agrees (a ∷ b ∷ c ∷ d ∷ more) = many_agree word a b c d more
 
     -- and of any other word
     module _ (t : asks_promises rules word ≡ false) where
-      pub taken : arguments_of rules word ≡ option_map call_takes (call_asked_by rules word)
+      pub taken : arguments_of rules word ≡ behind_call word (call_asked_by rules word)
       taken = asked_or_taken ∙ skip _ _ _ t
 
-      none_taken : call_asked_by rules word ≡ None → arguments_of rules word ≡ None
-      none_taken asked = taken ∙ ap (option_map call_takes) asked
+      none_taken : call_asked_by rules word ≡ None → arguments_of rules word ≡ files_taken rules word
+      none_taken asked = taken ∙ ap (behind_call word) asked
+
+      no_symlink : (call : Call) → call_asked_by rules word ≡ Some call → is_symlink call ≡ true → ⊥
+      no_symlink call asked is =
+          false≢true (sym s ∙ ap (λ w. same_bytes w (codes "symlink")) (asked_symlink rules word call asked is))
 
       alone_agrees : Agrees (alone_advice word (arguments_of rules word)) (action_in rules n (word ∷ []))
       alone_agrees =
           subst (λ form. Agrees (alone_advice word (arguments_of rules word)) (ok_or form (BadCall n) >>= action_of n)) (sym (skip _ _ _ e))
           (subst (λ o. Agrees {A = Action} (alone_advice word o) (Err (BadCall n))) (sym taken) (by (call_asked_by rules word) refl))
         where
-          by : (o : Option Call) → call_asked_by rules word ≡ o → Agrees {A = Action} (alone_advice word (option_map call_takes o)) (Err (BadCall n))
-          by None asked = (refl, none_taken asked)
+          by : (o : Option Call) → call_asked_by rules word ≡ o → Agrees {A = Action} (alone_advice word (behind_call word o)) (Err (BadCall n))
+          by None asked = alone_filed word rules (none_taken asked)
           by (Some call) asked = linked (is_symlink call)
             where
               linked : (b : Bool) → Agrees {A = Action} (alone_advice word (Some (cond b TargetAndPath Path))) (Err (BadCall n))
@@ -341,16 +515,17 @@ module _ (rules : Rules) (n : ℕ) where
       one_agrees : (a : List ℕ) → Agrees (one_advice word (arguments_of rules word) a) (action_in rules n (word ∷ a ∷ []))
       one_agrees a =
           subst (λ form. Agrees (one_advice word (arguments_of rules word) a) (ok_or form (BadCall n) >>= action_of n)) (sym (skip _ _ _ f ∙ skip _ _ _ t))
-          (subst (λ o. Agrees (one_advice word o a) (formed a (call_asked_by rules word))) (sym taken) (by (call_asked_by rules word) refl))
+          (subst (λ o. Agrees (one_advice word o a) (formed word a (call_asked_by rules word))) (sym taken) (by (call_asked_by rules word) refl))
         where
-          by : (o : Option Call) → call_asked_by rules word ≡ o → Agrees (one_advice word (option_map call_takes o) a) (formed a o)
-          by None asked = (refl, none_taken asked)
-          by (Some call) asked = linked (is_symlink call)
+          by : (o : Option Call) → call_asked_by rules word ≡ o → Agrees (one_advice word (behind_call word o) a) (formed word a o)
+          by None asked = one_filed word a rules (none_taken asked)
+          by (Some call) asked = linked (is_symlink call) refl
             where
-              linked : (b : Bool) → Agrees (one_advice word (Some (cond b TargetAndPath Path)) a)
-                  (ok_or (option_map (λ c. PathForm c a) (cond (not b) (Some call) None)) (BadCall n) >>= action_of n)
-              linked true = (refl, tt)
-              linked false = agree_made (path_advice a) (ok_or (path_in a) (BadPath n)) (λ path. OnPath call path) (path_agrees a)
+              linked : (b : Bool) → is_symlink call ≡ b → Agrees (one_advice word (Some (cond b TargetAndPath Path)) a)
+                  (ok_or (option_or (option_map (λ c. PathForm c a) (cond (not b) (Some call) None)) (if_openbsd rules (file_form word a))) (BadCall n)
+                  >>= action_of n)
+              linked true is = absurd (no_symlink call asked is)
+              linked false is = agree_made (path_advice a) (ok_or (path_in a) (BadPath n)) (λ path. OnPath call path) (path_agrees a)
 
       two_agrees : (a b : List ℕ) → Agrees (two_advice word (arguments_of rules word) a b) (action_in rules n (word ∷ a ∷ b ∷ []))
       two_agrees a b =
@@ -358,19 +533,33 @@ module _ (rules : Rules) (n : ℕ) where
           (sym (skip _ _ _ s ∙ skip _ _ _ r ∙ skip _ _ _ l ∙ skip _ _ _ p ∙ skip _ _ _ u))
           (subst (λ o. Agrees {A = Action} (two_advice word o a b) (Err (BadCall n))) (sym taken) (by (call_asked_by rules word) refl))
         where
-          by : (o : Option Call) → call_asked_by rules word ≡ o → Agrees {A = Action} (two_advice word (option_map call_takes o) a b) (Err (BadCall n))
-          by None asked = (refl, none_taken asked)
+          by : (o : Option Call) → call_asked_by rules word ≡ o → Agrees {A = Action} (two_advice word (behind_call word o) a b) (Err (BadCall n))
+          by None asked = two_filed word a b rules (none_taken asked)
           by (Some call) asked = linked (is_symlink call) refl
             where
               linked : (b' : Bool) → is_symlink call ≡ b' → Agrees {A = Action} (two_advice word (Some (cond b' TargetAndPath Path)) a b) (Err (BadCall n))
-              linked true is = absurd (false≢true (sym s ∙ ap (λ w. same_bytes w (codes "symlink")) (asked_symlink rules word call asked is)))
+              linked true is = absurd (no_symlink call asked is)
               linked false is = (refl, tt)
+
+      three_agree : (a b c : List ℕ) → Agrees (three_advice word (arguments_of rules word) a b c) (action_in rules n (word ∷ a ∷ b ∷ c ∷ []))
+      three_agree a b c = subst (λ o. Agrees (three_advice word o a b c) (action_in rules n (word ∷ a ∷ b ∷ c ∷ []))) (sym taken)
+          (by (call_asked_by rules word) refl)
+        where
+          by : (o : Option Call) → call_asked_by rules word ≡ o
+              → Agrees (three_advice word (behind_call word o) a b c) (action_in rules n (word ∷ a ∷ b ∷ c ∷ []))
+          by None asked = three_filed word a b c rules (none_taken asked)
+          by (Some call) asked = linked (is_symlink call)
+            where
+              linked : (b' : Bool) → Agrees (three_advice word (Some (cond b' TargetAndPath Path)) a b c) (action_in rules n (word ∷ a ∷ b ∷ c ∷ []))
+              linked true = three_refused word a b c TargetAndPath (asked_formless rules word call asked a b c)
+              linked false = three_refused word a b c Path (asked_formless rules word call asked a b c)
 
       plain_agrees : Word word
       plain_agrees [] = alone_agrees
       plain_agrees (a ∷ []) = one_agrees a
       plain_agrees (a ∷ b ∷ []) = two_agrees a b
-      plain_agrees (a ∷ b ∷ c ∷ more) = many_agree word a b c more
+      plain_agrees (a ∷ b ∷ c ∷ []) = three_agree a b c
+      plain_agrees (a ∷ b ∷ c ∷ d ∷ more) = many_agree word a b c d more
 
     other_agrees : Word word
     other_agrees = by (asks_promises rules word) refl

@@ -28,13 +28,14 @@ pub form_behind : (line : List ℕ) → false ≡ (length line == 0) →
 form_behind [] e = absurd (true≢false (sym e))
 form_behind (b ∷ more) e = refl
 
--- no call has more than two arguments
-pub many_arguments : (word : List ℕ) (what : Option Arguments) (fs : List (Bor (List ℕ))) → 3 ≤ length fs →
+-- no call has more than three arguments
+pub many_arguments : (word : List ℕ) (what : Option Arguments) (fs : List (Bor (List ℕ))) → 4 ≤ length fs →
     arguments_advice word what (map (λ f. f.now) fs) ≡ misuse word what
 many_arguments word what [] long = absurd (omega arith)
 many_arguments word what (a ∷ []) long = absurd (omega arith)
 many_arguments word what (a ∷ b ∷ []) long = absurd (omega arith)
-many_arguments word what (a ∷ b ∷ c ∷ more) long = refl
+many_arguments word what (a ∷ b ∷ c ∷ []) long = absurd (omega arith)
+many_arguments word what (a ∷ b ∷ c ∷ d ∷ more) long = refl
 
 -- the first six fields decide
 six_decide : (rules : Rules) (fs : List (List ℕ)) → fields_advice rules fs ≡ fields_advice rules (take 6 fs)
@@ -43,7 +44,8 @@ six_decide rules (p ∷ []) = refl
 six_decide rules (p ∷ w ∷ []) = refl
 six_decide rules (p ∷ w ∷ a ∷ []) = refl
 six_decide rules (p ∷ w ∷ a ∷ b ∷ []) = refl
-six_decide rules (p ∷ w ∷ a ∷ b ∷ c ∷ more) = refl
+six_decide rules (p ∷ w ∷ a ∷ b ∷ c ∷ []) = refl
+six_decide rules (p ∷ w ∷ a ∷ b ∷ c ∷ d ∷ more) = refl
 
 pub by_form : (rules : Rules) (line : List ℕ) → None ≡ first_fields line → text_advice rules line ≡ form_advice line
 by_form rules line e = by (list_all is_field (fields line)) refl e

@@ -2,6 +2,7 @@
 use Rattle.std.proofs.Common.{◌≡◌, ℕ, zero, suc, ◌+◌, ◌-◌, ◌⊎◌, inl, inr, Bool, true, false, cond, List, [], ◌∷◌, refl, sym, ap, subst, ◌∙◌}
 use Rattle.std.proofs.Common.{Option, Some, None, Result, Ok, Err, length, take, arith}
 use Rattle.std.specs.Prelude.{codes, nat_lt, not, option_and_then, option_map, slice_get}
+use Rattle.std.specs.Option.{option_or}
 use Rattle.std.specs.Str.Lines.{lines}
 use Rattle.pua_tree.specs.Names.{same_bytes}
 use Rattle.pua_tree.specs.Steps.{◌>>=◌}
@@ -9,17 +10,20 @@ use Rattle.pua_tree.specs.Listing.{only_if}
 use Rattle.pua_tree.proofs.ForCallers.{None≢Some, Some≢None, Err≢Ok}
 use Rattle.pua_calls.specs.Neighbours.{call_asked_by}
 use Rattle.pua_calls.specs.declared.rules.Rules.{Rules}
+use Rattle.pua_calls.specs.declared.rules.Rules.TheVariants.{Standard, Openbsd}
 use Rattle.pua_calls.specs.declared.call.Call.{Call}
 use Rattle.pua_script.specs.Limits.{most_script_lines}
 use Rattle.pua_script.specs.Requests.{Asked, is_symlink}
-use Rattle.pua_script.specs.Scripts.{PathForm, asks_promises, form_of, request_by, requests_of}
+use Rattle.pua_script.specs.Scripts.{PathForm, asks_promises, file_form, files_form, form_of, if_openbsd, request_by, requests_of}
 use Rattle.pua_script.specs.declared.fault.ScriptFault.{ScriptFault}
 use Rattle.pua_script.specs.declared.fault.ScriptFault.TheVariants.{TooMany}
 use Rattle.pua_advice.specs.declared.arguments.Arguments.TheVariants.{Nothing, Number, TargetAndPath, TwoPaths, Promises, PathAndLetters, AnyPromises}
-use Rattle.pua_advice.specs.Advice.{Advised, advice_of, arguments_of, call_takes, line_at, script_advice}
+use Rattle.pua_advice.specs.declared.arguments.Arguments.{Arguments}
+use Rattle.pua_advice.specs.declared.arguments.Arguments.TheVariants.{Descriptor, ToHold, ToTake}
+use Rattle.pua_advice.specs.Advice.{Advised, advice_of, arguments_of, call_takes, files_taken, line_at, script_advice}
 use Rattle.pua_advice.specs.Laws.{RefusedAreAdvised, ScriptsAreAdvised, UnknownAreNone}
 use Rattle.pua_advice.proofs.Words.{by_word, symlink_taken}
-use Rattle.pua_advice.proofs.Agreeing.{Agrees, lines_agree, unknown_fits, skip, promised, taken}
+use Rattle.pua_advice.proofs.Agreeing.{Agrees, lines_agree, unknown_fits, said_of, skip, promised, taken, uses_formless}
 
 pub refused_are_advised : RefusedAreAdvised
 refused_are_advised rules n line = (
@@ -37,10 +41,24 @@ refused_are_advised rules n line = (
     told (Some advice) (Ok other) ask e agrees = absurd agrees
     told (Some advice) (Err fault) ask e agrees = absurd (Err≢Ok fault ask e)
 
--- no call takes what is none's
-unasked : (o : Option Call) → option_map call_takes o ≡ None → o ≡ None
-unasked None e = refl
-unasked (Some call) e = absurd (Some≢None (call_takes call) e)
+-- no call takes what is none's, and no line about descriptors
+unasked : (o : Option Call) (other : Option Arguments) → option_or (option_map call_takes o) other ≡ None → (o ≡ None) × (other ≡ None)
+unasked None other e = (refl, e)
+unasked (Some call) other e = absurd (Some≢None (call_takes call) e)
+
+unsaid : {A : Type 0} (x y z w : Option A) (c f h t : Bool) → said_of c f h t ≡ None →
+    (cond c x (cond f y None) ≡ None) × (cond h z (cond t w None) ≡ None)
+unsaid x y z w true f h t e = absurd (Some≢None Descriptor e)
+unsaid x y z w false true h t e = absurd (Some≢None Descriptor e)
+unsaid x y z w false false true t e = absurd (Some≢None ToHold e)
+unsaid x y z w false false false true e = absurd (Some≢None ToTake e)
+unsaid x y z w false false false false e = (refl, refl)
+
+unfiled : (rules : Rules) (word : List ℕ) → files_taken rules word ≡ None → (a b c : List ℕ) →
+    (if_openbsd rules (file_form word a) ≡ None) × (if_openbsd rules (files_form word a b c) ≡ None)
+unfiled Standard word e a b c = (refl, refl)
+unfiled Openbsd word e a b c = unsaid _ _ _ _ (same_bytes word (codes "close")) (same_bytes word (codes "fchdir")) (same_bytes word (codes "hold"))
+    (same_bytes word (codes "take")) e
 
 formless : (rules : Rules) (word : List ℕ) → arguments_of rules word ≡ None → (arguments : List (List ℕ)) → form_of rules word arguments ≡ None
 formless rules =
@@ -60,10 +78,19 @@ formless rules =
       where
         by : (b : Bool) → asks_promises rules word ≡ b → form_of rules word (a ∷ []) ≡ None
         by true t = absurd (Some≢None AnyPromises (sym (promised rules 0 word e f r l p u s t) ∙ none))
-        by false t = skip _ _ _ f ∙ skip _ _ _ t ∙ ap (λ o. option_map (λ c. PathForm c a) (only_if (λ c. not (is_symlink c)) o))
-            (unasked (call_asked_by rules word) (sym (taken rules 0 word e f r l p u s t) ∙ none))
+        by false t =
+            let un = unasked (call_asked_by rules word) (files_taken rules word) (sym (taken rules 0 word e f r l p u s t) ∙ none) in
+            skip _ _ _ f ∙ skip _ _ _ t
+            ∙ ap (λ o. option_or (option_map (λ c. PathForm c a) (only_if (λ c. not (is_symlink c)) o)) (if_openbsd rules (file_form word a))) un.0
+            ∙ (unfiled rules word un.1 a [] []).0
     other word e f r l p u s none (a ∷ b ∷ []) = skip _ _ _ s ∙ skip _ _ _ r ∙ skip _ _ _ l ∙ skip _ _ _ p ∙ skip _ _ _ u
-    other word e f r l p u s none (a ∷ b ∷ c ∷ more) = refl
+    other word e f r l p u s none (a ∷ b ∷ c ∷ []) = by (asks_promises rules word) refl
+      where
+        by : (t : Bool) → asks_promises rules word ≡ t → form_of rules word (a ∷ b ∷ c ∷ []) ≡ None
+        by true t = uses_formless rules word t a b c
+        by false t = (unfiled rules word (unasked (call_asked_by rules word) (files_taken rules word)
+            (sym (taken rules 0 word e f r l p u s t) ∙ none)).1 a b c).1
+    other word e f r l p u s none (a ∷ b ∷ c ∷ d ∷ more) = refl
 
 pub unknown_are_none : UnknownAreNone
 unknown_are_none rules line word e arguments = formless rules word (unknown_fits rules 0 line word e) arguments

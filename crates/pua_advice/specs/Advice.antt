@@ -10,14 +10,16 @@ use Rattle.pua_path.specs.declared.errno.Errno.{Errno}
 use Rattle.pua_calls.specs.Promises.{holds, error, promises_of}
 use Rattle.pua_calls.specs.Neighbours.{call_asked_by}
 use Rattle.pua_calls.specs.declared.rules.Rules.{Rules}
+use Rattle.pua_calls.specs.declared.rules.Rules.TheVariants.{Standard, Openbsd}
 use Rattle.pua_calls.specs.declared.call.Call.{Call}
 use Rattle.pua_script.specs.Limits.{most_number}
 use Rattle.pua_script.specs.Requests.{is_symlink}
-use Rattle.pua_script.specs.Scripts.{asks_promises, further_set, given_in, is_blank, is_dash, path_in, text_in}
+use Rattle.pua_script.specs.Scripts.{asks_promises, descriptor_in, further_set, given_in, is_blank, is_dash, open_named, path_in, text_in}
 use Rattle.pua_script.specs.FaultTexts.{script_told}
 use Rattle.pua_script.specs.declared.fault.ScriptFault.{ScriptFault}
 use Rattle.pua_advice.specs.declared.arguments.Arguments.{Arguments}
 use Rattle.pua_advice.specs.declared.arguments.Arguments.TheVariants.{Nothing, Number, Path, TargetAndPath, TwoPaths, Promises, PathAndLetters, AnyPromises}
+use Rattle.pua_advice.specs.declared.arguments.Arguments.TheVariants.{Descriptor, ToHold, ToTake}
 use Rattle.pua_advice.specs.declared.advice.Advice.{Advice}
 use Rattle.pua_advice.specs.declared.advice.Advice.TheVariants as lent
 
@@ -36,6 +38,8 @@ pub data Advised : Type 0 where
   UnknownPromise : List ℕ → Advised
   UnneededPromise : List ℕ → Advised
   RepeatedPromise : List ℕ → Advised
+  NoDescriptor : List ℕ → Advised
+  NoOpening : List ℕ → Advised
 
 -- the same, its word lent
 abbrev pub advice_seen : Advice → Advised
@@ -52,6 +56,8 @@ advice_seen (lent.EmptyPromise word) = EmptyPromise word.now
 advice_seen (lent.UnknownPromise word) = UnknownPromise word.now
 advice_seen (lent.UnneededPromise word) = UnneededPromise word.now
 advice_seen (lent.RepeatedPromise word) = RepeatedPromise word.now
+advice_seen (lent.NoDescriptor word) = NoDescriptor word.now
+advice_seen (lent.NoOpening word) = NoOpening word.now
 
 -- a byte that a field may have
 abbrev pub is_visible : ℕ → Bool
@@ -71,6 +77,15 @@ form_advice (b ∷ more) = option_and_then field_advice (find (λ field. not (is
 abbrev pub call_takes : Call → Arguments
 call_takes call = if is_symlink call then TargetAndPath else Path
 
+-- and one about descriptors, which there are by OpenBSD's rules alone
+abbrev pub files_taken : Rules → List ℕ → Option Arguments
+files_taken Standard word = None
+files_taken Openbsd word =
+    if same_bytes word (codes "close") then Some Descriptor
+    else (if same_bytes word (codes "fchdir") then Some Descriptor
+    else (if same_bytes word (codes "hold") then Some ToHold
+    else (if same_bytes word (codes "take") then Some ToTake else None)))
+
 -- what stands behind this word in a line by rules, if it is the word of a call by these
 abbrev pub arguments_of : Rules → List ℕ → Option Arguments
 arguments_of rules word =
@@ -81,7 +96,7 @@ arguments_of rules word =
     else (if same_bytes word (codes "pledge") then Some Promises
     else (if same_bytes word (codes "unveil") then Some PathAndLetters
     else (if asks_promises rules word then Some AnyPromises
-    else option_map call_takes (call_asked_by rules word)))))))
+    else option_or (option_map call_takes (call_asked_by rules word)) (files_taken rules word)))))))
 
 -- of a call with other arguments, and of none
 abbrev pub misuse : List ℕ → Option Arguments → Option Advised
@@ -99,6 +114,13 @@ unspelled_advice field (Some bytes) = Some (HasNul field)
 
 abbrev pub path_advice : List ℕ → Option Advised
 path_advice field = if is_some (path_in field) then None else unspelled_advice field (bytes_spelled field)
+
+-- and no number of a descriptor, and no call that opens and makes nothing
+abbrev pub descriptor_advice : List ℕ → Option Advised
+descriptor_advice field = if is_some (descriptor_in field) then None else Some (NoDescriptor field)
+
+abbrev pub opening_advice : List ℕ → Option Advised
+opening_advice field = if is_some (open_named field) then None else Some (NoOpening field)
 
 -- and no list of promises
 abbrev pub list_advice : List ℕ → Option Advised
@@ -142,6 +164,7 @@ abbrev pub one_advice : List ℕ → Option Arguments → List ℕ → Option Ad
 one_advice word (Some Number) a = number_advice a
 one_advice word (Some Path) a = path_advice a
 one_advice word (Some AnyPromises) a = uses_advice word a
+one_advice word (Some Descriptor) a = descriptor_advice a
 one_advice word what a = misuse word what
 
 abbrev pub two_advice : List ℕ → Option Arguments → List ℕ → List ℕ → Option Advised
@@ -151,11 +174,17 @@ two_advice word (Some Promises) a b = option_or (list_advice a) (list_advice b)
 two_advice word (Some PathAndLetters) a b = unveil_advice word a b
 two_advice word what a b = misuse word what
 
+abbrev pub three_advice : List ℕ → Option Arguments → List ℕ → List ℕ → List ℕ → Option Advised
+three_advice word (Some ToHold) a b c = option_or (descriptor_advice a) (option_or (opening_advice b) (path_advice c))
+three_advice word (Some ToTake) a b c = option_or (descriptor_advice a) (option_or (number_advice b) (descriptor_advice c))
+three_advice word what a b c = misuse word what
+
 abbrev pub arguments_advice : List ℕ → Option Arguments → List (List ℕ) → Option Advised
 arguments_advice word what [] = alone_advice word what
 arguments_advice word what (a ∷ []) = one_advice word what a
 arguments_advice word what (a ∷ b ∷ []) = two_advice word what a b
-arguments_advice word what (a ∷ b ∷ c ∷ more) = misuse word what
+arguments_advice word what (a ∷ b ∷ c ∷ []) = three_advice word what a b c
+arguments_advice word what (a ∷ b ∷ c ∷ d ∷ more) = misuse word what
 
 -- of the fields behind the process's number
 abbrev pub action_advice : Rules → List (List ℕ) → Option Advised

@@ -4,8 +4,9 @@ use Rattle.pua_tree.specs.Examples.{text_of_lines}
 use Rattle.pua_calls.specs.declared.rules.Rules.TheVariants.{Standard, Openbsd}
 use Rattle.pua_script.specs.declared.fault.ScriptFault.TheVariants.{BadLine, BadCall, TooMany}
 use Rattle.pua_advice.specs.declared.arguments.Arguments.TheVariants.{Nothing, Number, Path, TargetAndPath, TwoPaths, Promises, PathAndLetters, AnyPromises}
+use Rattle.pua_advice.specs.declared.arguments.Arguments.TheVariants.{Descriptor, ToHold, ToTake}
 use Rattle.pua_advice.specs.Advice.{EmptyLine, ExtraBlank, HiddenByte, NoNumber, NoCall, UnknownCall, Takes, NoPath, HasNul, EmptyPromise}
-use Rattle.pua_advice.specs.Advice.{UnknownPromise, UnneededPromise, RepeatedPromise}
+use Rattle.pua_advice.specs.Advice.{UnknownPromise, UnneededPromise, RepeatedPromise, NoDescriptor, NoOpening}
 use Rattle.pua_advice.specs.Advice.{advice_of, script_advice}
 use Rattle.pua_advice.specs.Texts.{advice_text}
 
@@ -167,6 +168,50 @@ uses_rows = record {
   standard = refl;
 }
 
+-- descriptors
+pub record FileRows : Type 0 where
+  pub number_left_out : advice_of Openbsd (codes "1 close") ≡ Some (Takes (codes "close") Descriptor)
+  pub two_numbers : advice_of Openbsd (codes "1 close 3 4") ≡ Some (Takes (codes "close") Descriptor)
+  pub number_too_high : advice_of Openbsd (codes "1 close 1024") ≡ Some (NoDescriptor (codes "1024"))
+  pub directory_by_path : advice_of Openbsd (codes "1 fchdir /tmp") ≡ Some (NoDescriptor (codes "/tmp"))
+  pub path_left_out : advice_of Openbsd (codes "1 hold 3 open-r") ≡ Some (Takes (codes "hold") ToHold)
+  pub path_alone : advice_of Openbsd (codes "1 hold /x") ≡ Some (Takes (codes "hold") ToHold)
+  pub number_behind : advice_of Openbsd (codes "1 hold open-r 3 /x") ≡ Some (NoDescriptor (codes "open-r"))
+  pub no_call_that_opens : advice_of Openbsd (codes "1 hold 3 stat /x") ≡ Some (NoOpening (codes "stat"))
+  pub call_that_makes : advice_of Openbsd (codes "1 hold 3 create /x") ≡ Some (NoOpening (codes "create"))
+  pub bad_path : advice_of Openbsd (codes "1 hold 3 open-r /\\") ≡ Some (NoPath (codes "/\\"))
+  pub sender_left_out : advice_of Openbsd (codes "1 take 3 3") ≡ Some (Takes (codes "take") ToTake)
+  pub sender_zero : advice_of Openbsd (codes "1 take 3 0 3") ≡ Some (NoNumber (codes "0"))
+  pub sent_too_high : advice_of Openbsd (codes "1 take 3 2 1024") ≡ Some (NoDescriptor (codes "1024"))
+  pub four_of_three : advice_of Openbsd (codes "1 take 3 2 3 4") ≡ Some (Takes (codes "take") ToTake)
+  pub good_hold : advice_of Openbsd (codes "1 hold 1023 open-rw /x") ≡ None
+  pub good_take : advice_of Openbsd (codes "1 take 0 999999 1023") ≡ None
+  -- by the standard rules they are no calls
+  pub standard : advice_of Standard (codes "1 close 3") ≡ Some (UnknownCall (codes "close"))
+  pub standard_three : advice_of Standard (codes "1 take 3 2 3") ≡ Some (UnknownCall (codes "take"))
+
+pub file_rows : FileRows
+file_rows = record {
+  number_left_out = refl;
+  two_numbers = refl;
+  number_too_high = refl;
+  directory_by_path = refl;
+  path_left_out = refl;
+  path_alone = refl;
+  number_behind = refl;
+  no_call_that_opens = refl;
+  call_that_makes = refl;
+  bad_path = refl;
+  sender_left_out = refl;
+  sender_zero = refl;
+  sent_too_high = refl;
+  four_of_three = refl;
+  good_hold = refl;
+  good_take = refl;
+  standard = refl;
+  standard_three = refl;
+}
+
 -- the line that is to blame
 pub record BlameRows : Type 0 where
   pub second_line : script_advice Openbsd (text_of_lines (codes "1 stat /" ∷ codes "1 chroot /" ∷ codes "1 open" ∷ [])) (BadCall 2)
@@ -195,6 +240,11 @@ pub record TextRows : Type 0 where
   pub takes_promises : advice_text (Takes (codes "pledge") Promises)
       ≡ codes "pledge takes two lists of promises, with commas, or - for one"
   pub takes_letters : advice_text (Takes (codes "unveil") PathAndLetters) ≡ codes "unveil takes a path and letters, or two -"
+  pub takes_descriptor : advice_text (Takes (codes "close") Descriptor) ≡ codes "close takes the number of a descriptor"
+  pub takes_to_hold : advice_text (Takes (codes "hold") ToHold) ≡ codes "hold takes a descriptor, a call that opens, and a path"
+  pub takes_to_take : advice_text (Takes (codes "take") ToTake) ≡ codes "take takes a descriptor, a process, and its descriptor"
+  pub descriptor : advice_text (NoDescriptor (codes "1024")) ≡ codes "\"1024\" is no number of a descriptor, 0 to 1023"
+  pub opening : advice_text (NoOpening (codes "stat")) ≡ codes "\"stat\" is not open-r, open-w or open-rw"
   pub takes_any : advice_text (Takes (codes "uses") AnyPromises) ≡ codes "uses takes promises with | between them"
   pub no_path : advice_text (NoPath (codes "/a\\b"))
       ≡ codes "\"/a\\b\" spells no path: a backslash is \\134, and visible bytes stand for themselves"
@@ -219,6 +269,11 @@ text_rows = record {
   takes_paths = refl;
   takes_promises = refl;
   takes_letters = refl;
+  takes_descriptor = refl;
+  takes_to_hold = refl;
+  takes_to_take = refl;
+  descriptor = refl;
+  opening = refl;
   takes_any = refl;
   no_path = refl;
   nul = refl;

@@ -3,10 +3,11 @@ use Rattle.std.specs.Prelude.{ℕ, List, [], ◌++◌, codes}
 use Rattle.pua_tree.specs.Spelling.{byte_spelling}
 use Rattle.pua_advice.specs.declared.arguments.Arguments.{Arguments}
 use Rattle.pua_advice.specs.declared.arguments.Arguments.TheVariants.{Nothing, Number, Path, TargetAndPath, TwoPaths, Promises, PathAndLetters, AnyPromises}
+use Rattle.pua_advice.specs.declared.arguments.Arguments.TheVariants.{Descriptor, ToHold, ToTake}
 use Rattle.pua_advice.specs.declared.wrong_part.WrongPart.{WrongPart}
 use Rattle.pua_advice.specs.declared.wrong_part.WrongPart.TheVariants.{Line, Word, Byte}
 use Rattle.pua_advice.specs.Advice.{Advised, EmptyLine, ExtraBlank, HiddenByte, NoNumber, NoCall, UnknownCall, Takes, NoPath, HasNul, EmptyPromise}
-use Rattle.pua_advice.specs.Advice.{UnknownPromise, UnneededPromise, RepeatedPromise}
+use Rattle.pua_advice.specs.Advice.{UnknownPromise, UnneededPromise, RepeatedPromise, NoDescriptor, NoOpening}
 
 -- what a call takes, behind its word
 abbrev pub taken_text : Arguments → List ℕ
@@ -18,6 +19,9 @@ taken_text TwoPaths = codes " takes two paths"
 taken_text Promises = codes " takes two lists of promises, with commas, or - for one"
 taken_text PathAndLetters = codes " takes a path and letters, or two -"
 taken_text AnyPromises = codes " takes promises with | between them"
+taken_text Descriptor = codes " takes the number of a descriptor"
+taken_text ToHold = codes " takes a descriptor, a call that opens, and a path"
+taken_text ToTake = codes " takes a descriptor, a process, and its descriptor"
 
 -- what is said before the word or byte that an advice is about, that itself, and what is said behind it
 abbrev pub said_before : Advised → List ℕ
@@ -34,6 +38,8 @@ said_before (EmptyPromise word) = codes "\""
 said_before (UnknownPromise word) = codes "no promise \""
 said_before (UnneededPromise word) = codes "no call needs \""
 said_before (RepeatedPromise word) = codes "\""
+said_before (NoDescriptor word) = codes "\""
+said_before (NoOpening word) = codes "\""
 
 abbrev pub said_word : Advised → List ℕ
 said_word EmptyLine = []
@@ -49,6 +55,8 @@ said_word (EmptyPromise word) = word
 said_word (UnknownPromise word) = word
 said_word (UnneededPromise word) = word
 said_word (RepeatedPromise word) = word
+said_word (NoDescriptor word) = word
+said_word (NoOpening word) = word
 
 abbrev pub said_behind : Advised → List ℕ
 said_behind EmptyLine = []
@@ -64,6 +72,8 @@ said_behind (EmptyPromise word) = codes "\" has an empty promise: one comma stan
 said_behind (UnknownPromise word) = codes "\""
 said_behind (UnneededPromise word) = codes "\""
 said_behind (RepeatedPromise word) = codes "\" stands twice"
+said_behind (NoDescriptor word) = codes "\" is no number of a descriptor, 0 to 1023"
+said_behind (NoOpening word) = codes "\" is not open-r, open-w or open-rw"
 
 abbrev pub advice_text : Advised → List ℕ
 advice_text advice = said_before advice ++ said_word advice ++ said_behind advice

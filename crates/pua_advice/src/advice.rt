@@ -37,6 +37,10 @@ pub enum Advice<'a> {
     UnneededPromise(&'a [u8]),
     /// A call needs this promise, or others, and it stands among them twice.
     RepeatedPromise(&'a [u8]),
+    /// This word is no decimal from 0 to 1,023, where a descriptor's number has to stand.
+    NoDescriptor(&'a [u8]),
+    /// This word is none of the calls that open what there is, where one has to stand.
+    NoOpening(&'a [u8]),
 }
 
 impl<'a> Advice<'a> {
@@ -55,7 +59,9 @@ impl<'a> Advice<'a> {
             | Advice::EmptyPromise(word)
             | Advice::UnknownPromise(word)
             | Advice::UnneededPromise(word)
-            | Advice::RepeatedPromise(word) => WrongPart::Word(word),
+            | Advice::RepeatedPromise(word)
+            | Advice::NoDescriptor(word)
+            | Advice::NoOpening(word) => WrongPart::Word(word),
         }
     }
 
@@ -83,6 +89,8 @@ impl<'a> Advice<'a> {
             Advice::UnknownPromise(_) => ("no promise \"", "\""),
             Advice::UnneededPromise(_) => ("no call needs \"", "\""),
             Advice::RepeatedPromise(_) => ("\"", "\" stands twice"),
+            Advice::NoDescriptor(_) => ("\"", "\" is no number of a descriptor, 0 to 1023"),
+            Advice::NoOpening(_) => ("\"", "\" is not open-r, open-w or open-rw"),
         }
     }
 }

@@ -1,7 +1,7 @@
 //! What the calls of a script take.
 
 ghost use Rattle.std.specs.Prelude.{◌≡◌, option_map};
-ghost use Rattle.pua_advice.specs.Advice.{arguments_of, call_takes};
+ghost use Rattle.pua_advice.specs.Advice.{arguments_of, call_takes, files_taken};
 ghost use Rattle.pua_advice.specs.Texts.{taken_text};
 
 use pua_calls::{Call, Rules};
@@ -26,6 +26,12 @@ pub enum Arguments {
     PathAndLetters,
     /// Promises of which the call needs one.
     AnyPromises,
+    /// The number of a descriptor.
+    Descriptor,
+    /// The number of a descriptor, a call that opens what there is, and a path.
+    ToHold,
+    /// The number of a descriptor, of a process, and of one of its descriptors.
+    ToTake,
 }
 
 impl Arguments {
@@ -46,7 +52,28 @@ impl Arguments {
         } else if asks_promises(rules, word) {
             Some(Arguments::AnyPromises)
         } else {
-            taken_by(Call::asked_by(rules, word))
+            taken_by(Call::asked_by(rules, word)).or(Arguments::of_files(rules, word))
+        }
+    }
+
+    /// What stands after this word in a line about descriptors, which there is by OpenBSD's rules
+    /// alone.
+    fn of_files(rules: Rules, word: &[u8]) -> Option<Arguments>
+        ensures { result ≡ files_taken rules word.now }
+    {
+        match rules {
+            Rules::Standard => None,
+            Rules::Openbsd => {
+                if word == b"close".as_slice() || word == b"fchdir".as_slice() {
+                    Some(Arguments::Descriptor)
+                } else if word == b"hold".as_slice() {
+                    Some(Arguments::ToHold)
+                } else if word == b"take".as_slice() {
+                    Some(Arguments::ToTake)
+                } else {
+                    None
+                }
+            }
         }
     }
 
@@ -63,6 +90,9 @@ impl Arguments {
             Arguments::Promises => " takes two lists of promises, with commas, or - for one",
             Arguments::PathAndLetters => " takes a path and letters, or two -",
             Arguments::AnyPromises => " takes promises with | between them",
+            Arguments::Descriptor => " takes the number of a descriptor",
+            Arguments::ToHold => " takes a descriptor, a call that opens, and a path",
+            Arguments::ToTake => " takes a descriptor, a process, and its descriptor",
         }
     }
 }

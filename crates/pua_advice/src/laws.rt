@@ -1,16 +1,17 @@
 //! Laws and worked examples of advices, each the contract of a function that does nothing.
 
-ghost use Rattle.pua_advice.specs.Examples.{ArgumentRows, BlameRows, CallRows, FormRows, TextRows};
-ghost use Rattle.pua_advice.specs.Examples.{UsesRows};
+ghost use Rattle.pua_advice.specs.Examples.{ArgumentRows, BlameRows, CallRows, FileRows, FormRows};
+ghost use Rattle.pua_advice.specs.Examples.{TextRows, UsesRows};
 ghost use Rattle.pua_advice.specs.Laws.{RefusedAreAdvised, ScriptsAreAdvised, UnknownAreNone};
 
 /// Examples of what is said of lines, and how.
-#[tactic(auto, using(crate::specs::Examples::form_rows, crate::specs::Examples::call_rows, crate::specs::Examples::argument_rows, crate::specs::Examples::uses_rows, crate::specs::Examples::blame_rows, crate::specs::Examples::text_rows))]
+#[tactic(auto, using(crate::specs::Examples::form_rows, crate::specs::Examples::call_rows, crate::specs::Examples::argument_rows, crate::specs::Examples::uses_rows, crate::specs::Examples::file_rows, crate::specs::Examples::blame_rows, crate::specs::Examples::text_rows))]
 pub fn advice_examples()
     ensures forms { FormRows }
     ensures calls { CallRows }
     ensures arguments { ArgumentRows }
     ensures uses { UsesRows }
+    ensures files { FileRows }
     ensures blames { BlameRows }
     ensures texts { TextRows }
 {}

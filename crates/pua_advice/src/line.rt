@@ -4,7 +4,8 @@ ghost use Rattle.std.specs.Prelude.{◌≡◌, ◌∷◌, [], ◌-◌, IfOk, Som
 ghost use Rattle.std.specs.Option.{option_or};
 ghost use Rattle.pua_tree.specs.Spelling.{is_field};
 ghost use Rattle.pua_advice.specs.Advice.{action_advice, advice_of, advice_seen, alone_advice};
-ghost use Rattle.pua_advice.specs.Advice.{arguments_advice};
+ghost use Rattle.pua_advice.specs.Advice.{arguments_advice, descriptor_advice, opening_advice};
+ghost use Rattle.pua_advice.specs.Advice.{three_advice};
 ghost use Rattle.pua_advice.specs.Advice.{field_advice, fields_advice, form_advice, is_visible};
 ghost use Rattle.pua_advice.specs.Advice.{line_at, list_advice, misuse, number_advice, one_advice};
 ghost use Rattle.pua_advice.specs.Advice.{path_advice, script_advice, text_advice, two_advice};
@@ -15,7 +16,10 @@ use crate::arguments::Arguments;
 use crate::promises::of_promises;
 use bstr::ByteSlice;
 use pua_calls::Rules;
-use pua_script::{MOST_NUMBER, ScriptFault, has_empty_word, is_blank, is_dash, is_equals, text_in};
+use pua_script::{
+    MOST_NUMBER, ScriptFault, has_empty_word, is_blank, is_dash, is_equals, read_descriptor,
+    read_open, text_in,
+};
 use pua_tree::{Fields, OutOfMemory, number_within, unspelled};
 use std::alloc::Global;
 
@@ -180,6 +184,7 @@ fn of_arguments<'a>(
         [] => Ok(of_alone(word, what)),
         [a] => of_one(alloc, word, what, a),
         [a, b] => of_two(alloc, word, what, a, b),
+        [a, b, c] => of_three(alloc, word, what, a, b, c),
         _ => Ok(Some(misused(word, what))),
     }
 }
@@ -218,6 +223,7 @@ fn of_one<'a>(
         Some(Arguments::Number) => Ok(of_number(a)),
         Some(Arguments::Path) => of_path(alloc, a),
         Some(Arguments::AnyPromises) => of_promises(alloc, word, a),
+        Some(Arguments::Descriptor) => Ok(of_descriptor(a)),
         _ => Ok(Some(misused(word, what))),
     }
 }
@@ -239,6 +245,50 @@ fn of_two<'a>(
         Some(Arguments::Promises) => Ok(of_list(a).or(of_list(b))),
         Some(Arguments::PathAndLetters) => of_unveil(alloc, word, a, b),
         _ => Ok(Some(misused(word, what))),
+    }
+}
+
+/// Of a call that takes this, with three arguments.
+fn of_three<'a>(
+    alloc: Global,
+    word: &'a [u8],
+    what: Option<Arguments>,
+    a: &'a [u8],
+    b: &'a [u8],
+    c: &'a [u8],
+) -> Result<Option<Advice<'a>>, OutOfMemory>
+    ensures { IfOk result (λ advice. option_map advice_seen advice
+        ≡ three_advice word.now what a.now b.now c.now) }
+{
+    match what {
+        Some(Arguments::ToHold) => {
+            match of_descriptor(a).or(of_opening(b)) {
+                Some(advice) => Ok(Some(advice)),
+                None => of_path(alloc, c),
+            }
+        }
+        Some(Arguments::ToTake) => Ok(of_descriptor(a).or(of_number(b)).or(of_descriptor(c))),
+        _ => Ok(Some(misused(word, what))),
+    }
+}
+
+/// What makes a field no number of a descriptor.
+fn of_descriptor(field: &[u8]) -> Option<Advice<'_>>
+    ensures { option_map advice_seen result ≡ descriptor_advice field.now }
+{
+    match read_descriptor(field) {
+        Some(_) => None,
+        None => Some(Advice::NoDescriptor(field)),
+    }
+}
+
+/// What makes a field no call that opens what there is.
+fn of_opening(field: &[u8]) -> Option<Advice<'_>>
+    ensures { option_map advice_seen result ≡ opening_advice field.now }
+{
+    match read_open(field) {
+        Some(_) => None,
+        None => Some(Advice::NoOpening(field)),
     }
 }
 

@@ -50,8 +50,14 @@ fattr = 2 ^ 10
 abbrev pub proc : ℕ
 proc = 2 ^ 17
 
+abbrev pub recvfd : ℕ
+recvfd = 2 ^ 20
+
 abbrev pub rpath : ℕ
 rpath = 2 ^ 22
+
+abbrev pub sendfd : ℕ
+sendfd = 2 ^ 23
 
 abbrev pub tmppath : ℕ
 tmppath = 2 ^ 27

@@ -14,10 +14,10 @@ use crate::table::MOST_ALTERNATIVES;
 
 /// The constants of `Promises` that are one promise, in the order of their keywords: each is what
 /// its keyword names.
-pub fn promise_constants() -> [Promises; 12]
+pub fn promise_constants() -> [Promises; 14]
     ensures { map Ok result ≡ map promises_of (codes "chown" ∷ codes "cpath" ∷ codes "dpath"
-        ∷ codes "error" ∷ codes "exec" ∷ codes "fattr" ∷ codes "proc" ∷ codes "rpath"
-        ∷ codes "tmppath" ∷ codes "unix" ∷ codes "unveil" ∷ codes "wpath" ∷ []) }
+        ∷ codes "error" ∷ codes "exec" ∷ codes "fattr" ∷ codes "proc" ∷ codes "recvfd"
+        ∷ codes "rpath" ∷ codes "sendfd" ∷ codes "tmppath" ∷ codes "unix" ∷ codes "unveil" ∷ codes "wpath" ∷ []) }
 {
     [
         Promises::CHOWN,
@@ -27,7 +27,9 @@ pub fn promise_constants() -> [Promises; 12]
         Promises::EXEC,
         Promises::FATTR,
         Promises::PROC,
+        Promises::RECVFD,
         Promises::RPATH,
+        Promises::SENDFD,
         Promises::TMPPATH,
         Promises::UNIX,
         Promises::UNVEIL,

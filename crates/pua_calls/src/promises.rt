@@ -52,7 +52,11 @@ impl Keywords {
 
     pub(crate) const PROC: Keywords = Keywords(1 << 17);
 
+    pub(crate) const RECVFD: Keywords = Keywords(1 << 20);
+
     pub(crate) const RPATH: Keywords = Keywords(1 << 22);
+
+    pub(crate) const SENDFD: Keywords = Keywords(1 << 23);
 
     pub(crate) const TMPPATH: Keywords = Keywords(1 << 27);
 
@@ -163,7 +167,7 @@ static KEYWORDS: [Flag<Keywords>; Promises::KEYWORDS] = [
     },
     Flag {
         name: "recvfd",
-        value: Keywords(1 << 20),
+        value: Keywords::RECVFD,
     },
     Flag {
         name: "route",
@@ -175,7 +179,7 @@ static KEYWORDS: [Flag<Keywords>; Promises::KEYWORDS] = [
     },
     Flag {
         name: "sendfd",
-        value: Keywords(1 << 23),
+        value: Keywords::SENDFD,
     },
     Flag {
         name: "settime",
@@ -295,9 +299,19 @@ impl Promises {
         keywords: Keywords::PROC,
     };
 
+    /// To receive descriptors from other processes.
+    pub const RECVFD: Promises = Promises {
+        keywords: Keywords::RECVFD,
+    };
+
     /// To read files, and to look at them.
     pub const RPATH: Promises = Promises {
         keywords: Keywords::RPATH,
+    };
+
+    /// To send descriptors to other processes.
+    pub const SENDFD: Promises = Promises {
+        keywords: Keywords::SENDFD,
     };
 
     /// To make and to remove files in `/tmp`.

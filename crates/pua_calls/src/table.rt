@@ -90,7 +90,6 @@ ghost use Rattle.pua_calls.specs.Calls.{standard_rule, standard_table, openbsd_r
 ghost use Rattle.pua_calls.specs.Calls.{call_count, call_in, execpromises_by, table_by_rules};
 ghost use Rattle.pua_calls.specs.Calls.{rule_of};
 ghost use Rattle.pua_calls.specs.Tables.{NeedsNoError, NoCallNeedsError, most_alternatives};
-ghost use Rattle.pua_calls.specs.Tables.{most_kept};
 ghost use Rattle.pua_calls.specs.TableTexts.{with_rule};
 ghost use Rattle.pua_calls.specs.TmpTable.{rule_with_tmppath, tmp_table, tmppath_suffices};
 ghost use Rattle.pua_calls.specs.Promises.{tmppath};
@@ -141,23 +140,14 @@ impl RuleRow {
             .any(|set| Promises::TMPPATH.contains(*set))
     }
 
-    /// Adds tmppath to the alternatives, after the others.
-    fn add_tmppath(&mut self)
-        requires { length self.old.alternatives < most_kept }
-        ensures { self.new
-            ≡ record self.old { alternatives = self.old.alternatives ++ tmppath ∷ [] } }
-    {
-        self.sets[self.count as usize] = Promises::TMPPATH;
-        self.count += 1;
-    }
-
     /// The same row for who holds tmppath too.
     fn with_tmppath(self) -> RuleRow
         ensures { result ≡ rule_with_tmppath self }
     {
         let mut row = self;
         if !row.tmppath_suffices() {
-            row.add_tmppath();
+            row.sets[row.count as usize] = Promises::TMPPATH;
+            row.count += 1;
         }
         row
     }

@@ -52,7 +52,7 @@ pub use Rattle.pua_script.specs.Requests.{Asked}
 pub use Rattle.pua_script.specs.Tightening.{NoCallNeedsError}
 pub use Rattle.pua_script.specs.Worlds.{tree_left}
 pub use Rattle.pua_script.specs.declared.request.Action.{Action}
-pub use Rattle.pua_script.specs.declared.request.Action.TheVariants.{Exit, Fork, Link, Lock, OnPath, Pledge, Rename, Symlink, Unveil, Uses, Comment}
+pub use Rattle.pua_script.specs.declared.request.Action.TheVariants.{Close, Exit, Fchdir, Fork, Hold, Link, Lock, OnPath, Pledge, Rename, Symlink, Take, Unveil, Uses, Comment}
 pub use Rattle.pua_tree.proofs.ForCallers.{exact_spots, None≢Some, Reaches, row_of, row_says, same_dir, same_Some, Some≢None, sound_from}
 pub use Rattle.pua_tree.proofs.ForCallers.{spots_total}
 pub use Rattle.pua_tree.specs.Tree.{above, climb, empty_tree, has_no_row, is_dir, is_dir_kind, is_empty, is_living, kind_at, look, Node}

@@ -34,7 +34,7 @@ use Rattle.pua_objects.proofs.ForCallers.{named_by_row}
 use Rattle.pua_objects.proofs.ForCallers.{has_item, found_dir}
 use Rattle.pua_objects.proofs.ForCallers.{one_of_calls, some_of, failed}
 use Rattle.pua_ever.specs.Ever.{ever_covers, named_covers}
-use Rattle.pua_ever.specs.Ever.{can_allow, can_allow_new, covers_of, covers_of_dir, ever_object, ever_calls}
+use Rattle.pua_ever.specs.Ever.{can_allow, can_allow_new, covers_of, covers_of_dir, ever_object, ever_calls, is_ever_allowed, is_turned}
 use Rattle.pua_ever.specs.Ever.{new_covers, new_object, is_new_named, new_calls, Thing}
 use Rattle.pua_ever.specs.Ever.{names_to_free}
 use Rattle.pua_ever.specs.Laws.{IsLineOf, of_dir, of_new_dir, of_row, of_new_file, of_new_link, of_name, of_others}
@@ -103,10 +103,10 @@ module _ (t : Tree) (table : CallTable) (h : ProcessState) (what : Option Kind) 
       by false = inr (subst (λ (b : Bool). Among (cond b (file_covers t table h) []) c) (sym can) a)
 
 -- what is allowed on a thing as it is can be allowed on it
-pub can_from : (table : CallTable) (h : ProcessState) (covers : List Cover) (object : Object) (c : Call) →
-    is_allowed_under table h covers object c ≡ true → can_allow table h covers object c ≡ true
-can_from table h covers (Is kind.File) c e = or_left (is_allowed_under table h covers IsFile c) _ e
-can_from table h covers _ c e = e
+pub can_from : (table : CallTable) (h : ProcessState) (turned : Bool) (covers : List Cover) (object : Object) (c : Call) →
+    is_allowed_under table h covers object c ≡ true → can_allow table h turned covers object c ≡ true
+can_from table h turned covers (Is kind.File) c e = or_left (is_allowed_under table h covers IsFile c) _ e
+can_from table h turned covers _ c e = e
 
 can_new : (t : Tree) (table : CallTable) (h : ProcessState) (made : New) (c : Call) →
     is_allowed_under table h (new_covers t table h made) (new_object made) c ≡ true → can_allow_new t table h made c ≡ true
@@ -121,10 +121,9 @@ module _ (table : CallTable) (t0 : Tree) (h : ProcessState) where
       is_allowed_under table h (covers_of t0 table h subject) (ever_object t0 table h subject) c ≡ true →
       Among (ever_calls t0 table h subject) c
   calls_among subject c named allowed =
-      among_filter (λ c. is_named_by t0 c subject && can_allow table h (covers_of t0 table h subject) (ever_object t0 table h subject) c)
-      calls c
+      among_filter (is_ever_allowed t0 table h subject) calls c
       (and_from (is_named_by t0 c subject) _ named
-      (can_from table h (covers_of t0 table h subject) (ever_object t0 table h subject) c allowed)) (one_of_calls c)
+      (can_from table h (is_turned h subject) (covers_of t0 table h subject) (ever_object t0 table h subject) c allowed)) (one_of_calls c)
 
   -- a call is allowed under one of the covers
   pub under_one : (covers : List Cover) (object : Object) (c : Call) (left : Cover) → Among covers left →
@@ -140,11 +139,11 @@ module _ (table : CallTable) (t0 : Tree) (h : ProcessState) (well0 : WellFormed 
   s0 = sound_from t0 well0
 
   -- a line has the call
-  record Listed (thing : Thing) (c : Call) : Type 0 where
-    line : EverLine
-    among : Among (ever t0 table h) line
-    about : line.thing ≡ thing
-    allows : Among line.calls c
+  pub record Listed (thing : Thing) (c : Call) : Type 0 where
+    pub line : EverLine
+    pub among : Among (ever t0 table h) line
+    pub about : line.thing ≡ thing
+    pub allows : Among line.calls c
 
   abbrev standing_lines : List EverLine
   standing_lines = map (ever_line t0 table h) (flat_map (subjects_of t0 table h) (items t0 (veils h)))
@@ -182,6 +181,16 @@ module _ (table : CallTable) (t0 : Tree) (h : ProcessState) (well0 : WellFormed 
   item_subject : (item : Item) → Among (items t0 (veils h)) item →
       Among (flat_map (subjects_of t0 table h) (items t0 (veils h))) (item.word, item.subject)
   item_subject item a = among_flat (subjects_of t0 table h) (items t0 (veils h)) item (item.word, item.subject) a (inl refl)
+
+  -- a row's line has each call that can ever be allowed on what stands there
+  pub row_listed : (r : Spot) (x : ℕ) → look t0 r.0 r.1 ≡ Some x → is_dir t0 x ≡ false → (c : Call) →
+      Among (ever_calls t0 table h (At (Slot r.0 r.1 (Some x)))) c → Listed (Stands (At (Slot r.0 r.1 (Some x)))) c
+  row_listed r x at other c a =
+      let fits : FoundFits t0 (Slot r.0 r.1 (Some x)) =
+      and_from (is_dir t0 r.0) _ (row_says t0 s0 r x at).0 (and_from (option_eq ◌==◌ (look t0 r.0 r.1) (Some x)) _
+      (ap (λ o. option_eq ◌==◌ o (Some x)) at ∙ eq-eqb x x refl) (ap not other)) in
+      let item = has_item t0 s0 h (Slot r.0 r.1 (Some x)) fits in
+      listed_stands item.0 (At (Slot r.0 r.1 (Some x))) c (item_subject _ item.1) a
 
   item_to_free : (item : Item) (subject : Subject) → Among (items t0 (veils h)) item →
       Among (names_to_free t0 table h item.subject) subject → Among (flat_map (subjects_of t0 table h) (items t0 (veils h))) (
@@ -331,14 +340,10 @@ module _ (table : CallTable) (t0 : Tree) (h : ProcessState) (well0 : WellFormed 
     hit_row r s x at own same other followed granted covered fine a =
         let same_kind : kind_at u x ≡ kind_at t0 x = ap (option_map (λ n. n.kind)) same in
         let other_then : is_dir t0 x ≡ false = sym (same_dir t0 u x same) ∙ other in
-        let fits : FoundFits t0 (Slot r.0 r.1 (Some x)) =
-        and_from (is_dir t0 r.0) _ (row_says t0 s0 r x at).0 (and_from (option_eq ◌==◌ (look t0 r.0 r.1) (Some x)) _
-        (ap (λ o. option_eq ◌==◌ o (Some x)) at ∙ eq-eqb x x refl) (ap not other_then)) in
-        let item = has_item t0 s0 h (Slot r.0 r.1 (Some x)) fits in
         let subject : Subject = At (Slot r.0 r.1 (Some x)) in
         record {
           thing = Stands subject;
-          listed = listed_stands item.0 subject c (item_subject _ item.1)
+          listed = row_listed r x at other_then c
               (calls_among table t0 h subject c (named_link c (last_of c) (is_link t0 (Slot r.0 r.1 (Some x))) refl
               (λ e. ap is_link_kind (sym same_kind) ∙ followed e))
               (under_one table t0 h (covers_of t0 table h subject) (ever_object t0 table h subject) c (cover u h (Slot s.0 s.1 (Some x))) a

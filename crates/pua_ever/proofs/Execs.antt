@@ -2,7 +2,7 @@
 use Rattle.pua_ever.proofs.Common.{◌≡◌, ◌==◌, ◌&&◌, ◌∙◌, ℕ, List, [], ◌∷◌, Bool, true, false, cond, refl, sym, ap, not, and_parts, not-true}
 use Rattle.pua_ever.proofs.Common.{false≢true, eq-eqb, eqb-true, CallTable, ProcessState, Asked, World, apply, kept_at, world_after}
 use Rattle.pua_ever.proofs.Common.{is_member, is_exec, is_done, none_done, family_then, Members, members_then, Action, OnPath, Symlink}
-use Rattle.pua_ever.proofs.Common.{Rename, Link, Pledge, Unveil, Lock, Fork, Exit, Uses, Comment}
+use Rattle.pua_ever.proofs.Common.{Rename, Link, Pledge, Unveil, Lock, Fork, Exit, Uses, Hold, Close, Fchdir, Take, Comment}
 use Rattle.pua_script.specs.Family.{family, is_okay, with_child, HasKept}
 use Rattle.pua_script.proofs.ForCallers.{Belongs, others_leave}
 use Rattle.pua_ever.specs.Laws.{LoosensNone, NoExecLoosens}
@@ -19,6 +19,10 @@ no_child Lock members e = refl
 no_child (Fork new) members e = absurd (false≢true e)
 no_child Exit members e = refl
 no_child (Uses sets) members e = refl
+no_child (Hold number call path) members e = refl
+no_child (Close number) members e = refl
+no_child (Fchdir number) members e = refl
+no_child (Take number from theirs) members e = refl
 no_child Comment members e = refl
 
 module _ (table : CallTable) (now : ProcessState) where

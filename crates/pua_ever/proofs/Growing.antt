@@ -6,7 +6,7 @@ use Rattle.pua_ever.proofs.Common.{None≢Some, is_link_kind, Followed, resoluti
 use Rattle.pua_ever.proofs.Common.{is_kept, ProcessState, may_any, working_dir, IsMissing, cover, cover_fault, covered_verdict, or_fault}
 use Rattle.pua_ever.proofs.Common.{object_fault, allowed_unless, if_promised, is_allowed, Call, Asked, most_processes, World, Fails, Copies}
 use Rattle.pua_ever.proofs.Common.{change_effect, kept_at, apply, tree_left, Action, OnPath, Symlink, Rename, Link, Pledge, Unveil, Lock}
-use Rattle.pua_ever.proofs.Common.{Fork, Exit, Uses, Comment, has_c, Change, CopyAs, change_by, by_going, covers_descend, named_within_text}
+use Rattle.pua_ever.proofs.Common.{Fork, Exit, Uses, Hold, Close, Fchdir, Take, Comment, has_c, Change, CopyAs, change_by, by_going, covers_descend, named_within_text}
 use Rattle.pua_ever.proofs.Common.{row_cover, is_yes, can_link, can_move, may_rename, New, NewDir, NewFile, NewLink, EditsNeedC, List, FoundFits}
 use Rattle.std.proofs.Common.{not}
 use Rattle.std.specs.Prelude.{length}
@@ -37,6 +37,13 @@ use Rattle.pua_ever.proofs.Common.{among_filter}
 use Rattle.pua_ever.proofs.Ways.{any_among}
 use Rattle.pua_ever.proofs.Grown.{Grown, Written, by_name, by_turn, From, IsMaker, is_moved, is_linked, new_kind, name_cover, grown_all, grown_add}
 use Rattle.pua_ever.proofs.Grown.{grown_tie, grown_cut, grown_shift}
+use Rattle.pua_path.specs.declared.errno.Errno.{Errno}
+use Rattle.pua_policy.specs.States.{is_pledged}
+use Rattle.pua_policy.specs.declared.open_file.OpenFile.{OpenFile}
+use Rattle.pua_script.specs.Decide.{TakeFile, file_opened}
+use Rattle.pua_script.specs.Replay.{sent_by, take_effect}
+use Rattle.pua_script.proofs.ForCallers.{by_filing}
+use Rattle.std.specs.Prelude.{Result, Ok, Err}
 
 pub takes : (table : CallTable) → EditsNeedC table → TakingNeedsC table
 takes table needs = record {
@@ -265,6 +272,10 @@ module _ (table : CallTable) (needs : EditsNeedC table) (t : Tree) (h : ProcessS
   grows_by (Fork new) c d = subst Grows (sym d.1) tt
   grows_by Exit c d = subst Grows (sym d) tt
   grows_by (Uses sets) c d = subst Grows (sym d.1) tt
+  grows_by (Hold number asked path) c d = subst Grows (sym d.1) (by_filing Grows tt number (file_opened t asked (node_named d.0)) (λ file. tt))
+  grows_by (Close number) c d = subst Grows (sym d.2) tt
+  grows_by (Fchdir number) c d = subst Grows (sym d.is) tt
+  grows_by (Take number from theirs) c d = subst Grows (sym d.1) tt
   grows_by Comment c d = subst Grows (sym d) tt
 
 grown_made : (table : CallTable) (needs : EditsNeedC table) (w : World) (h : ProcessState) (well : WellFormed w.tree) (c : Change) →
@@ -280,6 +291,11 @@ grown_made table needs w h well (CopyAs new) grows = by (is_some (kept_at w new)
     by : (full : Bool) → Grown table w.tree h (tree_left w.tree (cond full (Fails EAGAIN) (Copies new)))
     by true = grown_all table w.tree h
     by false = grown_all table w.tree h
+grown_made table needs w h well (TakeFile number from theirs) grows = by (sent_by (is_pledged h) (kept_at w from) theirs)
+  where
+    by : (r : Result OpenFile Errno) → Grown table w.tree h (tree_left w.tree (take_effect w h number r))
+    by (Ok file) = grown_all table w.tree h
+    by (Err errno) = grown_all table w.tree h
 grown_made table needs w h well _ grows = grown_all table w.tree h
 
 -- the table with one more set of some calls needs the same permissions

@@ -16,7 +16,7 @@ use Rattle.pua_calls.specs.Tables.{NamesNoError}
 use Rattle.pua_calls.specs.declared.rules.ExecPromises.{ExecPromises}
 use Rattle.pua_calls.specs.declared.rules.ExecPromises.TheVariants.{Unset, Stay}
 use Rattle.pua_calls.specs.declared.call.Call.TheVariants as call
-use Rattle.pua_policy.specs.States.{Event, Pledged, Unveiled, Locked, Moved, Ended, held_set, held_for_exec, is_locked, is_ended}
+use Rattle.pua_policy.specs.States.{Event, Filed, Pledged, Unveiled, Locked, Moved, Ended, held_set, held_for_exec, is_locked, is_ended}
 use Rattle.pua_policy.specs.States.{has_error, after_exec, meet, state_by_exec, veil_at}
 use Rattle.pua_policy.specs.declared.answer.May.TheVariants.{Yes, Enosys, Death}
 use Rattle.pua_policy.proofs.ForCallers.{state_never_grows, second_holds}
@@ -38,6 +38,7 @@ locked_more (Pledged p e) h locked = locked
 locked_more (Unveiled place perms) h locked = locked
 locked_more (Moved dir) h locked = locked
 locked_more Ended h locked = locked
+locked_more (Filed number file) h locked = locked
 
 -- promises never grow, but for `error`
 within_more : (event : Event) (h : ProcessState) (others : ℕ) → AreWithin (held_set h) others → AreWithin (held_set (state_after event h)) others
@@ -55,6 +56,7 @@ hands_more (Unveiled place perms) h given hands = record { left = hands.left; se
 hands_more Locked h given hands = record { left = hands.left; set = hands.set; within = hands.within }
 hands_more (Moved dir) h given hands = record { left = hands.left; set = hands.set; within = hands.within }
 hands_more Ended h given hands = record { left = hands.left; set = hands.set; within = hands.within }
+hands_more (Filed number file) h given hands = record { left = hands.left; set = hands.set; within = hands.within }
 
 -- what promises within others let through, those do
 pub any_within : (promises others : ℕ) → AreWithin promises others → (sets : List ℕ) → AllByRecursion NamesNoError sets →

@@ -3,23 +3,25 @@
 use Rattle.pua_ever.proofs.Common.{◌≡◌, ◌⊎◌, inl, inr, ℕ, List, Bool, true, false, cond, refl, sym, subst, ◌∙◌}
 use Rattle.pua_ever.proofs.Common.{Option, Some, None, Result, Ok, Err, ◌||◌, is_some, nat_le, length, same_Some, None≢Some, EAGAIN}
 use Rattle.pua_ever.proofs.Common.{Tree, CallTable, execpromises_by, rule_of, ProcessState, may_any, state_after, World, kept_at, Change, change_effect}
-use Rattle.pua_ever.proofs.Common.{CopyAs, Copies, Fails, IsDecided, Action, OnPath, Symlink, Rename, Link, Pledge, Unveil, Lock, Fork, Exit, Uses, Comment}
+use Rattle.pua_ever.proofs.Common.{CopyAs, Copies, Fails, IsDecided, Action, OnPath, Symlink, Rename, Link, Pledge, Unveil, Lock, Fork, Exit, Uses, Hold, Close, Fchdir, Take, Comment}
 use Rattle.pua_ever.proofs.Common.{most_processes, found_put}
 use Rattle.std.specs.Prelude.{nat_eq}
 use Rattle.pua_tree.specs.Edits.{add, cut, shift, tie}
 use Rattle.pua_tree.specs.declared.fault.TreeFault.{TreeFault}
 use Rattle.pua_path.specs.Fits.{spot_named, node_named}
 use Rattle.pua_calls.specs.declared.call.Call.TheVariants as call
-use Rattle.pua_policy.specs.States.{Event, Pledged, Unveiled, Locked, Moved, Ended, after_exec, new_process}
+use Rattle.pua_policy.specs.States.{Event, Filed, Pledged, Unveiled, Locked, Moved, Ended, after_exec, is_pledged, new_process}
+use Rattle.pua_policy.specs.declared.open_file.OpenFile.{OpenFile}
+use Rattle.pua_path.specs.declared.errno.Errno.{Errno}
 use Rattle.pua_policy.specs.Verdict.{place_of}
 use Rattle.pua_policy.specs.declared.answer.May.TheVariants.{Yes}
 use Rattle.pua_policy.specs.declared.answer.Refusal.{Refusal}
 use Rattle.pua_policy.specs.declared.answer.Refusal.TheVariants.{Failed, Killed}
-use Rattle.pua_script.specs.Decide.{NoChange, AddNode, CutRow, ShiftRow, TieRow, BeginProgram, AddEvent, change_by, decide, given_set, link_node}
+use Rattle.pua_script.specs.Decide.{NoChange, AddNode, CutRow, ShiftRow, TieRow, BeginProgram, AddEvent, TakeFile, change_by, decide, file_opened, given_set, link_node}
 use Rattle.pua_script.specs.Guards.{IsOpened, IsVeil, OnOne}
-use Rattle.pua_script.specs.Replay.{Effect, Kills, Leaves, refusal_effect, come_of, edit_effect, edited_tree, left_by, new_world, with_process}
+use Rattle.pua_script.specs.Replay.{Effect, Kills, Leaves, refusal_effect, come_of, edit_effect, edited_tree, left_by, new_world, sent_by, take_effect, with_process}
 use Rattle.pua_script.specs.Worlds.{state_left}
-use Rattle.pua_script.proofs.ForCallers.{by_decision, decisions_are_guarded, by_placing, by_tying, by_moves, opened_no_exec}
+use Rattle.pua_script.proofs.ForCallers.{by_decision, decisions_are_guarded, by_filing, by_placing, by_tying, by_moves, opened_no_exec}
 use Rattle.pua_ever.proofs.Calling.{by_calling}
 
 -- it is so now, after an event that leaves the veils, of the program that an exec starts, and after an unveil that is granted
@@ -35,6 +37,7 @@ module _ (table : CallTable) (w : World) (h : ProcessState) (P : ProcessState �
   abbrev Left : Change → Type 0
   Left (AddEvent event) = P (state_after event h)
   Left (BeginProgram left) = P (after_exec left h)
+  Left (TakeFile number from theirs) = (file : OpenFile) → P (state_after (Filed number (Some file)) h)
   Left _ = Unit {0}
 
   left_so : (action : Action) → Keeping table w.tree h action P → (c : Change) → IsDecided table w.tree h action c → Left c
@@ -55,6 +58,11 @@ module _ (table : CallTable) (w : World) (h : ProcessState) (P : ProcessState �
   left_so (Fork new) k c d = subst Left (sym d.1) tt
   left_so Exit k c d = subst Left (sym d) (k.more Ended refl)
   left_so (Uses sets) k c d = subst Left (sym d.1) tt
+  left_so (Hold number asked path) k c d =
+      subst Left (sym d.2) (by_filing Left tt number (file_opened w.tree asked (node_named d.0)) (λ file. k.more (Filed number (Some file)) refl))
+  left_so (Close number) k c d = subst Left (sym d.2) (k.more (Filed number None) refl)
+  left_so (Fchdir number) k c d = subst Left (sym d.is) (k.more (Moved d.file.node) refl)
+  left_so (Take number from theirs) k c d = subst Left (sym d.1) (λ file. k.more (Filed number (Some file)) refl)
   left_so Comment k c d = subst Left (sym d) tt
 
   by_edited : P h → (r : Result (ℕ × Tree) TreeFault) → P (state_left h (edit_effect h r))
@@ -78,6 +86,11 @@ module _ (table : CallTable) (w : World) (h : ProcessState) (P : ProcessState �
       by : (full : Bool) → P (state_left h (cond full (Fails EAGAIN) (Copies new)))
       by true = so
       by false = so
+  made_so so (TakeFile number from theirs) left = by (sent_by (is_pledged h) (kept_at w from) theirs)
+    where
+      by : (r : Result OpenFile Errno) → P (state_left h (take_effect w h number r))
+      by (Ok file) = left file
+      by (Err errno) = so
 
   pub decided_so : (action : Action) → Keeping table w.tree h action P → P (state_left h (come_of w h (decide table w.tree h action)))
   decided_so action k = by_decision w h (λ e. P (state_left h e)) (decide table w.tree h action) refusing

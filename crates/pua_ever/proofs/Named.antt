@@ -1,5 +1,5 @@
 -- What stands at a name, and the name once that is taken away.
-use Rattle.pua_ever.proofs.Common.{◌≡◌, ℕ, List, [], ◌∷◌, true, false, refl, sym, ap, subst, ◌∙◌, Option, Some, None, not, ◌&&◌, ◌||◌}
+use Rattle.pua_ever.proofs.Common.{◌≡◌, ℕ, List, [], ◌∷◌, Bool, true, false, refl, sym, ap, subst, ◌∙◌, Option, Some, None, not, ◌&&◌, ◌||◌}
 use Rattle.pua_ever.proofs.Common.{if◌then◌else◌, is_some, option_map, and_parts, not-true, Tree, Node, WellFormed, Spot, is_dir, look}
 use Rattle.pua_ever.proofs.Common.{node_at, kind_at, empty_tree, Kind, sound_from, row_says, same_Some, Some≢None, None≢Some, is_link_kind}
 use Rattle.pua_ever.proofs.Common.{Named, Top, Dot, DotDot, Whole, Slot, CallTable, has, keeps_link, ProcessState, perms_kept, object_seen}
@@ -13,7 +13,7 @@ use Rattle.pua_objects.specs.Items.{IsItemOn, object_on, cover_on}
 use Rattle.pua_objects.specs.declared.item.Item as given
 use Rattle.pua_objects.specs.declared.item.Subject as about
 use Rattle.pua_objects.specs.declared.item.Subject.TheVariants as subject
-use Rattle.pua_ever.specs.Ever.{can_allow, named_covers, can_be_freed}
+use Rattle.pua_ever.specs.Ever.{can_allow, named_covers, can_be_freed, is_turned_there}
 use Rattle.pua_ever.specs.Prospects.{kind_allowed, own_given}
 use Rattle.pua_ever.proofs.Prospected.{last}
 use Rattle.std.proofs.Math.Bool.{or-true}
@@ -34,18 +34,18 @@ module _ (t : Tree) (well : WellFormed t) (table : CallTable) (h : ProcessState)
       by (Some n) e = refl
 
   pub name_calls : (dir : ℕ) (name : List ℕ) (o : Option ℕ) → SubjectFits t (At (Slot dir name o)) →
-      (object : seen.Object) (left : Cover) (set : ℕ)
-      → object ≡ object_seen t (object_of t (Slot dir name o)) → left ≡ cover t h (Slot dir name o)
+      (object : seen.Object) (turned : Bool) (left : Cover) (set : ℕ)
+      → object ≡ object_seen t (object_of t (Slot dir name o)) → turned ≡ is_turned_there h o → left ≡ cover t h (Slot dir name o)
       → ((kind : Option Kind) → object ≡ object_seen empty_tree (object_of_kind kind) → (call : Call) →
-      has set call ≡ kind_allowed t table h left kind call)
+      has set call ≡ kind_allowed t table h turned left kind call)
       → (call : Call) → has set call ≡ is_ever_allowed t table h (At (Slot dir name o)) call
-  name_calls dir name None fits object left set is covered all call =
+  name_calls dir name None fits object turned left set is turns covered all call =
       all None (is ∙ refl) call
       ∙ ap (λ c. (keeps_link call || true) && is_allowed_under table h (c ∷ []) IsMissing call) covered
-  name_calls dir name (Some x) fits object left set is covered all call =
+  name_calls dir name (Some x) fits object turned left set is turns covered all call =
       all (kind_at t x) (is ∙ seen_alike t (kind_at t x)) call
       ∙ (λ i. (keeps_link call || not (is_link_kind (kind_at t x)))
-      && can_allow table h (if has_kind dir name x fits.1.1 i then named_covers t table h (kind_at t x) (covered i) else covered i
+      && can_allow table h (turns i) (if has_kind dir name x fits.1.1 i then named_covers t table h (kind_at t x) (covered i) else covered i
       ∷ []) (object_of_kind (kind_at t x)) call)
 
   -- whether the name of a thing can come to be free, by the thing's own cover

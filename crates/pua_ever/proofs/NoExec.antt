@@ -2,7 +2,7 @@
 use Rattle.pua_ever.proofs.Common.{◌≡◌, ◌⊎◌, ℕ, List, [], ◌∷◌, Bool, true, false, refl, ap, subst, ◌∙◌, sym, inl, inr, Some, Ok, not}
 use Rattle.pua_ever.proofs.Common.{false≢true, and_parts, and_from, Tree, WellFormed, CallTable, ProcessState, working_dir, verdict_of}
 use Rattle.pua_ever.proofs.Common.{is_allowed, if_promised, allowed_unless, or_fault, allowed_is, Asked, World, apply, kept_at, Change}
-use Rattle.pua_ever.proofs.Common.{IsDecided, Action, OnPath, Symlink, Rename, Link, Pledge, Unveil, Lock, Fork, Exit, Uses, Comment, is_member}
+use Rattle.pua_ever.proofs.Common.{IsDecided, Action, OnPath, Symlink, Rename, Link, Pledge, Unveil, Lock, Fork, Exit, Uses, Hold, Close, Fchdir, Take, Comment, is_member}
 use Rattle.pua_ever.proofs.Common.{is_exec}
 use Rattle.pua_ever.proofs.Common.{is_done, none_done, family_then, NoCallNeedsError, TreesAlong, IsWithin, verdicts_within}
 use Rattle.pua_ever.proofs.Common.{Members, members_then, first_tree, may_edit, EditsNeedC, VeilsStand}
@@ -54,6 +54,10 @@ execs_by table w h Lock c d is = absurd (false≢true is)
 execs_by table w h (Fork new) c d is = absurd (false≢true is)
 execs_by table w h Exit c d is = absurd (false≢true is)
 execs_by table w h (Uses sets) c d is = absurd (false≢true is)
+execs_by table w h (Hold number asked path) c d is = absurd (false≢true is)
+execs_by table w h (Close number) c d is = absurd (false≢true is)
+execs_by table w h (Fchdir number) c d is = absurd (false≢true is)
+execs_by table w h (Take number from theirs) c d is = absurd (false≢true is)
 execs_by table w h Comment c d is = absurd (false≢true is)
 
 pub execs_then : (table : CallTable) (w : World) (ask : Asked) (h : ProcessState) → kept_at w ask.process ≡ Some h → is_exec ask.action ≡ true →

@@ -111,7 +111,7 @@ module _ (t : Tree) (table : CallTable) (h : ProcessState) (p : Prospects) (is :
 
     -- a directory is no file
     dir_allows : (covers : List Cover) (b : Bool) (call : Call) →
-        is_allowed_under table h covers (dir_as b) call ≡ can_allow table h covers (dir_as b) call
+        is_allowed_under table h covers (dir_as b) call ≡ can_allow table h false covers (dir_as b) call
     dir_allows covers true call = refl
     dir_allows covers false call = refl
 
@@ -120,7 +120,7 @@ module _ (t : Tree) (table : CallTable) (h : ProcessState) (p : Prospects) (is :
     under call covers same =
         ap (λ cs. is_allowed_under table h cs (dir_as empties) call) (sym same)
         ∙ dir_allows (ever_covers moves (cover_in t h dir) (dir_covers t h)) empties call
-        ∙ ap (λ b. b && can_allow table h (ever_covers moves (cover_in t h dir) (dir_covers t h)) (dir_as empties) call)
+        ∙ ap (λ b. b && can_allow table h false (ever_covers moves (cover_in t h dir) (dir_covers t h)) (dir_as empties) call)
         (sym (or-true (keeps_link call)))
 
     -- one that can be moved

@@ -1,7 +1,7 @@
 -- A file that could be started, were it a program, has its line.
 use Rattle.pua_ever.proofs.Common.{◌≡◌, ◌⊎◌, ◌≤◌, ◌<◌, ℕ, List, [], ◌++◌, Bool, true, false, cond, map, refl, sym, ap, subst, ◌∙◌, inl}
 use Rattle.pua_ever.proofs.Common.{inr, Some, not, ◌&&◌, ◌||◌, filter, flat_map, list_any, option_map, false≢true, and_parts, and_from}
-use Rattle.pua_ever.proofs.Common.{or_right, Tree, WellFormed, Spot, is_dir, is_dir_kind, is_living, look, kind_at, sound_from, row_says}
+use Rattle.pua_ever.proofs.Common.{or_left, or_right, Tree, WellFormed, Spot, is_dir, is_dir_kind, is_living, look, kind_at, sound_from, row_says}
 use Rattle.pua_ever.proofs.Common.{is_link_kind, Slot, CallTable, calls, rule_of, ProcessState, veils, may_any, Object, object_of_kind}
 use Rattle.pua_ever.proofs.Common.{object_fault, cover, cover_fault, Cover, Call, Subject, At, items, Among, map_among, among_filter}
 use Rattle.pua_ever.proofs.Common.{filter_among, among_right, among_map, contained, among_contained, may_edit, file_covers, is_allowed_under}
@@ -14,13 +14,13 @@ use Rattle.pua_calls.specs.declared.call.Call.TheVariants as call
 use Rattle.pua_policy.specs.Verdict.{IsFile, IsProg}
 use Rattle.pua_objects.proofs.ForCallers.{among_either, one_of_calls, some_of}
 use Rattle.pua_objects.specs.Objects.{is_named_by}
-use Rattle.pua_ever.specs.Ever.{can_allow, ever_calls, is_exec_call, is_new_allowed, named_covers, new_calls, Thing, turning_calls}
+use Rattle.pua_ever.specs.Ever.{can_allow, ever_calls, is_exec_call, is_new_allowed, is_turned_held, named_covers, new_calls, Thing, turning_calls}
 use Rattle.pua_ever.specs.Laws.{of_row, of_new_file, IsStartForeseen}
 use Rattle.pua_ever.proofs.Covers.{given_or_new}
 use Rattle.pua_ever.proofs.Ways.{any_among}
 use Rattle.pua_ever.proofs.Grown.{new_kind}
 use Rattle.pua_ever.proofs.Origins.{Known, Stays}
-use Rattle.pua_ever.proofs.Ending.{Parts, under_one, home_of, young_cover_at, edits_if_young}
+use Rattle.pua_ever.proofs.Ending.{Parts, under_one, home_of, row_listed, young_cover_at, edits_if_young}
 
 -- what a line is about, if it stands
 abbrev stood_at : Thing → Subject → Subject
@@ -99,38 +99,51 @@ module _ (table : CallTable) (t0 : Tree) (h : ProcessState) (well0 : WellFormed 
         is_allowed_under table h covers IsProg call.Exec ≡ true
     runs covers a = under_one table t0 h covers IsProg call.Exec (cover u h (Slot dir name (Some x))) a parts.may parts.covered refl
 
-    -- a file of the beginning that can come to be a program
-    turned : (r : Spot) → kind_at t0 x ≡ Some kind.File →
-        Among (named_covers t0 table h (kind_at t0 x) (cover t0 h (Slot r.0 r.1 (Some x)))) (cover u h (Slot dir name (Some x))) →
+    -- the covers under which a file of the beginning can come
+    abbrev covers_from : Spot → List Cover
+    covers_from r = named_covers t0 table h (kind_at t0 x) (cover t0 h (Slot r.0 r.1 (Some x)))
+
+    -- such a file has exec, where it can come to be a program
+    started : (r : Spot) → kind_at t0 x ≡ Some kind.File → Among (covers_from r) (cover u h (Slot dir name (Some x))) →
+        (is_turned_held h x || list_any (is_allowed_under table h (covers_from r) IsFile) turning_calls) ≡ true →
+        Among (ever_calls t0 table h (At (Slot r.0 r.1 (Some x)))) call.Exec
+    started r was a turns =
+        among_filter (is_ever_allowed t0 table h (At (Slot r.0 r.1 (Some x)))) calls call.Exec
+        (and_from (is_named_by t0 call.Exec (At (Slot r.0 r.1 (Some x)))) _ (ap not (ap is_link_kind was))
+        (subst (λ (object : Object). can_allow table h (is_turned_held h x) (covers_from r) object call.Exec ≡ true)
+        (sym (ap object_of_kind was))
+        (or_right (is_allowed_under table h (covers_from r) IsFile call.Exec) _
+        (and_from (is_turned_held h x || list_any (is_allowed_under table h (covers_from r) IsFile) turning_calls) _ turns
+        (runs (covers_from r) a)))))
+        (one_of_calls call.Exec)
+
+    -- by a call in its line
+    turned : (r : Spot) → kind_at t0 x ≡ Some kind.File → Among (covers_from r) (cover u h (Slot dir name (Some x))) →
         (turning : Call) → Among turning_calls turning → Among (ever_calls t0 table h (At (Slot r.0 r.1 (Some x)))) turning →
         Among (ever_calls t0 table h (At (Slot r.0 r.1 (Some x)))) call.Exec
     turned r was a turning one has =
-        among_filter (is_ever_allowed t0 table h subject) calls call.Exec
-        (and_from (is_named_by t0 call.Exec subject) _ (ap not (ap is_link_kind was))
-        (subst (λ (object : Object). can_allow table h covers object call.Exec ≡ true) (sym is_file)
-        (or_right (is_allowed_under table h covers IsFile call.Exec) _
-        (and_from (list_any (is_allowed_under table h covers IsFile) turning_calls) _
-        (any_among (is_allowed_under table h covers IsFile) turning_calls turning one turns) (runs covers a)))))
-        (one_of_calls call.Exec)
+        started r was a (or_right (is_turned_held h x) _ (any_among (is_allowed_under table h covers IsFile) turning_calls turning one turns))
       where
         subject : Subject
         subject = At (Slot r.0 r.1 (Some x))
 
         covers : List Cover
-        covers = named_covers t0 table h (kind_at t0 x) (cover t0 h (Slot r.0 r.1 (Some x)))
+        covers = covers_from r
 
         is_file : object_of_kind (kind_at t0 x) ≡ IsFile
         is_file = ap object_of_kind was
 
-        allowed : can_allow table h covers IsFile turning ≡ true
-        allowed = ap (λ (object : Object). can_allow table h covers object turning) (sym is_file) ∙
+        allowed : can_allow table h (is_turned_held h x) covers IsFile turning ≡ true
+        allowed = ap (λ (object : Object). can_allow table h (is_turned_held h x) covers object turning) (sym is_file) ∙
             (and_parts (is_named_by t0 turning subject) _ (filter_among (is_ever_allowed t0 table h subject) calls turning has).1).1
 
         turns : is_allowed_under table h covers IsFile turning ≡ true
-        turns = plainly (is_allowed_under table h covers IsFile turning) (list_any (is_allowed_under table h covers IsFile) turning_calls)
+        turns = plainly (is_allowed_under table h covers IsFile turning)
+            (is_turned_held h x || list_any (is_allowed_under table h covers IsFile) turning_calls)
             (is_allowed_under table h covers IsProg turning)
             (ap (λ b. is_allowed_under table h covers IsFile turning
-            || (list_any (is_allowed_under table h covers IsFile) turning_calls && (b && is_allowed_under table h covers IsProg turning)))
+            || ((is_turned_held h x || list_any (is_allowed_under table h covers IsFile) turning_calls)
+            && (b && is_allowed_under table h covers IsProg turning)))
             (sym (no_exec turning one)) ∙ allowed)
 
     old : x < t0.next → IsStartForeseen t0 table h u (Slot dir name (Some x))
@@ -147,6 +160,14 @@ module _ (table : CallTable) (t0 : Tree) (h : ProcessState) (well0 : WellFormed 
               (contained (ever_calls t0 table h subject) call.Exec
               (turned home.row was home.under turning (among_contained turning_calls turning one)
               (among_contained (ever_calls t0 table h subject) turning (subst (λ cs. Contains cs turning) calls_are has))));
+          held = λ is.
+              let there = row_listed table t0 h well0 stand home.row x home.at (ap is_dir_kind was) call.Exec
+              (started home.row was home.under (or_left (is_turned_held h x) _ is)) in (
+                there.line,
+                contained (ever t0 table h) there.line there.among,
+                there.about,
+                contained there.line.calls call.Exec there.allows,
+              );
           made = λ e. absurd (false≢true (sym (ap is_standing e)));
         }
 
@@ -158,16 +179,8 @@ module _ (table : CallTable) (t0 : Tree) (h : ProcessState) (well0 : WellFormed 
       turned = λ line listed about turning one has.
           subst (λ cs. Contains cs call.Exec) (sym (new_line_calls table t0 h line (among_contained (ever t0 table h) line listed) about))
           (contained (new_calls t0 table h NewFile) call.Exec starts);
-      made = λ e. (
-        line,
-        contained (ever t0 table h) line
-            (among_filter has_ever_calls (standing_lines table t0 h ++ new_lines table t0 h) line
-            (some_of (new_calls t0 table h NewFile) call.Exec starts)
-            (among_right (standing_lines table t0 h) (new_lines table t0 h) line
-            (among_map (new_line t0 table h) all_new NewFile (inr (inr (inl refl)))))),
-        refl,
-        contained (new_calls t0 table h NewFile) call.Exec starts,
-      );
+      held = λ is. listed;
+      made = λ e. listed;
     }
       where
         line : EverLine
@@ -194,6 +207,18 @@ module _ (table : CallTable) (t0 : Tree) (h : ProcessState) (well0 : WellFormed 
             (or_right (is_allowed_under table h (file_covers t0 table h) IsFile call.Exec) _
             (runs (file_covers t0 table h) (young_cover_at table t0 h well0 stand u k edit call.Exec (dir, name) x here other from)))
             (one_of_calls call.Exec))
+
+        listed : (line : EverLine) × Contains (ever t0 table h) line × (line.thing ≡ Comes NewFile) × Contains line.calls call.Exec
+        listed = (
+          line,
+          contained (ever t0 table h) line
+              (among_filter has_ever_calls (standing_lines table t0 h ++ new_lines table t0 h) line
+              (some_of (new_calls t0 table h NewFile) call.Exec starts)
+              (among_right (standing_lines table t0 h) (new_lines table t0 h) line
+              (among_map (new_line t0 table h) all_new NewFile (inr (inr (inl refl)))))),
+          refl,
+          contained (new_calls t0 table h NewFile) call.Exec starts,
+        )
 
     pub start_foreseen : IsStartForeseen t0 table h u (Slot dir name (Some x))
     start_foreseen = elim (given_or_new t0 x) [ inl below ↦ old below | inr from ↦ young from ]

@@ -285,7 +285,7 @@ module _ (table : CallTable) (sound : NoCallNeedsError table) (needs : EditsNeed
       (one.0, contained (ever t tmp both) one.0 one.1, one.2)
 
   start_in_list : (t later : Tree) (object : Found) → passes call.Exec ≡ true → (seen : IsStartForeseen t tmp both later object) →
-      can_come passes seen.thing ≡ true → IsStartForeseenIn (ever_through t tmp now given) t now later object
+      can_come passes seen.thing ≡ true → IsStartForeseenIn (ever_through t tmp now given) t now both later object
   start_in_list t later object one seen comes = record {
     thing = seen.thing;
     about = line_too now given t later seen.thing object seen.about;
@@ -297,6 +297,10 @@ module _ (table : CallTable) (sound : NoCallNeedsError table) (needs : EditsNeed
         let runs = seen.turned other.0 other.1 (ap (λ l. l.thing) other.2 ∙ about) turning among (contained other.0.calls turning test.0) in
         subst (λ l. Contains l.calls call.Exec) other.2
         (listed_through t other.0 call.Exec other.1 runs (and_parts (can_come passes other.0.thing) _ test.1).0 one).1;
+    held = λ is.
+        let line = seen.held is in
+        let there = listed_through t line.0 call.Exec line.1 line.3 (ap (can_come passes) line.2 ∙ comes) one in
+        (let_through passes line.0, there.0, line.2, there.1);
     made = λ new.
         let line = seen.made new in
         let there = listed_through t line.0 call.Exec line.1 line.3 (ap (can_come passes) (line.2 ∙ sym new) ∙ comes) one in
@@ -345,7 +349,7 @@ module _ (table : CallTable) (sound : NoCallNeedsError table) (needs : EditsNeed
         )
 
     pub starts_all : HasKept (world_after table w asks) member
-        (ForeseesStartsIn (ever_through w.tree tmp now given) w.tree tmp now after)
+        (ForeseesStartsIn (ever_through w.tree tmp now given) w.tree tmp now both after)
     starts_all =
         let both_see = starts_within table sound needs w asks members both (members_within w members are) stand
         trees (none_looser asks w members are) edits member belongs in (

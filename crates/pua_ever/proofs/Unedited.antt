@@ -4,7 +4,7 @@ use Rattle.pua_ever.proofs.Common.{is_some, nat_le, false≢true, or_left, or_ri
 use Rattle.pua_ever.proofs.Common.{may_any, CallTable, rule_of, Call, May, most_processes, Asked, tree_left, is_member}
 use Rattle.pua_ever.proofs.Common.{family_then, World, Fails, Copies, change_effect, kept_at, apply}
 use Rattle.pua_ever.proofs.Common.{world_after, Change, CopyAs, change_by, Action, OnPath, Symlink, Rename, Link, Pledge, Unveil}
-use Rattle.pua_ever.proofs.Common.{Lock, Fork, Exit, Uses, Comment, IsWithin, Members, Among, is_yes, may_edit}
+use Rattle.pua_ever.proofs.Common.{Lock, Fork, Exit, Uses, Hold, Close, Fchdir, Take, Comment, IsWithin, Members, Among, is_yes, may_edit}
 use Rattle.std.proofs.Common.{◌||◌}
 use Rattle.std.specs.List.{AllByRecursion}
 use Rattle.std.specs.Prelude.{length}
@@ -21,6 +21,14 @@ use Rattle.pua_ever.specs.Laws.{MembersEdit, NoExecLoosens}
 use Rattle.pua_ever.proofs.Calling.{by_calling}
 use Rattle.pua_ever.proofs.Execs.{members_still}
 use Rattle.pua_ever.proofs.Ways.{any_among, any_found}
+use Rattle.pua_path.specs.declared.errno.Errno.{Errno}
+use Rattle.pua_policy.specs.States.{is_pledged}
+use Rattle.pua_policy.specs.declared.open_file.OpenFile.{OpenFile}
+use Rattle.pua_path.specs.Fits.{node_named}
+use Rattle.pua_script.specs.Decide.{TakeFile, file_opened}
+use Rattle.pua_script.specs.Replay.{sent_by, take_effect}
+use Rattle.pua_script.proofs.ForCallers.{by_filing}
+use Rattle.std.specs.Prelude.{Result, Ok, Err}
 
 module _ (table : CallTable) (w : World) (h : ProcessState) (lacks : may_edit table h ≡ false) where
   -- a change that leaves the tree
@@ -55,6 +63,13 @@ module _ (table : CallTable) (w : World) (h : ProcessState) (lacks : may_edit ta
       by true = refl
       by false = refl
 
+  keeps_taken : (number from theirs : ℕ) → Keeps (TakeFile number from theirs)
+  keeps_taken number from theirs = by (sent_by (is_pledged h) (kept_at w from) theirs)
+    where
+      by : (r : Result OpenFile Errno) → tree_left w.tree (take_effect w h number r) ≡ w.tree
+      by (Ok file) = refl
+      by (Err errno) = refl
+
   keeps_by : (action : Action) (c : Change) → IsGranted table w.tree h action c → Keeps c
   keeps_by (OnPath asked path) c (inl d) = subst Keeps (sym d.2) (keeps_call asked d.0 d.1.promised)
   keeps_by (OnPath asked path) c (inr same) = subst Keeps (sym same) refl
@@ -67,6 +82,10 @@ module _ (table : CallTable) (w : World) (h : ProcessState) (lacks : may_edit ta
   keeps_by (Fork new) c d = subst Keeps (sym d.1) (keeps_copy new)
   keeps_by Exit c d = subst Keeps (sym d) refl
   keeps_by (Uses sets) c d = subst Keeps (sym d.1) refl
+  keeps_by (Hold number asked path) c d = subst Keeps (sym d.1) (by_filing Keeps refl number (file_opened w.tree asked (node_named d.0)) (λ file. refl))
+  keeps_by (Close number) c d = subst Keeps (sym d.2) refl
+  keeps_by (Fchdir number) c d = subst Keeps (sym d.is) refl
+  keeps_by (Take number from theirs) c d = subst Keeps (sym d.1) (keeps_taken number from theirs)
   keeps_by Comment c d = subst Keeps (sym d) refl
 
 pub unedited : (table : CallTable) (w : World) (ask : Asked) (h : ProcessState) → kept_at w ask.process ≡ Some h →

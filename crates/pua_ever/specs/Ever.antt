@@ -15,7 +15,9 @@ use Rattle.pua_path.specs.declared.found.Way.{Way}
 use Rattle.pua_path.specs.declared.found.Way.TheVariants.{Named, Top}
 use Rattle.pua_calls.specs.Calls.{CallTable, about, rule_of, calls, call_name}
 use Rattle.pua_calls.specs.CallSets.{keeps_link, is_kept}
-use Rattle.pua_policy.specs.States.{ProcessState, perms_kept, veils, may_any}
+use Rattle.pua_calls.specs.Promises.{holds, fattr, writing}
+use Rattle.pua_policy.specs.States.{ProcessState, perms_kept, veils, may_any, held_set}
+use Rattle.pua_policy.specs.declared.open_file.OpenFile.{OpenFile}
 use Rattle.pua_policy.specs.declared.answer.May.{May}
 use Rattle.pua_policy.specs.declared.answer.May.TheVariants.{Yes}
 use Rattle.pua_policy.specs.Verdict.{Object, IsDir, Is, IsFile, IsProg, IsLink, IsMissing, object_of, cover, cover_fault, covered_verdict, is_allowed}
@@ -220,18 +222,37 @@ is_exec_call _ = false
 abbrev pub starts_under : CallTable → ProcessState → List Cover → Call → Bool
 starts_under table h covers call = is_exec_call call && is_allowed_under table h covers IsProg call
 
+-- a descriptor stands for this node, and by it the node can be written or its mode be set: what was opened to write is
+-- written, and who may set modes sets that of whatever is open. No veil and no letter is asked for either
+abbrev pub is_turned_by : Bool → ℕ → (ℕ × OpenFile) → Bool
+is_turned_by sets_modes node held = held.1.node == node && (sets_modes || holds held.1.letters writing)
+
+-- so a process holds it
+abbrev pub is_turned_held : ProcessState → ℕ → Bool
+is_turned_held h node = list_any (is_turned_by (holds (held_set h) fattr) node) h.files
+
+-- and what stands at a name
+abbrev pub is_turned_there : ProcessState → Option ℕ → Bool
+is_turned_there h None = false
+is_turned_there h (Some node) = is_turned_held h node
+
+abbrev pub is_turned : ProcessState → Subject → Bool
+is_turned h (At (Slot dir name node)) = is_turned_there h node
+is_turned h _ = false
+
 -- a call can be allowed on such a thing under these covers: as it is, or, where it is a file that can be made a program, as
--- that
-abbrev pub can_allow : CallTable → ProcessState → List Cover → Object → Call → Bool
-can_allow table h covers (Is kind.File) call =
+-- that; by what is open it can, whatever covers it
+abbrev pub can_allow : CallTable → ProcessState → Bool → List Cover → Object → Call → Bool
+can_allow table h turned covers (Is kind.File) call =
     is_allowed_under table h covers IsFile call
-    || (list_any (is_allowed_under table h covers IsFile) turning_calls && starts_under table h covers call)
-can_allow table h covers object call = is_allowed_under table h covers object call
+    || ((turned || list_any (is_allowed_under table h covers IsFile) turning_calls) && starts_under table h covers call)
+can_allow table h turned covers object call = is_allowed_under table h covers object call
 
 -- the calls that can ever be allowed on what stands or could stand now
 abbrev pub is_ever_allowed : Tree → CallTable → ProcessState → Subject → Call → Bool
 is_ever_allowed t table h subject call =
-    is_named_by t call subject && can_allow table h (covers_of t table h subject) (ever_object t table h subject) call
+    is_named_by t call subject
+    && can_allow table h (is_turned h subject) (covers_of t table h subject) (ever_object t table h subject) call
 
 abbrev pub ever_calls : Tree → CallTable → ProcessState → Subject → List Call
 ever_calls t table h subject = filter (is_ever_allowed t table h subject) calls

@@ -4,7 +4,7 @@ use Rattle.pua_tree.specs.Tree.{Tree, Node, empty_tree}
 use Rattle.pua_tree.specs.declared.node.Kind.TheVariants.{Dir, File, Link, Prog}
 use Rattle.pua_calls.specs.Promises.{rpath, wpath, cpath, dpath, fattr, exec, unix, reading, writing, executing, creating}
 use Rattle.pua_calls.specs.Calls.{CallTable, NameRule, standard_name, standard_pair, standard_table, openbsd_table}
-use Rattle.pua_policy.specs.States.{ProcessState, new_process}
+use Rattle.pua_policy.specs.States.{ProcessState, Filed, new_process, state_after}
 use Rattle.pua_policy.specs.declared.place.Place.{Place}
 use Rattle.pua_policy.specs.declared.place.Place.TheVariants as place
 use Rattle.pua_ever.specs.Ever.{ever, ever_line_text}
@@ -555,7 +555,19 @@ mode_process = locked_by (fattr + exec) ((place.Dir 1, writing + executing) ∷ 
 abbrev pub read_mode_process : ProcessState
 read_mode_process = locked_by (rpath + fattr + exec) ((place.Dir 1, reading + executing) ∷ [])
 
--- what can be started that was no program: a file that is made, is written or has its mode set, where it can come under x
+-- `/bin` has x alone, and this node is open with these letters
+abbrev pub holder : ℕ → ℕ → ℕ → ProcessState
+holder promises node letters =
+    record (locked_by promises ((place.Dir 1, executing) ∷ [])) {
+      files = (5, record { node = node; kind = File; letters = letters }) ∷ [];
+    }
+
+-- the same where `/bin` has r
+abbrev pub reading_holder : ProcessState
+reading_holder = record (holder exec 3 writing) { veils = (place.Dir 1, reading) ∷ [] }
+
+-- what can be started that was no program: a file that is made, is written or has its mode set, where it can come under x.
+-- What is open is written where it was opened for that, and its mode is set by fattr, whatever its letters
 pub record StartedRows : Type 0 where
   pub job : lines job_tree job_process ≡
       codes "dir /tmp stat,lstat,open-r,rmdir,chmod,chdir"
@@ -592,6 +604,27 @@ pub record StartedRows : Type 0 where
       ∷ []
   pub standard_read_mode : lines plain_file_tree read_mode_process ≡
       codes "dir /bin stat,lstat,open-r,chdir" ∷ codes "file /bin/f stat,lstat,open-r" ∷ []
+  pub held_to_write : lines plain_file_tree (holder exec 3 writing) ≡ codes "file /bin/f exec" ∷ []
+  pub held_to_read_with_fattr : lines plain_file_tree (holder (exec + fattr) 3 reading) ≡ codes "file /bin/f exec" ∷ []
+  pub held_to_read : lines plain_file_tree (holder exec 3 reading) ≡ []
+  pub held_without_exec : lines plain_file_tree (holder fattr 3 writing) ≡ []
+  pub held_without_x : lines plain_file_tree reading_holder ≡ []
+  pub another_held : lines plain_file_tree (holder (exec + fattr) 4 writing) ≡ []
+  pub closed : lines plain_file_tree (state_after (Filed 5 None) (holder (exec + fattr) 3 writing)) ≡ []
 
 pub started_rows : StartedRows
-started_rows = record { job = refl; no_exec = refl; plain_file = refl; mode = refl; read_mode = refl; standard_read_mode = refl }
+started_rows = record {
+  job = refl;
+  no_exec = refl;
+  plain_file = refl;
+  mode = refl;
+  read_mode = refl;
+  standard_read_mode = refl;
+  held_to_write = refl;
+  held_to_read_with_fattr = refl;
+  held_to_read = refl;
+  held_without_exec = refl;
+  held_without_x = refl;
+  another_held = refl;
+  closed = refl;
+}

@@ -1,5 +1,5 @@
 -- What is true of all that can ever be touched.
-use Rattle.std.specs.Prelude.{◌≡◌, ◌⊎◌, ⊤, ◌<◌, ◌≤◌, ◌++◌, ℕ, List, [], ◌∷◌, Some, None, Result, Ok, IsTrue, IsFalse}
+use Rattle.std.specs.Prelude.{◌≡◌, ◌⊎◌, ⊤, ◌<◌, ◌≤◌, ◌++◌, ℕ, Bool, false, List, [], ◌∷◌, Some, None, Result, Ok, IsTrue, IsFalse}
 use Rattle.std.specs.List.{Contains}
 use Rattle.pua_tree.specs.Tree.{Tree, WellFormed, Spot, look, kind_at}
 use Rattle.pua_tree.specs.declared.node.Kind.TheVariants as kind
@@ -32,7 +32,7 @@ use Rattle.pua_script.specs.OpeningLaws.{may_open}
 use Rattle.pua_script.specs.declared.request.Action.TheVariants.{OnPath}
 use Rattle.pua_script.specs.declared.answer.Answer.TheVariants.{Okay}
 use Rattle.pua_objects.specs.Objects.{At, Others, Line, objects, own_way}
-use Rattle.pua_ever.specs.Ever.{NewDir, NewOthers, NewFile, NewLink, Thing, Stands, Comes, EverLine, turning_calls, ever}
+use Rattle.pua_ever.specs.Ever.{NewDir, NewOthers, NewFile, NewLink, Thing, Stands, Comes, EverLine, turning_calls, is_turned_there, ever}
 
 -- the calls that make a name or take one away need `c`, and so do both names of rename and the new one of link: its old
 -- name stays, whatever it needs
@@ -140,30 +140,37 @@ WithoutExec =
     MembersEdit table w asks (process ∷ []) → NoLineHasExec w.tree (tmp_table table) now →
     IsTrue (none_done is_exec table w asks (process ∷ []))
 
+-- a process holds what a path named so that it can be written, or its mode be set
+abbrev pub is_turned_found : ProcessState → Found → Bool
+is_turned_found h (Slot dir name node) = is_turned_there h node
+is_turned_found h (Whole dir way) = false
+
 -- over a later tree: whatever path names a file on which exec would be allowed to a process, were it a program. It has a
 -- line: that of a file of then has exec where it has a call by which the file can come to be a program, and that of a new
--- file has it in any case
-pub record IsStartForeseenIn (lines : List EverLine) (t : Tree) (h : ProcessState) (later : Tree) (object : Found) : Type 0 where
+-- file has it in any case. One that a holder of then held open, so that it could be written or its mode be set, has exec too
+pub record IsStartForeseenIn (lines : List EverLine) (t : Tree) (h holder : ProcessState) (later : Tree) (object : Found) : Type 0 where
   pub thing : Thing
   pub about : IsLineOf t later h thing object
   pub turned : (line : EverLine) → Contains lines line → line.thing ≡ thing →
       (turning : Call) → Contains turning_calls turning → Contains line.calls turning → Contains line.calls call.Exec
+  pub held : IsTrue (is_turned_found holder object) →
+      (line : EverLine) × Contains lines line × (line.thing ≡ thing) × Contains line.calls call.Exec
   pub made : thing ≡ Comes NewFile →
       (line : EverLine) × Contains lines line × (line.thing ≡ Comes NewFile) × Contains line.calls call.Exec
 
 abbrev pub IsStartForeseen : Tree → CallTable → ProcessState → Tree → Found → Type 0
-IsStartForeseen t table h later object = IsStartForeseenIn (ever t table h) t h later object
+IsStartForeseen t table h later object = IsStartForeseenIn (ever t table h) t h h later object
 
-abbrev pub ForeseesStartsIn : List EverLine → Tree → CallTable → ProcessState → Tree → ProcessState → Type 0
-ForeseesStartsIn lines t table now later last =
+abbrev pub ForeseesStartsIn : List EverLine → Tree → CallTable → (now holder : ProcessState) → Tree → ProcessState → Type 0
+ForeseesStartsIn lines t table now holder later last =
     (from : ℕ) (text : List ℕ) (dir : ℕ) (name : List ℕ) (node : ℕ) →
     resolution_of_text later from (ending_of call.Exec) text (last_of call.Exec) ≡ Ok (Slot dir name (Some node)) →
     kind_at later node ≡ Some kind.File →
     covered_verdict later table last call.Exec (cover later last (Slot dir name (Some node))) IsProg ≡ Allowed →
-    IsStartForeseenIn lines t now later (Slot dir name (Some node))
+    IsStartForeseenIn lines t now holder later (Slot dir name (Some node))
 
 abbrev pub ForeseesStarts : Tree → CallTable → ProcessState → Tree → ProcessState → Type 0
-ForeseesStarts t table now later last = ForeseesStartsIn (ever t table now) t table now later last
+ForeseesStarts t table now later last = ForeseesStartsIn (ever t table now) t table now now later last
 
 -- several processes that act together: each has the veils of one state, no promise beyond it but `error`,
 -- and is ended where that is. Such are a process and those that it forked before now, if none has put a

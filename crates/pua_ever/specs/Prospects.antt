@@ -2,6 +2,8 @@
 use Rattle.std.specs.Prelude.{◌≡◌, ℕ, Bool, true, false, not, ◌&&◌, ◌||◌, if◌then◌else◌, is_some, List, [], ◌∷◌}
 use Rattle.std.specs.Prelude.{◌==◌, Option, Some, None}
 use Rattle.std.specs.List.{list_any}
+use Rattle.std.specs.BTreeSet.{BTreeSet, contains}
+use Rattle.std.specs.Ordering.{nat_cmp}
 use Rattle.pua_tree.specs.Tree.{Tree, Spot, is_dir}
 use Rattle.pua_tree.specs.declared.node.Kind.{Kind}
 use Rattle.pua_path.specs.Fits.{is_link_kind}
@@ -19,15 +21,20 @@ use Rattle.pua_objects.specs.Objects.{At, cover_in}
 use Rattle.pua_objects.specs.declared.item.Subject as about
 use Rattle.pua_objects.specs.declared.item.Subject.TheVariants as subject
 use Rattle.pua_ever.specs.Ever.{can_empty, may_edit, may_link, named_covers}
-use Rattle.pua_ever.specs.Ever.{can_allow, is_ever_allowed, can_be_freed}
+use Rattle.pua_ever.specs.Ever.{can_allow, is_ever_allowed, is_turned_held, can_be_freed}
 use Rattle.pua_ever.specs.Movable.{IsMovable}
 use Rattle.pua_ever.specs.declared.prospects.Prospects.{Prospects}
+
+-- the nodes that a process holds so that it can make programs of them
+abbrev pub IsTurnedSet : ProcessState → BTreeSet ℕ → Type 0
+IsTurnedSet h nodes = (node : ℕ) → contains nat_cmp nodes node ≡ is_turned_held h node
 
 -- what was found for the lines is so of this process
 pub record IsProspects (t : Tree) (table : CallTable) (h : ProcessState) (found : Prospects) : Type 0 where
   pub edits : found.may_edit ≡ may_edit table h
   pub links : found.may_link ≡ may_link table h
   pub movable : IsMovable t table h found.movable
+  pub turned : IsTurnedSet h found.turned
   pub held : (dir : ℕ) → is_dir t dir ≡ true → has_c (cover_in t h dir) ≡ true →
       can_empty t h dir ≡ not (list_any (λ other. other == dir) found.held.items)
 
@@ -48,11 +55,11 @@ own_given (subject.Name dir name) object = by object
     by _ = Some (dir, name.now)
 own_given _ object = None
 
--- the calls on an object of a kind at a name, by what covers it now
+-- the calls on an object of a kind at a name, by what covers it now and whether a descriptor can make a program of it
 abbrev pub kind_covers : Tree → CallTable → ProcessState → Cover → Option Kind → List Cover
 kind_covers t table h now kind = if is_some kind then named_covers t table h kind now else now ∷ []
 
-abbrev pub kind_allowed : Tree → CallTable → ProcessState → Cover → Option Kind → Call → Bool
-kind_allowed t table h now kind call =
+abbrev pub kind_allowed : Tree → CallTable → ProcessState → Bool → Cover → Option Kind → Call → Bool
+kind_allowed t table h turned now kind call =
     (keeps_link call || not (is_link_kind kind))
-    && can_allow table h (kind_covers t table h now kind) (object_of_kind kind) call
+    && can_allow table h turned (kind_covers t table h now kind) (object_of_kind kind) call

@@ -172,7 +172,8 @@ EverThroughExecs =
     let after = world_after table w asks in
     HasKept after member (ForeseesIn (ever_through w.tree (tmp_table table) now given) w.tree (tmp_table table) now after.tree)
 
--- and where a kernel makes programs of what they make, write or set the mode of, it starts none whose line has no exec
+-- and where a kernel makes programs of what they make, write or set the mode of, it starts none whose line has no exec; what
+-- is open stays so through an exec, so each file counts as held by who holds both sets
 abbrev pub StartsThroughExecs : Type 0
 StartsThroughExecs =
     (table : CallTable) → NoCallNeedsError table → EditsNeedC table →
@@ -180,7 +181,8 @@ StartsThroughExecs =
     GoAlong table w now given members → VeilsStand w.tree now → TreesAlong table w asks → MembersEdit table w asks members →
     (member : ℕ) → IsTrue (is_member (family table w asks members) member) →
     let after = world_after table w asks in
-    HasKept after member (ForeseesStartsIn (ever_through w.tree (tmp_table table) now given) w.tree (tmp_table table) now after.tree)
+    HasKept after member
+    (ForeseesStartsIn (ever_through w.tree (tmp_table table) now given) w.tree (tmp_table table) now (with_both now given) after.tree)
 
 -- the same of one process whose execs are bounded, and of the list that holds longest
 abbrev pub EverLasts : Type 0

@@ -2,7 +2,7 @@
 use Rattle.std.specs.Prelude.{◌≡◌, ◌+◌, ℕ, true, false, List, [], ◌∷◌, map, Some, None, codes, refl}
 use Rattle.pua_tree.specs.Tree.{Tree, Node, empty_tree}
 use Rattle.pua_tree.specs.declared.node.Kind.TheVariants.{Dir, File, Prog}
-use Rattle.pua_calls.specs.Promises.{rpath, wpath, cpath, exec, proc, unveil, reading, writing, executing, creating}
+use Rattle.pua_calls.specs.Promises.{rpath, wpath, cpath, fattr, exec, proc, unveil, reading, writing, executing, creating}
 use Rattle.pua_calls.specs.Calls.{CallTable, standard_table, openbsd_table}
 use Rattle.pua_policy.specs.States.{ProcessState, new_process}
 use Rattle.pua_policy.specs.declared.place.Place.{Place}
@@ -93,6 +93,16 @@ writes = record new_process {
   locked = true;
 }
 
+-- `/in` has x, and the file in it is open for reading to who starts what holds this
+abbrev pub holds_open : ℕ → ProcessState
+holds_open given = record new_process {
+  promises = Some exec;
+  execpromises = Some given;
+  veils = (place.Dir 1, executing) ∷ (place.Slot 0 (codes "p"), executing) ∷ [];
+  locked = true;
+  files = (5, record { node = 3; kind = File; letters = reading }) ∷ [];
+}
+
 -- who can put no veil, and isn't locked
 abbrev pub unlocked : ℕ → ProcessState
 unlocked given = record (starting executing (rpath + exec + proc) given) { locked = false }
@@ -125,6 +135,9 @@ pub record ThroughRows : Type 0 where
       ∷ codes "file new stat,lstat,open-r,open-w,create,unlink,exec"
       ∷ codes "link new lstat,readlink,unlink"
       ∷ []
+  -- what it starts sets the mode of what is open, which it can start then
+  pub mode_of_open : lines_lasting standard_table (holds_open fattr) ≡ codes "file /in/s exec" ∷ codes "prog /p exec" ∷ []
+  pub no_mode_of_open : lines_lasting standard_table (holds_open cpath) ≡ codes "prog /p exec" ∷ []
   -- what lists say of execs
   pub told_bounded : execs_of started_tree standard_table reads ≡ told.Bounded
   pub told_open : execs_of started_tree standard_table (starting executing (rpath + exec + proc) (cpath + exec)) ≡ told.Open
@@ -142,6 +155,8 @@ through_rows = record {
   unveils_never = refl;
   two_halves = refl;
   starts_what_is_made = refl;
+  mode_of_open = refl;
+  no_mode_of_open = refl;
   told_bounded = refl;
   told_open = refl;
   told_never = refl;

@@ -20,8 +20,9 @@ ghost use Rattle.pua_ever.specs.TogetherExamples.{TogetherRows};
 /// of several processes with the same veils, of execs that let them do no more, and after a
 /// listing and a script as a command reads them. What one of them is then answered ok has its line,
 /// or a promise opens its text that was held in the beginning. Where no line has an exec, none can
-/// succeed; and a file that is made, or that a call of its line can make a program, has exec in its
-/// line wherever it could be started, were it one. Requests go by a table, and the list by its
+/// succeed; and a file that is made, or that a call of its line can make a program, or that was
+/// held open so that it could be written or its mode be set, has exec in its line wherever it could
+/// be started, were it one. Requests go by a table, and the list by its
 /// `with_tmppath`, so that what tmppath makes and frees has its lines too; and so in all laws here.
 pub fn ever_law()
     ensures complete { EverComplete }

@@ -108,7 +108,7 @@ pub fn list_ever<'t, T: FileTree>(
     let Ok(items) = list_items(alloc, tree, process) else {
         return Err(EverFault::OutOfMemory);
     };
-    let Ok(mut rows) = rows_of(alloc, &prospects, process, table, &items) else {
+    let Ok(mut rows) = rows_of(alloc, tree, &prospects, process, table, &items) else {
         return Err(EverFault::OutOfMemory);
     };
     let Ok(()) = add_made(&prospects, &mut rows) else {
@@ -118,47 +118,52 @@ pub fn list_ever<'t, T: FileTree>(
 }
 
 /// The rows of all items. The only error is that a growth was refused.
-fn rows_of<'t>(
+fn rows_of<'t, T: FileTree>(
     alloc: Global,
+    tree: &T,
     prospects: &Prospects,
     process: &Process,
     table: &CallTable,
     items: &[ListItem<'t>],
 ) -> Result<Vec<EverRow<'t>>, AllocError>
-    ensures told { IfOk result (λ rows. (t : Tree) → WellFormed t → EditsNeedC table.now →
-        IsProspects t table.now process.now prospects.now →
-        AllByRecursion (IsToldIn t process.now) items.now → AreNear [] items.now →
-        AreRowsBut t table.now process.now items.now rows.items (Some Made.Dir)) }
+    ensures told { IfOk result (λ rows. WellFormed (T.content tree.now) → EditsNeedC table.now →
+        IsProspects (T.content tree.now) table.now process.now prospects.now →
+        AllByRecursion (IsToldIn (T.content tree.now) process.now) items.now → AreNear [] items.now →
+        AreRowsBut (T.content tree.now) table.now process.now items.now rows.items
+        (Some Made.Dir)) }
     ensures items { IfOk result (λ rows. (t : Tree) → WellFormed t →
         AllByRecursion (IsToldIn t process.now) items.now →
         AllByRecursion (IsRowOn t process.now) rows.items) }
 {
     let mut rows = Vec::new(alloc);
     for item in items {
-        add_rows(prospects, process, table, item, &mut rows)?;
+        add_rows(tree, prospects, process, table, item, &mut rows)?;
     }
     Ok(rows)
 }
 
 /// Adds the rows of an item. The only error is that a growth was refused.
-fn add_rows<'t>(
+fn add_rows<'t, T: FileTree>(
+    tree: &T,
     prospects: &Prospects,
     process: &Process,
     table: &CallTable,
     item: &ListItem<'t>,
     rows: &mut Vec<EverRow<'t>>,
 ) -> Result<(), AllocError>
-    ensures told { OnOk result ((t : Tree) (items so_far left : List Listed) → WellFormed t →
-        EditsNeedC table.now → IsProspects t table.now process.now prospects.now →
-        IsToldIn t process.now item.now → item.now.depth ≤ length (last_word [] so_far) →
-        AreRowsSoFar t table.now process.now items so_far (item.now ∷ left) rows.old.items →
-        AreRowsSoFar t table.now process.now items (so_far ++ item.now ∷ []) left
-        rows.new.items) }
+    ensures told { OnOk result ((items so_far left : List Listed) →
+        WellFormed (T.content tree.now) → EditsNeedC table.now →
+        IsProspects (T.content tree.now) table.now process.now prospects.now →
+        IsToldIn (T.content tree.now) process.now item.now →
+        item.now.depth ≤ length (last_word [] so_far) →
+        AreRowsSoFar (T.content tree.now) table.now process.now items so_far (item.now ∷ left)
+        rows.old.items → AreRowsSoFar (T.content tree.now) table.now process.now items
+        (so_far ++ item.now ∷ []) left rows.new.items) }
     ensures items { OnOk result ((t : Tree) → WellFormed t → IsToldIn t process.now item.now →
         AllByRecursion (IsRowOn t process.now) rows.old.items →
         AllByRecursion (IsRowOn t process.now) rows.new.items) }
 {
-    let stands = stands_row(prospects, process, table, item);
+    let stands = stands_row(tree, prospects, process, table, item);
     let Ok(()) = rows.push(stands) else {
         return Err(AllocError);
     };
@@ -191,7 +196,8 @@ fn add_made(prospects: &Prospects, rows: &mut Vec<EverRow<'_>>) -> Result<(), Al
 }
 
 /// The row of what an item is about.
-fn stands_row<'t>(
+fn stands_row<'t, T: FileTree>(
+    tree: &T,
     prospects: &Prospects,
     process: &Process,
     table: &CallTable,
@@ -201,9 +207,10 @@ fn stands_row<'t>(
     ensures about { (t : Tree) → thing_of t result
         ≡ Some (Stands (subject_given t item.now.item.subject)) }
     ensures on { (t : Tree) (h : ProcessState) → IsToldIn t h item.now → IsRowOn t h result }
-    ensures row { (t : Tree) → WellFormed t → EditsNeedC table.now →
-        IsProspects t table.now process.now prospects.now → IsToldIn t process.now item.now →
-        IsStandsRow t table.now process.now item.now result }
+    ensures row { WellFormed (T.content tree.now) → EditsNeedC table.now →
+        IsProspects (T.content tree.now) table.now process.now prospects.now →
+        IsToldIn (T.content tree.now) process.now item.now →
+        IsStandsRow (T.content tree.now) table.now process.now item.now result }
 {
     let own = &item.item;
     EverRow {
@@ -212,7 +219,7 @@ fn stands_row<'t>(
         about: EverAbout::Stands(place_of(own), own.object, own.cover),
         line: EverLine {
             thing: EverThing::Stands(kind_of(own)),
-            calls: prospects.calls_on(process, table, own),
+            calls: prospects.calls_on(tree, process, table, own),
         },
     }
 }

@@ -9,12 +9,13 @@ ghost use Rattle.pua_ever.specs.Ever.{is_exec_call, turning_calls};
 use pua_calls::{Call, Calls};
 
 /// The calls on a file that stands, by those on a file and those on a program under the same
-/// covers: exec too where one of them can make it a program.
-pub(crate) fn on_file(as_file: Calls, as_program: Calls) -> Calls
+/// covers: exec too where a descriptor or one of them can make it a program.
+pub(crate) fn on_file(turned: bool, as_file: Calls, as_program: Calls) -> Calls
     ensures { (call : AnyCall) → has result call ≡ (has as_file call
-        || (list_any (has as_file) turning_calls && (is_exec_call call && has as_program call))) }
+        || ((turned || list_any (has as_file) turning_calls)
+        && (is_exec_call call && has as_program call))) }
 {
-    if can_turn(as_file) {
+    if turned || can_turn(as_file) {
         return on_new_file(as_file, as_program);
     }
     as_file

@@ -4,6 +4,7 @@ ghost use Rattle.std.specs.Prelude.{◌≡◌, ◌&&◌, Option, Some, option_ma
 ghost use Rattle.std.specs.Prelude.{if◌then◌else◌, ◌==◌, IfOk};
 ghost use Rattle.std.specs.List.{list_any};
 ghost use Rattle.pua_tree.specs.Tree.{Tree, WellFormed, empty_tree, is_dir as lives_as_dir};
+ghost use Rattle.pua_tree.specs.Tree.{look as node_at_name};
 ghost use Rattle.pua_tree.specs.declared.node.Kind.{Kind as AnyKind};
 ghost use Rattle.pua_path.specs.declared.found.Way.{Way};
 ghost use Rattle.pua_path.specs.declared.found.Found.TheVariants.{Whole};
@@ -22,10 +23,10 @@ ghost use Rattle.pua_ever.specs.Ever.{is_new_allowed};
 ghost use Rattle.pua_ever.specs.Ever.{is_named_way, own_spot};
 ghost use Rattle.pua_ever.specs.Ever.{may_link as links_files, can_link as gives_names};
 ghost use Rattle.pua_ever.specs.Ever.{can_move as moves};
-ghost use Rattle.pua_ever.specs.Ever.{named_covers};
+ghost use Rattle.pua_ever.specs.Ever.{is_turned_there, named_covers};
 ghost use Rattle.pua_ever.specs.EverLines.{new_of};
 ghost use Rattle.pua_ever.specs.Laws.{EditsNeedC};
-ghost use Rattle.pua_ever.specs.Prospects.{IsProspects, AreOnFreed, own_given};
+ghost use Rattle.pua_ever.specs.Prospects.{IsProspects, AreOnFreed, IsTurnedSet, own_given};
 ghost use Rattle.pua_ever.specs.Prospects.{kind_allowed, kind_covers};
 
 use crate::destinations::{find_destinations, has_c};
@@ -33,12 +34,14 @@ use crate::made::Made;
 use crate::movable::{Movable, calls_by_object};
 use crate::moving::{can_move, may_any};
 use crate::programs::{on_file, on_new_file};
+use crate::turned::turned_nodes;
 use pua_calls::{Call, CallTable, Calls};
 use pua_objects::{Item, Subject};
 use pua_path::Last;
 use pua_policy::{Cover, Object, Place, Process, judge};
 use pua_tree::{FileTree, Kind, Name, NodeId, OutOfMemory};
 use std::alloc::Global;
+use std::collections::BTreeSet;
 
 /// What decides the calls of the lines of a list for ever, beside an item's own object and cover.
 /// It is of one tree, one process and one table, which are handed in again with each question.
@@ -51,6 +54,8 @@ pub struct Prospects {
     /// The directories in which something stays that has no `c`: no other one with `c` but can be
     /// emptied.
     held: Vec<NodeId>,
+    /// The numbers of the nodes that the process holds open so that it can make programs of them.
+    turned: BTreeSet<u32>,
     /// The calls on what is moved or made.
     movable: Movable,
 }
@@ -68,10 +73,12 @@ pub fn find_prospects<T: FileTree>(
 {
     let found = find_destinations(alloc, tree, process)?;
     let movable = calls_by_object(process, table, &found);
+    let turned = turned_nodes(alloc, process)?;
     Ok(Prospects {
         may_edit: may_edit(process, table),
         may_link: may_link(process, table),
         held: found.held,
+        turned,
         movable,
     })
 }
@@ -107,18 +114,29 @@ fn may_call(process: &Process, table: &CallTable) -> bool
 }
 
 impl Prospects {
-    /// The calls that can ever be allowed on what an item is about.
-    pub fn calls_on(&self, process: &Process, table: &CallTable, item: &Item<'_>) -> Calls
-        ensures { (t : Tree) (about : About) → WellFormed t → EditsNeedC table.now →
-            IsProspects t table.now process.now self.now → SubjectFits t about →
-            IsItemOn t process.now about item.now → (call : AnyCall) → has result call
-            ≡ is_ever_allowed t table.now process.now about call }
+    /// The calls that can ever be allowed on what an item of a tree is about.
+    pub fn calls_on<T: FileTree>(
+        &self,
+        tree: &T,
+        process: &Process,
+        table: &CallTable,
+        item: &Item<'_>,
+    ) -> Calls
+        ensures { (about : About) → WellFormed (T.content tree.now) → EditsNeedC table.now →
+            IsProspects (T.content tree.now) table.now process.now self.now →
+            SubjectFits (T.content tree.now) about →
+            IsItemOn (T.content tree.now) process.now about item.now → (call : AnyCall) →
+            has result call
+            ≡ is_ever_allowed (T.content tree.now) table.now process.now about call }
     {
         match item.subject {
             Subject::Root => self.on_dir(process, table, NodeId::ROOT, false, item),
             Subject::Dir(dir, _, _) => self.on_dir(process, table, dir, true, item),
             Subject::Others(dir) => self.on_others(process, table, dir, &item.cover),
-            Subject::Name(_, _) => self.on_name(process, table, &item.cover, item.object),
+            Subject::Name(dir, name) => {
+                let turned = self.is_turned_at(tree, dir, name);
+                self.on_name(process, table, turned, item)
+            }
         }
     }
 
@@ -158,13 +176,13 @@ impl Prospects {
     }
 
     /// The calls on a name at which no directory stands, by what does.
-    fn on_name(&self, process: &Process, table: &CallTable, cover: &Cover, object: Object) -> Calls
+    fn on_name(&self, process: &Process, table: &CallTable, turned: bool, item: &Item<'_>) -> Calls
         ensures { (t : Tree) (kind : Option AnyKind) → IsProspects t table.now process.now self.now →
-            object ≡ object_seen empty_tree (object_of_kind kind) → (call : AnyCall) →
-            has result call ≡ kind_allowed t table.now process.now cover.now kind call }
+            item.now.object ≡ object_seen empty_tree (object_of_kind kind) → (call : AnyCall) →
+            has result call ≡ kind_allowed t table.now process.now turned item.now.cover kind call }
     {
-        let calls = self.on_plain(process, table, cover, object);
-        if object == Object::Node(Kind::Link) {
+        let calls = self.on_plain(process, table, turned, item);
+        if item.object == Object::Node(Kind::Link) {
             calls.keeping()
         } else {
             calls
@@ -172,31 +190,32 @@ impl Prospects {
     }
 
     /// The same, of a link with the calls on what it leads to.
-    fn on_plain(&self, process: &Process, table: &CallTable, cover: &Cover, object: Object) -> Calls
+    fn on_plain(&self, process: &Process, table: &CallTable, turned: bool, item: &Item<'_>) -> Calls
         ensures { (t : Tree) (kind : Option AnyKind) → IsProspects t table.now process.now self.now →
-            object ≡ object_seen empty_tree (object_of_kind kind) → (call : AnyCall) →
-            has result call ≡ can_allow table.now process.now
-            (kind_covers t table.now process.now cover.now kind) (object_of_kind kind) call }
+            item.now.object ≡ object_seen empty_tree (object_of_kind kind) → (call : AnyCall) →
+            has result call ≡ can_allow table.now process.now turned
+            (kind_covers t table.now process.now item.now.cover kind) (object_of_kind kind) call }
     {
-        if object == Object::Missing {
-            return judge::allowed(process, table, *cover, object);
+        if item.object == Object::Missing {
+            return judge::allowed(process, table, item.cover, item.object);
         }
-        self.on_thing(process, table, cover, object)
+        self.on_thing(process, table, turned, item)
     }
 
     /// The same, of what stands there; of a file with exec, where it can be made a program.
-    fn on_thing(&self, process: &Process, table: &CallTable, cover: &Cover, object: Object) -> Calls
-        ensures { (t : Tree) (kind : AnyKind) → IsProspects t table.now process.now self.now → object
-            ≡ object_seen empty_tree (object_of_kind (Some kind)) → (call : AnyCall) →
-            has result call ≡ can_allow table.now process.now (named_covers t table.now process.now
-            (Some kind) cover.now) (object_of_kind (Some kind)) call }
+    fn on_thing(&self, process: &Process, table: &CallTable, turned: bool, item: &Item<'_>) -> Calls
+        ensures { (t : Tree) (kind : AnyKind) → IsProspects t table.now process.now self.now →
+            item.now.object ≡ object_seen empty_tree (object_of_kind (Some kind)) →
+            (call : AnyCall) → has result call ≡ can_allow table.now process.now turned
+            (named_covers t table.now process.now (Some kind) item.now.cover) (object_of_kind
+            (Some kind)) call }
     {
-        let calls = self.on_seen(process, table, cover, object);
-        if object != Object::Node(Kind::File) {
+        let calls = self.on_seen(process, table, &item.cover, item.object);
+        if item.object != Object::Node(Kind::File) {
             return calls;
         }
-        let as_program = self.on_seen(process, table, cover, Object::Node(Kind::Prog));
-        on_file(calls, as_program)
+        let as_program = self.on_seen(process, table, &item.cover, Object::Node(Kind::Prog));
+        on_file(turned, calls, as_program)
     }
 
     /// The same, of what stays what it is.
@@ -270,6 +289,21 @@ impl Prospects {
             ),
             Made::Link => self.movable.on_node(Kind::Link).keeping(),
         }
+    }
+
+    /// Whether the process holds what stands at a name of a tree open so that it can make a program
+    /// of it.
+    fn is_turned_at<T: FileTree>(&self, tree: &T, dir: NodeId, name: &Name) -> bool
+        ensures { (h : ProcessState) → IsTurnedSet h self.now.turned →
+            result ≡ is_turned_there h (node_at_name (T.content tree.now) dir name.now) }
+    {
+        if self.turned.is_empty() {
+            return false;
+        }
+        let Some(node) = tree.look(dir, name) else {
+            return false;
+        };
+        self.turned.contains(&node.number())
     }
 
     /// Whether a directory, by a name if it has one, can be removed once it is empty, and can come

@@ -19,7 +19,7 @@ use Rattle.pua_script.specs.Replay.{World, apply, world_after}
 use Rattle.pua_script.specs.Family.{family, family_then, none_done, members_alone, is_done, is_member, is_exec, is_okay, with_child, HasKept}
 use Rattle.pua_script.specs.Tightening.{EndsWithin}
 use Rattle.pua_script.specs.declared.request.Action.{Action}
-use Rattle.pua_script.specs.declared.request.Action.TheVariants.{OnPath, Symlink, Rename, Link, Pledge, Unveil, Lock, Fork, Exit, Uses, Comment}
+use Rattle.pua_script.specs.declared.request.Action.TheVariants.{OnPath, Symlink, Rename, Link, Pledge, Unveil, Lock, Fork, Exit, Uses, Hold, Close, Fchdir, Take, Comment}
 use Rattle.pua_script.proofs.ForCallers.{families_narrow, first_tree}
 use Rattle.pua_ever.specs.Laws.{EverComplete, Foresees, ForeseesIn, IsForeseen, IsForeseenIn}
 use Rattle.pua_ever.specs.Through.{EverLasts, ever_lasting}
@@ -86,6 +86,10 @@ module _ (table : CallTable) (process : ℕ) where
   child_more Lock members e = e
   child_more Exit members e = e
   child_more (Uses sets) members e = e
+  child_more (Hold number call path) members e = e
+  child_more (Close number) members e = e
+  child_more (Fchdir number) members e = e
+  child_more (Take number from theirs) members e = e
   child_more Comment members e = e
 
   then_member : (w : World) (ask : Asked) (members : List ℕ) → is_member members process ≡ true →

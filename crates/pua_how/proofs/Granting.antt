@@ -4,6 +4,7 @@ use Rattle.std.specs.List.{AllByRecursion}
 use Rattle.std.specs.Prelude.{◌==◌, ◌&&◌, Result, Ok, Err}
 use Rattle.std.proofs.lemmas.Bool.{and_parts, false≢true}
 use Rattle.std.proofs.lemmas.List.{map-append}
+use Rattle.pua_tree.specs.Tree.{Tree}
 use Rattle.pua_path.specs.declared.errno.Errno.{Errno}
 use Rattle.pua_path.specs.declared.found.Found.{Found}
 use Rattle.pua_calls.specs.Calls.{CallTable, call_number}
@@ -87,6 +88,15 @@ module _ (rules : Rules) (before mid after : WorldState) (process : ℕ) (lines 
     };
   }
 
+-- what was found passes the test, where it is what is asked about, and the call is allowed on it
+pub asked_if : (table : CallTable) (t : Tree) (h : ProcessState) (call : Call) (target : Target) (named : Result Found Errno) (object : Found)
+    (allowed : Bool) → named ≡ Ok object → is_of t h target object ≡ true → allowed ≡ is_allowed (verdict t (tmp_table table) h call object) →
+    allowed ≡ names_asked table t h call target named
+asked_if table t h call target named object allowed found of is =
+    is
+    ∙ ap (λ b. b && is_allowed (verdict t (tmp_table table) h call object)) (sym of)
+    ∙ ap (names_asked table t h call target) (sym found)
+
 -- a request that passes the test is the call
 module _ (s : WorldState) (process : ℕ) (call : Call) (target : Target) where
   allowed_is : (v : Verdict) → is_allowed v ≡ true → v ≡ verdicts.Allowed
@@ -108,15 +118,9 @@ module _ (s : WorldState) (process : ℕ) (call : Call) (target : Target) where
       }
   named_by text h kept (Err errno) named e = absurd (false≢true e)
 
-  -- a path that names what is asked about passes it where the call is allowed on that
-  pub reached_if : (text : List ℕ) (h : ProcessState) (object : Found) (allowed : Bool) → kept_at (world_of s) process ≡ Some h →
-      object_named s.tree h call text ≡ Ok object → is_of s.tree h target object ≡ true →
-      allowed ≡ is_allowed (verdict s.tree (tmp_table s.table) h call object) → allowed ≡ reaches s.table process call target (world_of s) text
-  reached_if text h object allowed kept named of is =
-      is
-      ∙ ap (λ b. b && is_allowed (verdict s.tree (tmp_table s.table) h call object)) (sym of)
-      ∙ ap (names_asked s.table s.tree h call target) (sym named)
-      ∙ ap (is_some_by (λ h. names_asked s.table s.tree h call target (object_named s.tree h call text))) (sym kept)
+  pub reached_at : (text : List ℕ) (h : ProcessState) → kept_at (world_of s) process ≡ Some h →
+      names_asked s.table s.tree h call target (object_named s.tree h call text) ≡ reaches s.table process call target (world_of s) text
+  reached_at text h kept = ap (is_some_by (λ h. names_asked s.table s.tree h call target (object_named s.tree h call text))) (sym kept)
 
   reached_by : (text : List ℕ) → reaches s.table process call target (world_of s) text ≡ true →
       Reaches s.table (world_of s) process call target text

@@ -16,7 +16,7 @@ use Rattle.pua_script.specs.Worlds.{WorldState, apply_to, with_world, world_of}
 use Rattle.pua_script.specs.declared.answer.Answer.{Answer}
 use Rattle.pua_script.specs.declared.answer.Answer.TheVariants as answers
 use Rattle.pua_script.specs.declared.request.Action.{Action}
-use Rattle.pua_script.specs.declared.request.Action.TheVariants.{OnPath, Symlink, Rename, Link, Pledge, Unveil, Lock, Fork, Exit, Uses, Comment}
+use Rattle.pua_script.specs.declared.request.Action.TheVariants.{OnPath, Symlink, Rename, Link, Pledge, Unveil, Lock, Fork, Exit, Uses, Hold, Close, Fchdir, Take, Comment}
 use Rattle.pua_script.proofs.ForCallers.{by_request, by_decision, decisions_are_guarded, put_back}
 use Rattle.pua_how.specs.Ways.{call_of}
 
@@ -78,6 +78,10 @@ look_leaves table w ask call text called looks = by ask.action refl called
     by (Fork new) is same = absurd (None≢Some (call, text) same)
     by Exit is same = absurd (None≢Some (call, text) same)
     by (Uses sets) is same = absurd (None≢Some (call, text) same)
+    by (Hold number other path) is same = absurd (None≢Some (call, text) same)
+    by (Close number) is same = absurd (None≢Some (call, text) same)
+    by (Fchdir number) is same = absurd (None≢Some (call, text) same)
+    by (Take number from theirs) is same = absurd (None≢Some (call, text) same)
     by Comment is same = absurd (None≢Some (call, text) same)
 
 -- the same of a state of a world, in which such a request was answered `ok`

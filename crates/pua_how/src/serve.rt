@@ -2,13 +2,13 @@
 
 ghost use Rattle.std.specs.Prelude.{◌≡◌, ◌++◌, ◌∷◌, [], IfOk, IfSome, is_some, option_map};
 ghost use Rattle.pua_calls.specs.Calls.{effect_of};
-ghost use Rattle.pua_calls.specs.TmpTable.{tmp_table};
 ghost use Rattle.pua_calls.specs.declared.call.Call.{Call as AnyCall};
-ghost use Rattle.pua_path.specs.Fits.{FoundFits, FoundsFit};
+ghost use Rattle.pua_path.specs.Fits.{FoundsFit};
 ghost use Rattle.pua_path.specs.Resolution.{resolution_of_text};
-ghost use Rattle.pua_policy.specs.Verdict.{is_allowed, verdict as object_verdict};
+ghost use Rattle.pua_policy.specs.Verdict.{is_allowed as allows, object_named};
 ghost use Rattle.pua_how.specs.Served.{AreGranted, AreWay};
-ghost use Rattle.pua_how.specs.Steps.{comes, is_some_by, is_the_call, reaches as comes_to};
+ghost use Rattle.pua_how.specs.Steps.{comes, is_some_by, is_the_call, names_asked};
+ghost use Rattle.pua_how.specs.Steps.{reaches as comes_to};
 ghost use Rattle.pua_how.specs.Ways.{call_of as asked_for};
 ghost use Rattle.pua_how.specs.declared.step.Step.{Step as AnyStep};
 ghost use Rattle.pua_how.specs.declared.target.Target.{Target as Thing};
@@ -206,36 +206,45 @@ fn reaches<T: FileTree>(
     let Some(process) = world.process(number) else {
         return false;
     };
-    let mut probe = Counted::new(world.tree());
-    let (from, text) = (process.dir(), path.bytes());
-    match named(&mut probe, from, text, ending(call), call.last()) {
+    judge(
+        world.tree(),
+        world.table(),
+        process,
+        call,
+        target,
+        path.bytes(),
+    )
+}
+
+/// The same in a tree, by what the process keeps: the call is judged by the table by which lists
+/// for ever go.
+fn judge<T: FileTree>(
+    tree: &T,
+    table: &CallTable,
+    process: &Process,
+    call: Call,
+    target: &Target,
+    path: &[u8],
+) -> bool
+    ensures { result ≡ names_asked table.now (T.content tree.now) process.now call target.now
+        (object_named (T.content tree.now) process.now call path.now) }
+{
+    let mut probe = Counted::new(tree);
+    let wide = table.with_tmppath();
+    match named(&mut probe, process.dir(), path, ending(call), call.last()) {
         Ok(found) => {
-            target.is(world.tree(), process, &found)
-                && allows(&mut probe, process, world.table(), call, &found)
+            target.is(tree, process, &found)
+                && is_allowed(verdict(&mut probe, process, &wide, call, &found))
         }
         Err(_errno) => false,
     }
 }
 
-/// Whether a call is allowed to a process on what was found, by the table by which lists for ever
-/// go.
-fn allows<T: FileTree>(
-    probe: &mut Counted<'_, T>,
-    process: &Process,
-    table: &CallTable,
-    call: Call,
-    found: &Found,
-) -> bool
-    requires { FoundFits probe.old.tree found.now }
-    ensures { result
-        ≡ is_allowed (object_verdict probe.old.tree (tmp_table table.now) process.now call
-        found.now) }
+/// Whether a verdict is that the call is allowed.
+fn is_allowed(verdict: Verdict) -> bool
+    ensures { result ≡ allows verdict }
 {
-    let wide = table.with_tmppath();
-    matches!(
-        verdict(probe, process, &wide, call, found),
-        Verdict::Allowed
-    )
+    matches!(verdict, Verdict::Allowed)
 }
 
 /// What a path names from a directory.

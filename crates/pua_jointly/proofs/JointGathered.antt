@@ -3,6 +3,7 @@ use Rattle.pua_jointly.proofs.Common.{◌≡◌, ◌<◌, ◌≤◌, ◌⊎◌, 
 use Rattle.pua_jointly.proofs.Common.{inl, inr, arith, Option, Some, None, same_Some, None≢Some, Among, among_contained, among_left, among_map, among_right}
 use Rattle.pua_jointly.proofs.Common.{contained, map_among, list_any, take, Place, Spot, Tree, false≢true, eqb-true, eq-eqb, and_from, and_parts}
 use Rattle.pua_jointly.proofs.Common.{same_place, same_place_is, WellFormed, zero, is_some, kind_at, look, option_map, row_says, sound_from}
+use Rattle.std.proofs.Common.{cond}
 use Rattle.pua_tree.specs.Tree.{Node, node_at}
 use Rattle.std.specs.Prelude.{get_or, slice_get, slice_index_or, ◌+◌, IsTrue}
 use Rattle.std.specs.Borrow.{Bor}
@@ -15,7 +16,10 @@ use Rattle.pua_policy.proofs.ForCallers.{same_place_refl}
 use Rattle.pua_tree.specs.LentRows.{lent_entry}
 use Rattle.pua_tree.specs.declared.tree.LentRow.{LentRow}
 use Rattle.pua_jointly.specs.JointFound.{AreMarked}
-use Rattle.pua_jointly.specs.JointMembers.{same_veil, veil_now}
+use Rattle.pua_jointly.specs.JointMembers.{file_now, kind_number, same_file, same_veil, veil_now}
+use Rattle.pua_policy.specs.declared.open_file.OpenFile.{OpenFile}
+use Rattle.pua_tree.specs.declared.node.Kind.{Kind}
+use Rattle.pua_tree.specs.declared.node.Kind.TheVariants as kind
 use Rattle.pua_jointly.specs.JointPlace.{Once}
 use Rattle.pua_jointly.specs.JointSetting.{AreMarksOf, AreWatched, IsMarkOf, is_watched, mark_spot, row_number, veil_number}
 use Rattle.pua_ever.specs.Laws.{dir_of_place}
@@ -69,6 +73,35 @@ veil_same a b e =
 pub same_veils : (a b : Place × ℕ) → a ≡ b → same_veil a b ≡ true
 same_veils a b e =
     subst (λ x. same_veil a x ≡ true) e (and_from (same_place a.0 a.0) _ (same_place_refl a.0) (eq-eqb a.1 a.1 refl))
+
+-- open files that are the same
+kind_from : ℕ → Kind
+kind_from n = cond (n == 0) kind.Dir (cond (n == 1) kind.File (cond (n == 2) kind.Prog kind.Link))
+
+kind_back : (a : Kind) → kind_from (kind_number a) ≡ a
+unfolding kind_from
+kind_back kind.Dir = refl
+kind_back kind.File = refl
+kind_back kind.Prog = refl
+kind_back kind.Link = refl
+
+pub file_same : (a b : ℕ × OpenFile) → same_file a b ≡ true → a ≡ b
+file_same a b e =
+    let one = and_parts (a.0 == b.0) _ e in
+    let two = and_parts (a.1.node == b.1.node) _ one.1 in
+    let three = and_parts (kind_number a.1.kind == kind_number b.1.kind) _ two.1 in
+    let number = eqb-true a.0 b.0 one.0 in
+    let node = eqb-true a.1.node b.1.node two.0 in
+    let kinds = sym (kind_back a.1.kind) ∙ ap kind_from (eqb-true (kind_number a.1.kind) (kind_number b.1.kind) three.0) ∙ kind_back b.1.kind in
+    let letters = eqb-true a.1.letters b.1.letters three.1 in
+    λ z. (number z, record { node = node z; kind = kinds z; letters = letters z })
+
+pub same_files : (a b : ℕ × OpenFile) → a ≡ b → same_file a b ≡ true
+same_files a b e =
+    subst (λ x. same_file a x ≡ true) e
+    (and_from (a.0 == a.0) _ (eq-eqb a.0 a.0 refl) (and_from (a.1.node == a.1.node) _ (eq-eqb a.1.node a.1.node refl)
+    (and_from (kind_number a.1.kind == kind_number a.1.kind) _ (eq-eqb (kind_number a.1.kind) (kind_number a.1.kind) refl)
+    (eq-eqb a.1.letters a.1.letters refl))))
 
 -- the names with veils
 module _ (t : Tree) (entries : List Entry) (veils : List (Place × ℕ)) (marks : List Mark) (so_far : AreMarksOf t entries veils marks)
@@ -160,6 +193,10 @@ at_among (y ∷ xs) (suc i) x low is = inr (at_among xs i x (omega (arith, low))
 pub veils_step : (veils : List (Bor Place × Bor ℕ)) (i : ℕ) (veil : Bor Place × Bor ℕ) → i < length veils → veil ≡ slice_index_or veils i veil →
     map veil_now (take (i + 1) veils) ≡ map veil_now (take i veils) ++ veil_now veil ∷ []
 veils_step veils i veil low is = ap (map veil_now) (taken_more veils i veil low is) ∙ map-append veil_now (take i veils) (veil ∷ [])
+
+pub files_step : (files : List (Bor ℕ × Bor OpenFile)) (i : ℕ) (file : Bor ℕ × Bor OpenFile) → i < length files → file ≡ slice_index_or files i file →
+    map file_now (take (i + 1) files) ≡ map file_now (take i files) ++ file_now file ∷ []
+files_step files i file low is = ap (map file_now) (taken_more files i file low is) ∙ map-append file_now (take i files) (file ∷ [])
 
 -- rows that are lent
 pub spots_lent : (rows : List LentRow) → map (λ (row : LentRow). (row.dir, row.name.now)) rows ≡ map (λ (row : Spot × ℕ). row.0) (map lent_entry rows)

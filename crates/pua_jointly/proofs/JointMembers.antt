@@ -159,8 +159,8 @@ bool_same : (x : Bool) → beq x x ≡ true
 bool_same true = refl
 bool_same false = refl
 
-pub state_same : (a b : ProcessState) → has_same_state a b ≡ true → a.veils ≡ b.veils → a ≡ b
-state_same a b e veils_too =
+pub state_same : (a b : ProcessState) → has_same_state a b ≡ true → a.files ≡ b.files → a.veils ≡ b.veils → a ≡ b
+state_same a b e files_too veils_too =
     let one = both_same _ _ _ e in
     let two = and_parts (beq a.locked b.locked) _ one.2 in
     let three = and_parts (a.dir == b.dir) _ two.1 in
@@ -176,6 +176,7 @@ state_same a b e veils_too =
       locked = locked z;
       dir = dir z;
       ended = ended z;
+      files = files_too z;
     }
 
 pub same_state : (a b : ProcessState) → a ≡ b → has_same_state a b ≡ true
@@ -186,8 +187,11 @@ same_state a b e =
     (and_from (beq a.locked a.locked) _ (bool_same a.locked)
     (and_from (a.dir == a.dir) _ (eq-eqb a.dir a.dir refl) (bool_same a.ended)))))
 
-pub equal_by : (a b : ProcessState) (r : Bool) → has_same_state a b ≡ true → Decides r (a.veils ≡ b.veils) → Decides r (a ≡ b)
-equal_by a b r same d = (λ e. state_same a b same (d.0 e), λ e. d.1 (ap (λ (p : ProcessState). p.veils) e))
+pub equal_by : (a b : ProcessState) (r : Bool) → has_same_state a b ≡ true → a.files ≡ b.files → Decides r (a.veils ≡ b.veils) → Decides r (a ≡ b)
+equal_by a b r same files d = (λ e. state_same a b same files (d.0 e), λ e. d.1 (ap (λ (p : ProcessState). p.veils) e))
+
+pub other_files : (a b : ProcessState) → Decides false (a.files ≡ b.files) → Decides false (a ≡ b)
+other_files a b d = (λ e. absurd (false≢true e), λ e. d.1 (ap (λ (p : ProcessState). p.files) e))
 
 pub unequal_by : (a b : ProcessState) → has_same_state a b ≡ false → Decides false (a ≡ b)
 unequal_by a b other = (λ e. absurd (false≢true e), λ e. absurd (false≢true (sym other ∙ same_state a b e)))

@@ -1,5 +1,5 @@
 -- The covers of a name that the code finds are those that can come over it.
-use Rattle.pua_jointly.proofs.Common.{◌≡◌, ◌<◌, ◌∙◌, ◌==◌, ℕ, Bool, true, List, length, refl, sym, ap, subst}
+use Rattle.pua_jointly.proofs.Common.{◌≡◌, ◌<◌, ◌∙◌, ◌==◌, ℕ, Bool, true, false, false≢true, List, length, refl, sym, ap, subst, veils, Place}
 use Rattle.pua_jointly.proofs.Common.{Option, Some, None, ProcessState, Spot, Cover, Only, Tree, CallTable, is_dir, perms_kept}
 use Rattle.std.specs.Prelude.{slice_get, ◌+◌, ◌*◌, IsTrue}
 use Rattle.std.specs.List.{Contains}
@@ -11,12 +11,35 @@ use Rattle.pua_jointly.specs.Jointly.{Old}
 use Rattle.pua_jointly.specs.JointFacts.{Kept, Covers, IsOver, over_own, over_within}
 use Rattle.pua_jointly.specs.JointTable.{IsTold, entities, columns, table_says, TableFits}
 use Rattle.pua_jointly.specs.JointPlace.{Once, cover_bit}
-use Rattle.pua_jointly.specs.JointWords.{word_at, meets, AreCovers}
-use Rattle.pua_jointly.specs.JointOld.{over_word, own_or_word}
+use Rattle.pua_jointly.specs.JointWords.{word_at, covers_in, has_named, is_name, meets, AreCovers}
+use Rattle.pua_jointly.specs.JointOld.{asked_word, over_word, own_or_word}
+use Rattle.pua_ever.proofs.ForCallers.{any_among}
 use Rattle.pua_jointly.proofs.JointOlds.{alone_is, alone_has}
+use Rattle.pua_jointly.proofs.JointWatched.{kept_among}
 use Rattle.pua_jointly.proofs.JointPlaced.{over_small}
 use Rattle.pua_jointly.proofs.JointRead.{old_at, covers_said, is_told, told_is}
 use Rattle.pua_jointly.proofs.JointWords.{masked, small_of, cover_of, meets_some, meets_by}
+
+-- who has no veil at any name keeps none at this one
+no_name : (h : ProcessState) → has_named h ≡ false → (dir : ℕ) (name : List ℕ) → perms_kept h (place.Slot dir name) ≡ None
+no_name h none dir name = by (perms_kept h (place.Slot dir name)) refl
+  where
+    by : (o : Option ℕ) → perms_kept h (place.Slot dir name) ≡ o → perms_kept h (place.Slot dir name) ≡ None
+    by None e = e
+    by (Some perms) e =
+        absurd (false≢true (sym none ∙ any_among (λ (veil : Place × ℕ). is_name veil.0) (veils h) (place.Slot dir name, perms)
+        (kept_among (veils h) (place.Slot dir name) perms e) refl))
+
+pub no_name_kept : (h : ProcessState) (named : Bool) → named ≡ has_named h → named ≡ false → (dir : ℕ) (name : List ℕ) →
+    perms_kept h (place.Slot dir name) ≡ None
+no_name_kept h named is none = no_name h (sym is ∙ none)
+
+-- so it need not be asked
+pub asked_same : (h : ProcessState) (named : Bool) → named ≡ has_named h → (told : List ℕ) (columns dir : ℕ) (name : List ℕ) (of : ℕ) →
+    asked_word named h told columns dir name of ≡ over_word h told columns dir name of
+asked_same h true is told columns dir name of = refl
+asked_same h false is told columns dir name of =
+    ap (λ o. own_or_word o (covers_in (word_at told columns dir of))) (sym (no_name h (sym is) dir name))
 
 module _ (t : Tree) (table : CallTable) (crew : List ProcessState) (watched : ℕ → Bool) (dirs : ℕ) (spots : List Spot)
     (guarded : List ℕ) (fits : TableFits t crew watched dirs spots guarded) (each_agent : Once crew) (each_name : Once spots)

@@ -35,8 +35,9 @@ use Rattle.pua_jointly.proofs.Once.{mapped}
 use Rattle.pua_jointly.specs.JointPlace.{Once, cover_bit, new_bit}
 use Rattle.pua_jointly.specs.JointWords.{word_at, meets, moves_at, with_c, AreCovers, IsAgent, AreAgents, making, carrying, some_meets}
 use Rattle.pua_jointly.specs.JointWords.{dropped_word, landing_word, moved_word, apart_word, made_word, born_at, covers_in}
-use Rattle.pua_jointly.specs.JointOld.{over_word, above_word, old_word}
+use Rattle.pua_jointly.specs.JointOld.{asked_word, over_word, above_word, old_word}
 use Rattle.pua_jointly.specs.JointRounds as code
+use Rattle.pua_jointly.specs.JointSetting.{AreColumns}
 use Rattle.pua_jointly.specs.JointSetup.{name_row, AreEntries, IsEntry, AreMarks, IsMark, IsRowOf, AreWatches, IsWatch}
 use Rattle.pua_jointly.specs.declared.crew.Agent.{Agent}
 use Rattle.pua_jointly.specs.declared.crew.Crew.{Crew}
@@ -52,9 +53,9 @@ use Rattle.pua_jointly.proofs.Jointly.{row_kind}
 use Rattle.pua_jointly.proofs.JointWords as words
 use Rattle.pua_jointly.proofs.JointWords.{Family, either_true, small_of}
 use Rattle.pua_jointly.proofs.JointFound.{made_other, seat_number}
-use Rattle.pua_jointly.proofs.JointOlds.{if_some, Come, come_plain, come_apart, above_means, above_has, old_means, old_has}
+use Rattle.pua_jointly.proofs.JointOlds.{if_some, no_bit, Come, come_plain, come_apart, above_means, above_has, old_means, old_has}
 use Rattle.pua_tree.proofs.ForCallers.{above_is}
-use Rattle.pua_jointly.proofs.JointNames.{some_over_means, some_over_has, over_means, over_has}
+use Rattle.pua_jointly.proofs.JointNames.{asked_same, some_over_means, some_over_has, over_means, over_has}
 use Rattle.pua_ever.proofs.ForCallers.{any_among, any_found}
 
 -- tests that fail
@@ -104,6 +105,19 @@ abbrev maker_of : ProcessState → Seat → ProcessState
 maker_of m (Old d) = m
 maker_of m (Made h) = h
 
+-- what one list doesn't have, a list without other places doesn't have either
+none_there : {X Y : Type 0} (xs : List X) (ys : List Y) (i : ℕ) →
+    ((y : Y) → slice_get ys i ≡ Some y → (x : X) × (slice_get xs i ≡ Some x)) → slice_get xs i ≡ None → slice_get ys i ≡ None
+none_there {Y = Y} xs ys i has none = by (slice_get ys i) refl
+  where
+    by : (o : Option Y) → slice_get ys i ≡ o → slice_get ys i ≡ None
+    by None e = e
+    by (Some y) e = let x = has y e in absurd (None≢Some x.0 (sym none ∙ x.1))
+
+none_mapped : {X Y : Type 0} (f : X → Y) (o : Option X) → option_map f o ≡ None → o ≡ None
+none_mapped f None e = refl
+none_mapped f (Some x) e = absurd (None≢Some (f x) (sym e))
+
 module _ (t : Tree) (well : WellFormed t) (table : CallTable) (crew : List ProcessState) (watched : ℕ → Bool) (dirs : ℕ)
     (spots : List Spot) (guarded : List ℕ) (fits : TableFits t crew watched dirs spots guarded) (each_agent : Once crew)
     (each_name : Once spots) (each_watched : Once guarded) (told : List ℕ) where
@@ -151,7 +165,8 @@ module _ (t : Tree) (well : WellFormed t) (table : CallTable) (crew : List Proce
   module _ (c₀ : Crew) (are : AreAgents table crew dirs c₀.agents.items) (seats_are : c₀.seats.items ≡ numbers (dirs + length crew))
       (entries : AreEntries t dirs (length crew) spots c₀.entries.items) (marks : AreMarks t crew dirs spots c₀.marks.items)
       (guards : AreWatches dirs (length crew) guarded c₀.watches.items)
-      (only_watched : (y : ℕ) → Contains guarded y → IsTrue (watched y)) where
+      (only_watched : (y : ℕ) → Contains guarded y → IsTrue (watched y))
+      (columns_are : AreColumns c₀.watches.items c₀.watch_columns.items) where
     abbrev pub c : Crew
     c = record c₀ { shape = record { agents = n; last = c₀.shape.last }; columns = many; makers = dirs + (n + (n + (n + 0))) }
 
@@ -198,18 +213,20 @@ module _ (t : Tree) (well : WellFormed t) (table : CallTable) (crew : List Proce
       among = contained crew a (got_among crew i a by)
 
       over_same : (dir : ℕ) (name : List ℕ) →
-          over_word agent.process.now told many dir name agent.place ≡ over_word a told many dir name i
-      over_same dir name = λ z. over_word (is.process z) told many dir name (is.place z)
+          asked_word agent.named agent.process.now told many dir name agent.place ≡ over_word a told many dir name i
+      over_same dir name =
+          (λ z. asked_word agent.named (is.process z) told many dir name (is.place z))
+          ∙ asked_same a agent.named is.named told many dir name i
 
       -- some cover of a name is one of which a test holds
       covered_means : (mask : ℕ) (test : Cover → Bool) → AreCovers mask test → (dir : ℕ) (name : List ℕ) → dir < dirs → IsTrue (is_dir t dir) →
-          meets (over_word agent.process.now told many dir name agent.place) mask ≡ true → (k : Cover) × Over a dir name k × IsTrue (test k)
+          meets (asked_word agent.named agent.process.now told many dir name agent.place) mask ≡ true → (k : Cover) × Over a dir name k × IsTrue (test k)
       covered_means mask test covers dir name low stands e =
           some_over_means t table crew watched dirs spots guarded fits each_agent each_name each_watched told dir name low stands i a among by
           mask test covers (sym (ap (λ w. meets w mask) (over_same dir name)) ∙ e)
 
       covered_has : (mask : ℕ) (test : Cover → Bool) → AreCovers mask test → (dir : ℕ) (name : List ℕ) → dir < dirs → IsTrue (is_dir t dir) →
-          (k : Cover) → Over a dir name k → IsTrue (test k) → meets (over_word agent.process.now told many dir name agent.place) mask ≡ true
+          (k : Cover) → Over a dir name k → IsTrue (test k) → meets (asked_word agent.named agent.process.now told many dir name agent.place) mask ≡ true
       covered_has mask test covers dir name low stands k over passes =
           ap (λ w. meets w mask) (over_same dir name)
           ∙ some_over_has t table crew watched dirs spots guarded fits each_agent each_name each_watched told dir name low stands i a among by
@@ -651,9 +668,9 @@ module _ (t : Tree) (well : WellFormed t) (table : CallTable) (crew : List Proce
         stands_low : (s.0 < dirs) × IsTrue (is_dir t s.0)
         stands_low = (fits.above s.0 s.1 entry.node is_entry.at, (row_says t (sound_from t well) s entry.node is_entry.at).0)
 
-        word_same : over_word agent.process.now told many entry.dir entry.name.now agent.place
-            ≡ over_word agent.process.now told many s.0 s.1 agent.place
-        word_same = λ z. over_word agent.process.now told many (is_entry.dir z) (is_entry.name z) agent.place
+        word_same : asked_word agent.named agent.process.now told many entry.dir entry.name.now agent.place
+            ≡ asked_word agent.named agent.process.now told many s.0 s.1 agent.place
+        word_same = λ z. asked_word agent.named agent.process.now told many (is_entry.dir z) (is_entry.name z) agent.place
 
         is_kind : is_dir_kind (Some entry.kind) ≡ is_dir t entry.node
         is_kind = ap is_dir_kind (sym is_entry.kind)
@@ -806,11 +823,11 @@ module _ (t : Tree) (well : WellFormed t) (table : CallTable) (crew : List Proce
       abbrev covers_by : Agent → Bool → ℕ
       covers_by agent is_folder =
           if is_folder then word_at told many entry.node agent.place
-          else over_word agent.process.now told many entry.dir entry.name.now agent.place
+          else asked_word agent.named agent.process.now told many entry.dir entry.name.now agent.place
 
-      word_is : (agent : Agent) → over_word agent.process.now told many entry.dir entry.name.now agent.place
-          ≡ over_word agent.process.now told many s.0 s.1 agent.place
-      word_is agent = λ z. over_word agent.process.now told many (is_entry.dir z) (is_entry.name z) agent.place
+      word_is : (agent : Agent) → asked_word agent.named agent.process.now told many entry.dir entry.name.now agent.place
+          ≡ asked_word agent.named agent.process.now told many s.0 s.1 agent.place
+      word_is agent = λ z. asked_word agent.named agent.process.now told many (is_entry.dir z) (is_entry.name z) agent.place
 
       take_means : (i : ℕ) (a : ProcessState) (agent : Agent) → slice_get crew i ≡ Some a → IsAgent table dirs (length crew) i a agent →
           agent.may_take ≡ true → (folder : Bool) → is_dir t entry.node ≡ folder → meets (covers_by agent folder) with_c ≡ true →
@@ -857,30 +874,43 @@ module _ (t : Tree) (well : WellFormed t) (table : CallTable) (crew : List Proce
       abbrev Comes : Type 0
       Comes = Come t well table crew watched dirs spots guarded fits each_agent each_name each_watched told j bit F L fam d
 
-      abbrev apart_from : ℕ
-      apart_from = fold (λ word watch. bit_or word (code.apart_if c told d j watch)) 0 c₀.watches.items
+      abbrev own_column : Option ℕ
+      own_column = get_or c₀.watch_columns.items d None
 
       abbrev moved_from : ℕ
       moved_from = moved_word told many c₀.agents.items d j
 
-      abbrev is_apart : Watch → Bool
-      is_apart watch = code.has_one (code.apart_if c told d j watch) bit
+      abbrev apart_from : ℕ → ℕ
+      apart_from column = apart_word told many c₀.agents.items c₀.seats.items d column j
 
-      watch_says : (w : Watch) → Among c₀.watches.items w → (w.dir == d) ≡ true → (g : Guard w) × (g.dir ≡ d)
-      watch_says w in_watches same = let g = guard_of w in_watches in (g, sym g.is.dir ∙ eqb-true w.dir d same)
-
-      apart_same : (w : Watch) (g : Guard w) → apart_word told many c₀.agents.items c₀.seats.items d w.column j
+      apart_same : (w : Watch) (g : Guard w) → apart_from w.column
           ≡ apart_word told many c₀.agents.items (numbers (dirs + n)) d (n + suc g.at) j
       apart_same w g = λ z. apart_word told many c₀.agents.items (seats_are z) d (g.is.column z) j
 
-      apart_means : has_bit apart_from bit → Comes
-      apart_means held =
-          let w = any_found is_apart c₀.watches.items (sym (words.has_some (code.apart_if c told d j) c₀.watches.items bit) ∙ held) in
-          let both = words.if_has (w.0.dir == d) (apart_word told many c₀.agents.items c₀.seats.items d w.0.column j) bit w.2 in
-          let g = watch_says w.0 w.1 both.0 in
+      record Column_of (column : ℕ) : Type 0 where
+        watch : Watch
+        guard : Guard watch
+        here : guard.dir ≡ d
+        same : watch.column ≡ column
+
+      column_of_one : (column : ℕ) → own_column ≡ Some column → Column_of column
+      column_of_one column e =
+          let w = columns_are.each d column e in
+          let g = guard_of w.0 (among_contained c₀.watches.items w.0 w.1) in
+          record { watch = w.0; guard = g; here = sym g.is.dir ∙ w.2; same = w.3 }
+
+      column_there : (g : Guarded d) → own_column ≡ Some g.watch.column
+      column_there g =
+          ap (λ x. get_or c₀.watch_columns.items x None) (sym (g.guard.is.dir ∙ g.here))
+          ∙ columns_are.all g.watch (contained c₀.watches.items g.watch g.in_watches)
+
+      apart_means : (column : ℕ) → own_column ≡ Some column → has_bit (apart_from column) bit → Comes
+      apart_means column e held =
+          let w = column_of_one column e in
           let m = words.apart_means t table crew watched dirs spots guarded fits each_agent each_name each_watched told j bit F L fam
-          c₀.agents.items are d g.0.at low (g.0.got ∙ ap Some g.1) (ap (λ x. code.has_one x bit) (sym (apart_same w.0 g.0)) ∙ both.1) in
-          come_apart (subst (λ x. IsTrue (watched x)) g.1 g.0.watched_so) m.0 m.2 m.1 m.3 m.4 m.5
+          c₀.agents.items are d w.guard.at low (w.guard.got ∙ ap Some w.here)
+          (ap (λ x. code.has_one x bit) (sym (apart_same w.watch w.guard)) ∙ ap (λ x. code.has_one (apart_from x) bit) w.same ∙ held) in
+          come_apart (subst (λ x. IsTrue (watched x)) w.here w.guard.watched_so) m.0 m.2 m.1 m.3 m.4 m.5
 
       moved_means : IsFalse (watched d) → has_bit moved_from bit → Comes
       moved_means plain held =
@@ -888,47 +918,42 @@ module _ (t : Tree) (well : WellFormed t) (table : CallTable) (crew : List Proce
           c₀.agents.items are d (Old d) (old_at low) held in
           come_plain plain m.0 m.1 m.2
 
-      plain_by : list_any (code.is_watch_of d) c₀.watches.items ≡ false → IsFalse (watched d)
+      plain_by : own_column ≡ None → IsFalse (watched d)
       plain_by none = by (watched d) refl
         where
           by : (b : Bool) → watched d ≡ b → watched d ≡ false
           by false e = e
           by true e =
               let g = guarded_at d (among_contained guarded d (fits.watches d e)) in
-              absurd (false≢true (sym none ∙ any_among (code.is_watch_of d) c₀.watches.items g.watch g.in_watches
-              (eq-eqb g.watch.dir d (g.guard.is.dir ∙ g.here))))
+              absurd (None≢Some g.watch.column (sym none ∙ column_there g))
+
+      none_by_plain : IsFalse (watched d) → own_column ≡ None
+      none_by_plain plain = by own_column refl
+        where
+          by : (o : Option ℕ) → own_column ≡ o → own_column ≡ None
+          by None e = e
+          by (Some column) e =
+              let w = column_of_one column e in
+              absurd (false≢true (sym plain ∙ subst (λ x. IsTrue (watched x)) w.here w.guard.watched_so))
 
       come_means : has_bit (code.come_word c told d j) bit → Comes
-      come_means held = by (list_any (code.is_watch_of d) c₀.watches.items) refl held
+      come_means held = by own_column refl held
         where
-          by : (b : Bool) → list_any (code.is_watch_of d) c₀.watches.items ≡ b → has_bit (if b then apart_from else moved_from) bit → Comes
-          by true e held = apart_means held
-          by false e held = moved_means (plain_by e) held
+          by : (o : Option ℕ) → own_column ≡ o → has_bit (code.come_by c told d j o) bit → Comes
+          by (Some column) e held = apart_means column e held
+          by None e held = moved_means (plain_by e) held
 
       come_has : Comes → has_bit (code.come_word c told d j) bit
       come_has (come_plain plain b m lands) =
-          let none : list_any (code.is_watch_of d) c₀.watches.items ≡ false = by (list_any (code.is_watch_of d) c₀.watches.items) refl in
-          ap (λ b. code.has_one (if b then apart_from else moved_from) bit) none
+          ap (λ o. code.has_one (code.come_by c told d j o) bit) (none_by_plain plain)
           ∙ words.moved_has t table crew watched dirs spots guarded fits each_agent each_name each_watched told j bit F L fam
           c₀.agents.items are d (Old d) (old_at low) b m lands
-        where
-          by : (b : Bool) → list_any (code.is_watch_of d) c₀.watches.items ≡ b → list_any (code.is_watch_of d) c₀.watches.items ≡ false
-          by false e = e
-          by true e =
-              let w = any_found (code.is_watch_of d) c₀.watches.items e in
-              let g = watch_says w.0 w.1 w.2 in
-              absurd (false≢true (sym plain ∙ subst (λ x. IsTrue (watched x)) g.1 g.0.watched_so))
       come_has (come_apart is b p m enters clear of) =
           let g = guarded_at d (among_contained guarded d (fits.watches d is)) in
-          let here : (g.watch.dir == d) ≡ true = eq-eqb g.watch.dir d (g.guard.is.dir ∙ g.here) in
-          ap (λ b. code.has_one (if b then apart_from else moved_from) bit)
-          (any_among (code.is_watch_of d) c₀.watches.items g.watch g.in_watches here)
-          ∙ words.has_some (code.apart_if c told d j) c₀.watches.items bit
-          ∙ any_among is_apart c₀.watches.items g.watch g.in_watches
-          (words.if_both (g.watch.dir == d) (apart_word told many c₀.agents.items c₀.seats.items d g.watch.column j) bit here
-          (ap (λ x. code.has_one x bit) (apart_same g.watch g.guard)
+          ap (λ o. code.has_one (code.come_by c told d j o) bit) (column_there g)
+          ∙ ap (λ x. code.has_one x bit) (apart_same g.watch g.guard)
           ∙ words.apart_has t table crew watched dirs spots guarded fits each_agent each_name each_watched told j bit F L fam
-          c₀.agents.items are d g.guard.at low (g.guard.got ∙ ap Some g.here) b m p enters clear of))
+          c₀.agents.items are d g.guard.at low (g.guard.got ∙ ap Some g.here) b m p enters clear of
 
     -- the one bit of a watched directory's column
     module _ (w : Watch) (g : Guard w) where
@@ -955,8 +980,16 @@ module _ (t : Tree) (well : WellFormed t) (table : CallTable) (crew : List Proce
         abbrev come : ℕ
         come = code.come_word c told d w_column
 
-        column_same : bit_or (above_word t told many d w.column) (code.come_word c told d w.column) ≡ bit_or up come
-        column_same = λ z. bit_or (above_word t told many d (g.is.column z)) (code.come_word c told d (g.is.column z))
+        -- asked at once, or by the whole word
+        clear_same : (o : Option ℕ) → code.comes_clear_by c told d w_column o ≡ code.has_one (code.come_by c told d w_column o) 0
+        clear_same None = refl
+        clear_same (Some column) = words.apart_clear told many c₀.seats.items d column w_column c₀.agents.items
+
+        column_same : (code.has_one (above_word t told many d w.column) 0 || code.comes_clear c told d w.column)
+            ≡ (code.has_one up 0 || code.has_one come 0)
+        column_same =
+            (λ z. code.has_one (above_word t told many d (g.is.column z)) 0 || code.comes_clear c told d (g.is.column z))
+            ∙ ap (λ b. code.has_one up 0 || b) (clear_same (get_or c₀.watch_columns.items d None))
 
         clear_dir_means : code.clears_dir t c told d w ≡ true → Now (Clear w_dir (Old d))
         clear_dir_means e =
@@ -967,8 +1000,7 @@ module _ (t : Tree) (well : WellFormed t) (table : CallTable) (crew : List Proce
                   (let here : d ≡ 0 = eqb-true d 0 root in
                   subst (λ x. Now (Clear w_dir (Old x))) (sym here) (clear_root g.watched_so (λ same. other (here ∙ sym same))))
               | inr over ↦
-                  elim (either_true (code.has_one up 0) (code.has_one come 0)
-                  (sym (has_or up come 0) ∙ ap (λ x. code.has_one x 0) (sym column_same) ∙ over)) [
+                  elim (either_true (code.has_one up 0) (code.has_one come 0) (sym column_same ∙ over)) [
                     | inl above ↦
                         (let a = above_means t well table crew watched dirs spots guarded fits each_agent each_name each_watched told w_column 0
                         (λ p. Clear w_dir p) (λ b. LandsClear b w_dir) fam d above in
@@ -977,17 +1009,17 @@ module _ (t : Tree) (well : WellFormed t) (table : CallTable) (crew : List Proce
                   ]
             ]
 
-        clears : d ≢ w_dir → ((d == 0) || code.has_one (bit_or up come) 0) ≡ true → code.clears_dir t c told d w ≡ true
+        clears : d ≢ w_dir → ((d == 0) || (code.has_one up 0 || code.has_one come 0)) ≡ true → code.clears_dir t c told d w ≡ true
         clears other e =
             and_from (not (d == w.dir)) _ (eq_not d w.dir (λ same. other (same ∙ g.is.dir)))
-            (ap (λ x. (d == 0) || code.has_one x 0) column_same ∙ e)
+            (ap (λ b. (d == 0) || b) column_same ∙ e)
 
         come_clears : d ≢ w_dir →
             Come t well table crew watched dirs spots guarded fits each_agent each_name each_watched told w_column 0 (λ p. Clear w_dir p)
             (λ b. LandsClear b w_dir) fam d → code.clears_dir t c told d w ≡ true
         come_clears other comes =
-            clears other (or_right (d == 0) _ (has_or up come 0
-            ∙ or_right (code.has_one up 0) (code.has_one come 0) (come_has w_column 0 (λ p. Clear w_dir p) (λ b. LandsClear b w_dir) fam d low comes)))
+            clears other (or_right (d == 0) _
+            (or_right (code.has_one up 0) (code.has_one come 0) (come_has w_column 0 (λ p. Clear w_dir p) (λ b. LandsClear b w_dir) fam d low comes)))
 
         clear_rule : (s : Seat) → s ≡ Old d → Now (Clear w_dir s) → code.clears_dir t c told d w ≡ true
         clear_rule s e (clear_root is other) =
@@ -995,8 +1027,8 @@ module _ (t : Tree) (well : WellFormed t) (table : CallTable) (crew : List Proce
             clears (λ same. other (sym same ∙ sym here)) (or_left (d == 0) _ (eq-eqb d 0 (sym here)))
         clear_rule s e (clear_within {dir = dir} name is other at lives clear) =
             let here = ap seat_number e in
-            clears (λ same. other (e ∙ ap Old same)) (or_right (d == 0) _ (has_or up come 0
-            ∙ or_left (code.has_one up 0) (code.has_one come 0)
+            clears (λ same. other (e ∙ ap Old same)) (or_right (d == 0) _
+            (or_left (code.has_one up 0) (code.has_one come 0)
             (above_has t well table crew watched dirs spots guarded fits each_agent each_name each_watched told w_column 0 (λ p. Clear w_dir p)
             (λ b. LandsClear b w_dir) fam d
             (record { dir = dir; name = name; at = at ∙ ap Some here; lives = ap (is_dir t) (sym here) ∙ lives; has = clear }))))
@@ -1444,6 +1476,65 @@ module _ (t : Tree) (well : WellFormed t) (table : CallTable) (crew : List Proce
           subst (λ x. Says e x (code.common_word c told about)) (same_Some Common col same) (common_says about of)
       part_says about (columns_of.Watched j) col of same = by_watch j (slice_get guarded j) col refl same about of
 
+    -- a row and a column that the table doesn't have have no facts
+    no_agent_there : (j : ℕ) → slice_get crew j ≡ None → slice_get c₀.agents.items j ≡ None
+    no_agent_there j = none_there crew c₀.agents.items j (λ agent e. let one = are.only j agent e in (one.0, one.1))
+
+    no_entry_there : (j : ℕ) → slice_get spots j ≡ None → slice_get c₀.entries.items j ≡ None
+    no_entry_there j = none_there spots c₀.entries.items j (λ entry e. let one = entries.only j entry e in (one.0, one.1))
+
+    no_watch_there : (j : ℕ) → slice_get guarded j ≡ None → slice_get c₀.watches.items j ≡ None
+    no_watch_there j = none_there guarded c₀.watches.items j (λ watch e. let one = guards.only j watch e in (one.0, one.1))
+
+    no_agent_row : (at : ℕ) (of : Agent) (about : About.Row) → entity_of crew spots about ≡ None → code.agent_word t c told at about of ≡ 0
+    no_agent_row at of (lines.Dir d) none = absurd (None≢Some (DirAt d) (sym none))
+    no_agent_row at of (lines.Made j) none =
+        ap (code.made_by_word t c told at of) (no_agent_there j (none_mapped MadeBy (slice_get crew j) none))
+    no_agent_row at of (lines.Landing j) none =
+        ap (code.landed_word c told of) (no_agent_there j (none_mapped LandingOf (slice_get crew j) none))
+    no_agent_row at of (lines.Drops j) none =
+        ap (code.dropped_by_word c told of) (no_agent_there j (none_mapped DropsOf (slice_get crew j) none))
+    no_agent_row at of lines.Makers none = absurd (None≢Some Makers (sym none))
+    no_agent_row at of (lines.Name j) none = ap (code.row_word c told of) (no_entry_there j (none_mapped NameAt (slice_get spots j) none))
+
+    no_common_row : (about : About.Row) → entity_of crew spots about ≡ None → code.common_word c told about ≡ 0
+    no_common_row (lines.Dir d) none = refl
+    no_common_row (lines.Made j) none = refl
+    no_common_row (lines.Landing j) none = refl
+    no_common_row (lines.Drops j) none = refl
+    no_common_row lines.Makers none = refl
+    no_common_row (lines.Name j) none = ap (code.taken_word c told) (no_entry_there j (none_mapped NameAt (slice_get spots j) none))
+
+    no_watched_row : (at : ℕ) (w : Watch) (about : About.Row) → entity_of crew spots about ≡ None → code.watched_word t c told at about w ≡ 0
+    no_watched_row at w (lines.Dir d) none = absurd (None≢Some (DirAt d) (sym none))
+    no_watched_row at w (lines.Made j) none =
+        ap (code.clear_new_word c told at w) (no_agent_there j (none_mapped MadeBy (slice_get crew j) none))
+    no_watched_row at w (lines.Landing j) none =
+        ap (code.clear_landing_word c told w) (no_agent_there j (none_mapped LandingOf (slice_get crew j) none))
+    no_watched_row at w (lines.Drops j) none = refl
+    no_watched_row at w lines.Makers none = refl
+    no_watched_row at w (lines.Name j) none = refl
+
+    no_row : (at : ℕ) (about : About.Row) (p : Part) → entity_of crew spots about ≡ None → code.part_word t c told at about p ≡ 0
+    no_row at about (columns_of.Agent j) none = by (slice_get c₀.agents.items j)
+      where
+        by : (o : Option Agent) → code.by_agent_word t c told at about o ≡ 0
+        by None = refl
+        by (Some of) = no_agent_row at of about none
+    no_row at about columns_of.Common none = no_common_row about none
+    no_row at about (columns_of.Watched j) none = by (slice_get c₀.watches.items j)
+      where
+        by : (o : Option Watch) → code.by_watch_word t c told at about o ≡ 0
+        by None = refl
+        by (Some w) = no_watched_row at w about none
+
+    no_column : (at : ℕ) (about : About.Row) (p : Part) → column_of crew guarded p ≡ None → code.part_word t c told at about p ≡ 0
+    no_column at about (columns_of.Agent j) none =
+        ap (code.by_agent_word t c told at about) (no_agent_there j (none_mapped ByAgent (slice_get crew j) none))
+    no_column at about columns_of.Common none = absurd (None≢Some Common (sym none))
+    no_column at about (columns_of.Watched j) none =
+        ap (code.by_watch_word t c told at about) (no_watch_there j (none_mapped Watching (slice_get guarded j) none))
+
     -- so a word of the table is what follows for its place
     module _ (index : ℕ) (about : About.Row) (p : Part)
         (rows : slice_get (entities crew dirs spots) (index / many) ≡ entity_of crew spots about)
@@ -1454,11 +1545,11 @@ module _ (t : Tree) (well : WellFormed t) (table : CallTable) (crew : List Proce
       abbrev whole : ℕ
       whole = code.part_word t c told (index / many) about p
 
-      pub record InTable : Type 0 where
-        pub entity : Entity
-        pub column : Column
-        pub in_rows : entity_of crew spots about ≡ Some entity
-        pub in_columns : column_of crew guarded p ≡ Some column
+      record InTable : Type 0 where
+        entity : Entity
+        column : Column
+        in_rows : entity_of crew spots about ≡ Some entity
+        in_columns : column_of crew guarded p ≡ Some column
 
       word_of : (at : InTable) → Says at.entity at.column whole
       word_of at = part_says (index / many) at.entity (rows ∙ at.in_rows) about p at.column at.in_rows at.in_columns
@@ -1466,9 +1557,19 @@ module _ (t : Tree) (well : WellFormed t) (table : CallTable) (crew : List Proce
       says_at : (at : InTable) (bit : ℕ) → layout index bit ≡ slice_get (word at.entity at.column) bit
       says_at at bit = λ z. bit_says ((rows ∙ at.in_rows) z) ((parts ∙ at.in_columns) z) bit
 
-      pub whole_only : InTable → (bit : ℕ) → has_bit whole bit → FollowsAt t table crew watched layout told index bit
-      whole_only at bit held =
-          let x = (word_of at).only bit held in record { fact = x.0; says = says_at at bit ∙ x.1; follows = x.2 }
+      pub whole_only : (bit : ℕ) → has_bit whole bit → FollowsAt t table crew watched layout told index bit
+      whole_only bit held = by (entity_of crew spots about) (column_of crew guarded p) refl refl
+        where
+          by : (e : Option Entity) (col : Option Column) → entity_of crew spots about ≡ e → column_of crew guarded p ≡ col →
+              FollowsAt t table crew watched layout told index bit
+          by None col e_is col_is =
+              absurd (no_bit bit (subst (λ w. has_bit w bit) (no_row (index / many) about p e_is) held))
+          by (Some e) None e_is col_is =
+              absurd (no_bit bit (subst (λ w. has_bit w bit) (no_column (index / many) about p col_is) held))
+          by (Some e) (Some col) e_is col_is =
+              let at : InTable = record { entity = e; column = col; in_rows = e_is; in_columns = col_is } in
+              let x = (word_of at).only bit held in
+              record { fact = x.0; says = says_at at bit ∙ x.1; follows = x.2 }
 
       pub whole_all : (bit : ℕ) → FollowsAt t table crew watched layout told index bit → has_bit whole bit
       whole_all bit new = by (entity_of crew spots about) (column_of crew guarded p) refl refl

@@ -17,7 +17,7 @@ use Rattle.pua_jointly.specs.Jointly.{Seat, Old, Made, Source, Row, Maker, Can, 
 use Rattle.pua_jointly.specs.Jointly.{moved_at, born_at}
 use Rattle.pua_jointly.specs.JointFacts.{Kept, Covers, Drops, Carries, Creates, Taken, IsOfCrew, Follows, IsOver, over_own, over_within, Puts, Lies, lies_now}
 use Rattle.pua_jointly.specs.JointFacts.{lies_born, lies_moved, drops_within, drops_at, watches}
-use Rattle.pua_jointly.specs.JointOld.{over_word}
+use Rattle.pua_jointly.specs.JointOld.{asked_word, over_word}
 use Rattle.pua_jointly.specs.JointPlace.{cover_bit, new_bit}
 use Rattle.pua_jointly.specs.JointRounds.{has_one, is_taken, stays_in}
 use Rattle.pua_jointly.specs.JointSetup.{FollowsTold, IsCrew, IsEntry, IsWorkedOut, count_told, crew_told, dirs_of, guarded_told, layout_told, name_row}
@@ -30,7 +30,7 @@ use Rattle.pua_jointly.specs.declared.crew.Entry.{Entry}
 use Rattle.pua_jointly.proofs.Gaining.{has_or}
 use Rattle.pua_jointly.proofs.JointDoing.{bit_back, cover_back}
 use Rattle.pua_jointly.proofs.JointFlags.{covers_have, covers_mean}
-use Rattle.pua_jointly.proofs.JointNames.{over_means, over_has}
+use Rattle.pua_jointly.proofs.JointNames.{asked_same, over_means, over_has}
 use Rattle.pua_jointly.proofs.JointPlaced.{InRange, among_got, among_numbers, follows_bit, got_among, in_range, numbers_among, over_small}
 use Rattle.pua_jointly.proofs.JointRead.{carries_new_said, carries_said, covers_said, creates_said, drops_said, is_told, made_at, old_at, says}
 use Rattle.pua_jointly.proofs.JointRead.{taken_said, told_is}
@@ -98,7 +98,7 @@ module _ (t : Tree) (table : CallTable) (c : Crew) (out : IsWorkedOut t table c)
   abbrev many : ℕ
   many = length (columns crew (guarded_told c))
 
-  is_agent : IsAgent table (dirs_of c) (length crew) i a of
+  pub is_agent : IsAgent table (dirs_of c) (length crew) i a of
   is_agent =
       let one = is.agents.only i of got in
       subst (λ b. IsAgent table (dirs_of c) (length crew) i b of) (sym one.2.process ∙ process) one.2
@@ -286,10 +286,12 @@ module _ (t : Tree) (table : CallTable) (c : Crew) (out : IsWorkedOut t table c)
     entry_stands = (row_says t (sound_from t out.0) (entry.dir, entry.name.now) entry.node stands_here).0
 
     abbrev own_word : ℕ
-    own_word = over_word of.process.now told c.columns entry.dir entry.name.now of.place
+    own_word = asked_word of.named of.process.now told c.columns entry.dir entry.name.now of.place
 
     own_same : own_word ≡ over_word a told many entry.dir entry.name.now i
-    own_same = λ z. over_word (process z) told (is.columns z) entry.dir entry.name.now (is_agent.place z)
+    own_same =
+        (λ z. asked_word of.named (process z) told (is.columns z) entry.dir entry.name.now (is_agent.place z))
+        ∙ asked_same a of.named is_agent.named told many entry.dir entry.name.now i
 
     pub entry_means : (k : Cover) → cover_bit k < 18 → has_bit (entry_word c told of entry) (cover_bit k) →
         Comes (Row (entry.dir, entry.name.now)) k

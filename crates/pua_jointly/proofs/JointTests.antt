@@ -212,7 +212,7 @@ module _ (t : Tree) (table : CallTable) (crew : List ProcessState) (facts : Fact
   on_row dir name x = by (look t dir name) refl (is_dir t x) refl
     where
       standing : look t dir name ≡ Some x → is_dir t x ≡ false → Known (Stands (At (Slot dir name (Some x))))
-      standing here other = at_thing (turned (list_any (turns_in table c words entry.node) c.entries.items) refl)
+      standing here other = at_thing (turned (list_any (turns_in c words entry.node) c.entries.items) refl)
         where
           there : EntryThere t table crew facts a of is dir name x
           there = entry_there t table crew facts a of is dir name x here
@@ -236,7 +236,7 @@ module _ (t : Tree) (table : CallTable) (crew : List ProcessState) (facts : Fact
                 (λ z. Stands (At (Slot (there.dir_is z) (there.name_is z) (Some (there.node_is z))))) known.1,
           )
 
-          turned : (b : Bool) → list_any (turns_in table c words entry.node) c.entries.items ≡ b → Known thing
+          turned : (b : Bool) → list_any (turns_in c words entry.node) c.entries.items ≡ b → Known thing
           turned false none =
               let one = under (entry_word c words of entry) (object_of_kind (Some entry.kind)) in
               let kept = set_of (λ call. (keeps_link call || not (is_link_kind (Some entry.kind))) && has one.0 call) in (

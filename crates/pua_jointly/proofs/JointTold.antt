@@ -1,29 +1,34 @@
 -- The calls under the covers that were found of a thing are those that can ever be allowed on it.
-use Rattle.pua_jointly.proofs.Common.{◌≡◌, ◌≢◌, ◌<◌, ◌∙◌, ◌||◌, ◌&&◌, ℕ, Bool, true, false, List, refl, sym, ap, subst, not, Option, Some, None, None≢Some}
+use Rattle.pua_jointly.proofs.Common.{◌≡◌, ◌≢◌, ◌<◌, ◌∙◌, length, ◌||◌, ◌&&◌, ℕ, Bool, true, false, List, refl, sym, ap, subst, not, Option, Some, None, None≢Some}
 use Rattle.pua_jointly.proofs.Common.{ProcessState, Cover, Tree, CallTable, Call, Object, At, Others, Whole, Slot, Way, Stands, Comes, same_Some}
 use Rattle.pua_jointly.proofs.Common.{NewDir, NewOthers, NewFile, NewLink, covered_verdict, is_allowed, empty_tree, false≢true, has, IsMissing}
 use Rattle.pua_jointly.proofs.Common.{is_dir, kind_at, keeps_link, list_any, look, object_of_kind, lasting_dir, removable_dir}
 use Rattle.pua_jointly.proofs.Common.{◌==◌, Spot, among_contained, contained, eq-eqb, eqb-true, and_parts, is_some, option_eq, own_spot, Subject}
-use Rattle.pua_jointly.proofs.Common.{Among, among_map, and_from, is_dir_kind, Kind, map_among, or_right}
+use Rattle.pua_jointly.proofs.Common.{◌⊎◌, Among, among_map, and_from, inl, inr, is_dir_kind, Kind, map_among, or_left, or_right}
 use Rattle.pua_objects.specs.Items.{SubjectFits}
 use Rattle.pua_path.specs.Fits.{is_link_kind}
+use Rattle.pua_policy.specs.States.{perms_kept}
+use Rattle.pua_policy.specs.declared.place.Place.TheVariants as place
 use Rattle.std.specs.Prelude.{get_or, slice_get}
+use Rattle.std.specs.Int.{bit_at}
+use Rattle.std.specs.BTreeSet.{contains}
 use Rattle.std.specs.List.{Contains}
+use Rattle.std.specs.Ordering.{nat_cmp}
 use Rattle.pua_tree.specs.declared.node.Kind.TheVariants as kinds
 use Rattle.pua_policy.specs.Verdict.{IsFile, IsLink, IsProg, FoundFits}
 use Rattle.pua_jointly.specs.Closing.{has_bit}
-use Rattle.pua_ever.specs.Ever.{Thing, is_exec_call, is_some_file, turning_calls}
+use Rattle.pua_ever.specs.Ever.{Thing, is_exec_call, is_some_file, is_turned_held, turning_calls}
 use Rattle.pua_jointly.specs.JointCalls.{AreAllowedOf, AreCallsOf, AreFreeCalls, AreUnder, IsOf}
-use Rattle.pua_jointly.specs.JointCovers.{allows_under, numbered}
+use Rattle.pua_jointly.specs.JointCovers.{AreCallsByCover, allows_under, numbered}
 use Rattle.pua_jointly.specs.JointFound.{AreFacts, entry_word, made_words, new_covers, turned_by, turns_in}
 use Rattle.pua_jointly.specs.JointPlace.{cover_bit}
-use Rattle.pua_jointly.specs.Jointly.{CanTurn, IsJointlyAllowed, IsTurned, Shows, is_link_thing}
+use Rattle.pua_jointly.specs.Jointly.{CanTurn, IsJointlyAllowed, IsTurned, IsTurnedByCall, Shows, is_link_thing}
 use Rattle.pua_jointly.specs.Jointly.{shows_dir, shows_emptied, shows_others, shows_row, shows_new_dir, shows_new_others, shows_new_file}
 use Rattle.pua_jointly.specs.Jointly.{shows_new_link, free_none}
 use Rattle.pua_jointly.specs.JointRounds.{is_taken, stays_in}
 use Rattle.pua_jointly.specs.JointSetting.{entry_of}
-use Rattle.pua_jointly.specs.JointSetup.{crew_told}
-use Rattle.pua_jointly.specs.JointWords.{covers_in, word_at}
+use Rattle.pua_jointly.specs.JointSetup.{crew_told, dirs_of}
+use Rattle.pua_jointly.specs.JointWords.{IsAgent, covers_in, has_named, meets, word_at}
 use Rattle.pua_jointly.specs.declared.crew.Agent.{Agent}
 use Rattle.pua_jointly.specs.declared.crew.Crew.{Crew}
 use Rattle.pua_jointly.specs.declared.crew.Entry.{Entry}
@@ -32,7 +37,8 @@ use Rattle.pua_jointly.proofs.JointAllowed as allow
 use Rattle.pua_jointly.proofs.JointAllowed.{TellsUnder}
 use Rattle.pua_jointly.proofs.JointPlaced.{Got, among_got, got_among}
 use Rattle.pua_jointly.proofs.JointShown as show
-use Rattle.pua_jointly.proofs.JointShown.{under_has, under_means}
+use Rattle.pua_jointly.proofs.JointShown.{IsUnder, under_has, under_means}
+use Rattle.pua_jointly.proofs.JointWords.{cover_of, either_true, meets_by, meets_some}
 use Rattle.pua_jointly.proofs.JointlyGrows.{joint_lists_grow}
 use Rattle.pua_ever.proofs.ForCallers.{standing_there}
 use Rattle.pua_ever.proofs.ForCallers.{any_among, any_found}
@@ -57,6 +63,14 @@ module _ (t : Tree) (table : CallTable) (crew : List ProcessState) (facts : Fact
   abbrev are : AreFacts t table crew facts
   are = is.facts_are
 
+  -- its calls under each cover
+  pub calls_known : AreCallsByCover table of.process.now of.calls.items
+  calls_known = (show.is_agent t table facts.crew are.worked facts.told.items are.full are.closed are.has is.at of.process.now of is.got refl).calls
+
+  -- and whether it has a veil at a name
+  pub named_known : of.named ≡ has_named a
+  named_known = (show.is_agent t table facts.crew are.worked facts.told.items are.full are.closed are.has is.at a of is.got is.process).named
+
   -- of equal processes there is one
   for_crew : (thing : Thing) (calls : ℕ) → AreCallsOf t table all a thing calls → AreCallsOf t table crew a thing calls
   for_crew thing calls tells = record {
@@ -68,6 +82,14 @@ module _ (t : Tree) (table : CallTable) (crew : List ProcessState) (facts : Fact
   plain_crew : (thing : Thing) (calls : ℕ) → (CanTurn t table all thing → ⊥) → AreAllowedOf t table all a thing calls →
       AreCallsOf t table crew a thing calls
   plain_crew thing calls never tells = for_crew thing calls (allow.listed_plain t table all a thing calls never tells)
+
+  -- at a name where it has no veil of its own
+  pub unnamed_calls : (dir : ℕ) (name : List ℕ) → perms_kept a (place.Slot dir name) ≡ None → (calls : ℕ) →
+      ((call : Call) → has calls call ≡ false) → AreCallsOf t table crew a (Stands (At (Slot dir name None))) calls
+  unnamed_calls dir name own calls none =
+      plain_crew (Stands (At (Slot dir name None))) calls (λ none. none)
+      (allow.no_calls t table all a (Stands (At (Slot dir name None))) calls
+      (λ k o shows. let s = allow.shown t table all a shows in None≢Some s.0 (sym own ∙ s.2)) none)
 
   abbrev pub dir_word : ℕ → ℕ
   dir_word d = covers_in (word_at told c.columns d of.place)
@@ -405,6 +427,9 @@ module _ (t : Tree) (table : CallTable) (crew : List ProcessState) (facts : Fact
   file_is kinds.Prog e = absurd (false≢true e)
   file_is kinds.Link e = absurd (false≢true e)
 
+  agent_by : (b : Agent) (at : ℕ) → slice_get k.agents.items at ≡ Some b → IsAgent table (dirs_of k) (length ones) at b.process.now b
+  agent_by b at got = show.is_agent t table k are.worked words are.full are.closed are.has at b.process.now b got refl
+
   module _ (b : Agent) (agent_at : ℕ) (agent_got : slice_get k.agents.items agent_at ≡ Some b) (e_at : ℕ) (entry : Entry)
       (got : slice_get k.entries.items e_at ≡ Some entry) (file : entry.kind ≡ kinds.File) where
     abbrev h : ProcessState
@@ -451,32 +476,55 @@ module _ (t : Tree) (table : CallTable) (crew : List ProcessState) (facts : Fact
           allowed = ap (λ o. is_allowed (covered_verdict empty_tree table h call can.cover o)) (sym (s.2 ∙ ap object_of_kind kind_is)) ∙ can.allowed;
         })
 
-  pub turned_means : list_any (turns_in table k words node) k.entries.items ≡ true → IsTurned t table ones node
+  pub turned_means : list_any (turns_in k words node) k.entries.items ≡ true → IsTurned t table ones node
   turned_means e =
-      let found = any_found (turns_in table k words node) k.entries.items e in
+      let found = any_found (turns_in k words node) k.entries.items e in
       let entry = found.0 in
       let both = and_parts (entry.node == node) _ found.2 in
       let two = and_parts (is_some_file (Some entry.kind)) _ both.1 in
       let file = file_is entry.kind two.0 in
-      let by = any_found (turned_by table k words entry) k.agents.items two.1 in
-      let one = any_found (λ call. list_any (allows_under table by.0.process.now (entry_word k words by.0 entry) IsFile call) (numbered 18)) turning_calls
-      by.2 in
+      let by = any_found (turned_by k words entry) k.agents.items two.1 in
       let e_got = among_got k.entries.items entry found.1 in
       let b_got = among_got k.agents.items by.0 by.1 in
-      let here : entry.node ≡ node = eqb-true entry.node node both.0 in
-      subst (IsTurned t table ones) here
+      subst (IsTurned t table ones) (eqb-true entry.node node both.0)
       (record {
         agent = by.0.process.now;
         among = contained ones by.0.process.now (among_map (λ (agent : Agent). agent.process.now) k.agents.items by.0 by.1);
         row = (entry.dir, entry.name.now);
         at = node_there by.0 b_got.at b_got.is e_got.at entry e_got.is file;
         file = kind_is by.0 b_got.at b_got.is e_got.at entry e_got.is file;
-        call = one.0;
-        turns = contained turning_calls one.0 one.1;
-        allowed = turn_means by.0 b_got.at b_got.is e_got.at entry e_got.is file one.0 one.2;
+        by = how by.0 b_got.at b_got.is e_got.at entry e_got.is file by.2;
       })
+    where
+      -- a call under a cover that makes one, or the file is open
+      how : (b : Agent) (agent_at : ℕ) → slice_get k.agents.items agent_at ≡ Some b → (e_at : ℕ) (entry : Entry) →
+          slice_get k.entries.items e_at ≡ Some entry → entry.kind ≡ kinds.File → turned_by k words entry b ≡ true →
+          IsTurnedByCall t table ones b.process.now (entry.dir, entry.name.now) entry.node ⊎ (is_turned_held b.process.now entry.node ≡ true)
+      how b agent_at agent_got e_at entry got file is =
+          elim (either_true (meets (entry_word k words b entry) b.turning) (contains nat_cmp b.turned entry.node) is) [
+            | inl under ↦ inl (called under)
+            | inr held ↦ inr (sym ((agent_by b agent_at agent_got).turned entry.node) ∙ held)
+          ]
+        where
+          called : meets (entry_word k words b entry) b.turning ≡ true →
+              IsTurnedByCall t table ones b.process.now (entry.dir, entry.name.now) entry.node
+          called under =
+              let word : ℕ = entry_word k words b entry in
+              let mask = (agent_by b agent_at agent_got).turning in
+              let bit = meets_some word b.turning mask.small under in
+              let cover = cover_of bit.0 (mask.only bit.0 bit.2) in
+              let small : cover_bit cover.0 < 18 = subst (λ n. n < 18) (sym cover.1) (mask.only bit.0 bit.2) in
+              let one = any_found (λ call. is_allowed (covered_verdict empty_tree table b.process.now call cover.0 IsFile)) turning_calls
+              (sym (mask.all cover.0 small) ∙ ap (λ n. bit_at b.turning n == 1) cover.1 ∙ bit.2) in
+              let there = under_has table b.process.now word IsFile one.0
+              (record { cover = cover.0; small = small; has = ap (λ n. bit_at word n == 1) cover.1 ∙ bit.1; allowed = one.2 }) in
+              record {
+                call = one.0;
+                turns = contained turning_calls one.0 one.1;
+                allowed = turn_means b agent_at agent_got e_at entry got file one.0 there;
+              }
 
-  pub turned_has : IsTurned t table ones node → list_any (turns_in table k words node) k.entries.items ≡ true
+  pub turned_has : IsTurned t table ones node → list_any (turns_in k words node) k.entries.items ≡ true
   turned_has is =
       let who = map_among (λ (agent : Agent). agent.process.now) k.agents.items is.agent (among_contained ones is.agent is.among) in
       let b_got = among_got k.agents.items who.0 who.1 in
@@ -486,14 +534,12 @@ module _ (t : Tree) (table : CallTable) (crew : List ProcessState) (facts : Fact
     where
       by : (b : Agent) (agent_at : ℕ) (agent_got : slice_get k.agents.items agent_at ≡ Some b) → Among k.agents.items b → b.process.now ≡ is.agent →
           (e_at : ℕ) (entry : Entry) (got : slice_get k.entries.items e_at ≡ Some entry) → entry.dir ≡ is.row.0 → entry.name.now ≡ is.row.1 →
-          list_any (turns_in table k words node) k.entries.items ≡ true
+          list_any (turns_in k words node) k.entries.items ≡ true
       by b agent_at agent_got among same e_at entry got dir name =
-          any_among (turns_in table k words node) k.entries.items entry (got_among k.entries.items e_at entry got)
+          any_among (turns_in k words node) k.entries.items entry (got_among k.entries.items e_at entry got)
           (and_from (entry.node == node) _ (eq-eqb entry.node node here)
           (and_from (is_some_file (Some entry.kind)) _ (ap (λ x. is_some_file (Some x)) file)
-          (any_among (turned_by table k words entry) k.agents.items b among
-          (any_among (λ call. list_any (allows_under table b.process.now (entry_word k words b entry) IsFile call) (numbered 18)) turning_calls is.call
-          (among_contained turning_calls is.call is.turns) (turn_has b agent_at agent_got e_at entry got file is.call allowed)))))
+          (any_among (turned_by k words entry) k.agents.items b among (how is.by))))
         where
           there : look t entry.dir entry.name.now ≡ Some entry.node
           there = show.stands_there t table k are.worked words are.full are.closed are.has agent_at b.process.now b agent_got refl e_at entry got
@@ -506,9 +552,26 @@ module _ (t : Tree) (table : CallTable) (crew : List ProcessState) (facts : Fact
               (sym (show.kind_there t table k are.worked words are.full are.closed are.has agent_at b.process.now b agent_got refl e_at entry got)
               ∙ ap (kind_at t) here ∙ is.file)
 
-          allowed : IsJointlyAllowed t table ones b.process.now (Stands (At (Slot entry.dir entry.name.now (Some entry.node)))) is.call
-          allowed =
-              subst (λ (h : ProcessState). IsJointlyAllowed t table ones h (Stands (At (Slot entry.dir entry.name.now (Some entry.node)))) is.call) (sym same)
-              (subst (λ (s : Spot). IsJointlyAllowed t table ones is.agent (Stands (At (Slot s.0 s.1 (Some entry.node)))) is.call)
+          allowed : (one : IsTurnedByCall t table ones is.agent is.row node) →
+              IsJointlyAllowed t table ones b.process.now (Stands (At (Slot entry.dir entry.name.now (Some entry.node)))) one.call
+          allowed one =
+              subst (λ (h : ProcessState). IsJointlyAllowed t table ones h (Stands (At (Slot entry.dir entry.name.now (Some entry.node)))) one.call) (sym same)
+              (subst (λ (s : Spot). IsJointlyAllowed t table ones is.agent (Stands (At (Slot s.0 s.1 (Some entry.node)))) one.call)
               (λ z. (sym dir z, sym name z))
-              (subst (λ x. IsJointlyAllowed t table ones is.agent (Stands (At (Slot is.row.0 is.row.1 (Some x)))) is.call) (sym here) is.allowed))
+              (subst (λ x. IsJointlyAllowed t table ones is.agent (Stands (At (Slot is.row.0 is.row.1 (Some x)))) one.call) (sym here) one.allowed))
+
+          under : (one : IsTurnedByCall t table ones is.agent is.row node) →
+              IsUnder table b.process.now (entry_word k words b entry) IsFile one.call
+          under one = under_means table b.process.now (entry_word k words b entry) IsFile one.call
+              (turn_has b agent_at agent_got e_at entry got file one.call (allowed one))
+
+          how : IsTurnedByCall t table ones is.agent is.row node ⊎ (is_turned_held is.agent node ≡ true) → turned_by k words entry b ≡ true
+          how (inl one) =
+              or_left (meets (entry_word k words b entry) b.turning) _
+              (meets_by (entry_word k words b entry) b.turning (cover_bit (under one).cover) (under one).has
+              ((agent_by b agent_at agent_got).turning.all (under one).cover (under one).small
+              ∙ any_among (λ call. is_allowed (covered_verdict empty_tree table b.process.now call (under one).cover IsFile)) turning_calls one.call
+              (among_contained turning_calls one.call one.turns) (under one).allowed))
+          how (inr held) =
+              or_right (meets (entry_word k words b entry) b.turning) _
+              ((agent_by b agent_at agent_got).turned entry.node ∙ (λ z. is_turned_held (same z) (here z)) ∙ held)

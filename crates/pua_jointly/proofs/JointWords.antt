@@ -19,6 +19,7 @@ use Rattle.pua_jointly.specs.JointFacts.{creates_within, makes_under}
 use Rattle.pua_jointly.specs.JointTable.{IsTold, numbers, all_covers, entities, columns, table_says, TableFits}
 use Rattle.pua_jointly.specs.JointPlace.{Once, cover_bit}
 use Rattle.pua_jointly.specs.JointWords.{word_at, landing_word, meets, moves_at, moved_at, moved_word, born_at, apart_at, apart_by, apart_word}
+use Rattle.pua_jointly.specs.JointWords.{clear_at, clear_by, covers_in}
 use Rattle.pua_jointly.specs.JointWords.{with_c, AreCovers, IsAgent, AreAgents, dropped_word, some_meets}
 use Rattle.pua_jointly.specs.declared.crew.Agent.{Agent}
 use Rattle.pua_jointly.proofs.CoverBits.{c_covers}
@@ -59,6 +60,36 @@ pub masked : (word bit : ℕ) → bit < 18 → (bit_at (bit_and word 262143) bit
 masked word bit low =
     ap (λ n. n == 1) (bit_at_and word 262143 bit ∙ ap (min (bit_at word bit)) (bit_at_ones 18 bit low))
     ∙ one_below (bit_at word bit) (bit_at-lt word bit)
+
+-- the one bit of a watched directory's column, asked for at once
+with_if : (b : Bool) (word : ℕ) (x : Bool) → x ≡ (bit_at word 0 == 1) → (b && x) ≡ (bit_at (if b then word else 0) 0 == 1)
+with_if true word x e = e
+with_if false word x e = ap (λ n. n == 1) (sym (bit_at-zero 0))
+
+and_and : (x y z : Bool) → (x && (y && z)) ≡ ((x && y) && z)
+and_and true y z = refl
+and_and false y z = refl
+
+module _ (told : List ℕ) (columns : ℕ) (seats : List ℕ) (seat watch of : ℕ) where
+  clear_in : (by into : ℕ) → clear_at told columns by watch of into ≡ (bit_at (apart_at told columns by watch of into) 0 == 1)
+  clear_in by into =
+      let enters : Bool = bit_at (word_at told columns into by) 18 == 1 in
+      let clear : Bool = bit_at (word_at told columns into watch) 0 == 1 in
+      let word : ℕ = word_at told columns into of in
+      and_and enters clear (bit_at word 0 == 1)
+      ∙ with_if (enters && clear) (covers_in word) (bit_at word 0 == 1) (sym (masked word 0 (omega arith)))
+
+  clear_put : (agent : Agent) → clear_by told columns seats seat watch of agent
+      ≡ (bit_at (apart_by told columns seats seat watch of agent) 0 == 1)
+  clear_put agent =
+      with_if (moves_at told columns seat agent) (fold (λ word into. bit_or word (apart_at told columns agent.place watch of into)) 0 seats)
+      (list_any (clear_at told columns agent.place watch of) seats)
+      ((λ z. list_any (λ into. clear_in agent.place into z) seats) ∙ sym (has_some (apart_at told columns agent.place watch of) seats 0))
+
+  pub apart_clear : (agents : List Agent) → list_any (clear_by told columns seats seat watch of) agents
+      ≡ (bit_at (apart_word told columns agents seats seat watch of) 0 == 1)
+  apart_clear agents =
+      (λ z. list_any (λ agent. clear_put agent z) agents) ∙ sym (has_some (apart_by told columns seats seat watch of) agents 0)
 
 -- a bit of a word that counts under a condition
 pub if_has : (b : Bool) (word bit : ℕ) → (bit_at (if b then word else 0) bit == 1) ≡ true → (b ≡ true) × ((bit_at word bit == 1) ≡ true)

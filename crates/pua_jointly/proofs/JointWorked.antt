@@ -23,7 +23,7 @@ use Rattle.pua_ever.specs.Laws.{dir_of_place}
 use Rattle.pua_jointly.specs.JointFacts.{watches, watches_by}
 use Rattle.pua_jointly.specs.JointMembers.{AreSmall, Each}
 use Rattle.pua_jointly.specs.JointPlace.{Once}
-use Rattle.pua_jointly.specs.JointSetting.{AreInOrder, AreMarksOf, AreWatched, IsEntryAt, IsMarkOf, IsRowIn, IsSize, entry_of, is_watched}
+use Rattle.pua_jointly.specs.JointSetting.{AreColumns, AreInOrder, AreMarksOf, AreWatched, IsEntryAt, IsMarkOf, IsRowIn, IsSize, entry_of, is_watched}
 use Rattle.pua_jointly.specs.JointSetup.{AreMarks, AreWatches, IsEntry, IsMark, IsRowOf, IsWatch, IsWorkedOut, count_told, crew_told, dirs_of}
 use Rattle.pua_jointly.specs.JointSetup.{guarded_told, spots_told}
 use Rattle.pua_jointly.specs.JointTable.{TableFits, columns, entities, numbers, ByAgent, Common, Watching, DirAt, MadeBy, LandingOf, DropsOf, Makers, NameAt}
@@ -137,7 +137,8 @@ module _ (t : Tree) (well : WellFormed t) (table : CallTable) (c : Crew) (all : 
     (rows_are : spots_told c ≡ map (λ row. row.0) t.rows) (rows_once : Once (spots_told c))
     (entries : Each (IsEntryAt t (size.makers + 1)) c.entries.items)
     (marks : AreMarksOf t c.entries.items all c.marks.items)
-    (guards : AreWatched t c.shape.agents (dirs_of c) all c.watches.items) (seats_are : c.seats.items ≡ numbers size.seats)
+    (guards : AreWatched t c.shape.agents (dirs_of c) all c.watches.items)
+    (watch_columns : AreColumns c.watches.items c.watch_columns.items) (seats_are : c.seats.items ≡ numbers size.seats)
     (ordered : AreInOrder c.entries.items) where
   abbrev crew : List ProcessState
   crew = crew_told c
@@ -365,6 +366,7 @@ module _ (t : Tree) (well : WellFormed t) (table : CallTable) (c : Crew) (all : 
       low_nodes = low_nodes;
       marks = are_marks;
       watches = are_watches;
+      watch_columns = watch_columns;
     },
   )
 

@@ -73,9 +73,14 @@ module _ (t : Tree) (table : CallTable) (crew more : List ProcessState) (within 
     row = is.row;
     at = is.at;
     file = is.file;
-    call = is.call;
-    turns = is.turns;
-    allowed = jointly_grows t table crew more within is.agent (Stands (At (Slot is.row.0 is.row.1 (Some node)))) is.call is.allowed;
+    by = elim is.by [
+      | inl one ↦ inl (record {
+        call = one.call;
+        turns = one.turns;
+        allowed = jointly_grows t table crew more within is.agent (Stands (At (Slot is.row.0 is.row.1 (Some node)))) one.call one.allowed;
+      })
+      | inr held ↦ inr held
+    ];
   }
 
   turn_more : (thing : Thing) → CanTurn t table crew thing → CanTurn t table more thing

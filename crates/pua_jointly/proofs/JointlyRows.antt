@@ -4,13 +4,13 @@ use Rattle.std.specs.Prelude.{◌+◌, codes}
 use Rattle.std.specs.List.{Contains}
 use Rattle.pua_policy.specs.Verdict.{IsFile, IsMissing}
 use Rattle.pua_calls.specs.Calls.{standard_table}
-use Rattle.pua_calls.specs.Promises.{reading, writing, executing, creating}
+use Rattle.pua_calls.specs.Promises.{fattr, reading, writing, executing, creating}
 use Rattle.pua_calls.specs.declared.call.Call.TheVariants as call
 use Rattle.pua_ever.specs.Ever.{turning_calls}
 use Rattle.pua_jointly.specs.Jointly.{Can, Seat, Old, Made, Row, StandsIn, StandsAt, stays_in, moved_in, not_above_root, not_above_up}
 use Rattle.pua_jointly.specs.Jointly.{dir_own, dir_within, name_own, name_within, free_none, free_other, way_in_by_c, writes_at}
 use Rattle.pua_jointly.specs.Jointly.{stays_at, moved_at, shows_dir, shows_row, shows_name}
-use Rattle.pua_jointly.specs.JointlyExamples.{mover, reader, writer, remover, binder, placer, crew, three, JointlyRows}
+use Rattle.pua_jointly.specs.JointlyExamples.{mover, reader, writer, opener, remover, binder, placer, crew, three, opened, JointlyRows}
 use Rattle.pua_ever.specs.ThroughExamples.{started_tree}
 
 -- the mover brings s from /in to /out
@@ -59,17 +59,37 @@ jointly_rows = record {
       row = (1, codes "s");
       at = refl;
       file = refl;
-      call = call.OpenWrite;
-      turns = contained turning_calls call.OpenWrite (inl refl);
-      allowed = record {
-        cover = Only writing;
-        object = IsFile;
-        shows = shows_row (Old 2) (codes "s") refl (moved three (contained three mover (inl refl))) (name_within refl (dir_own refl refl));
-        named = refl;
-        allowed = refl;
-      };
+      by = inl (record {
+        call = call.OpenWrite;
+        turns = contained turning_calls call.OpenWrite (inl refl);
+        allowed = record {
+          cover = Only writing;
+          object = IsFile;
+          shows = shows_row (Old 2) (codes "s") refl (moved three (contained three mover (inl refl))) (name_within refl (dir_own refl refl));
+          named = refl;
+          allowed = refl;
+        };
+      });
     },
   );
+  held = inr (
+    refl,
+    record {
+      cover = Only executing;
+      shows = shows_row (Old 2) (codes "s") refl (moved opened (contained opened mover (inl refl))) (name_within refl (dir_own refl refl));
+      allowed = refl;
+    },
+    record {
+      agent = opener fattr;
+      among = contained opened (opener fattr) (inr (inl refl));
+      row = (1, codes "s");
+      at = refl;
+      file = refl;
+      by = inr refl;
+    },
+  );
+  held_by_fattr = refl;
+  held_by_another = refl;
   freed = record {
     cover = Only (writing + creating);
     object = IsMissing;

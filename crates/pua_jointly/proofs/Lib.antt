@@ -26,6 +26,7 @@ pub mod JointSteps
 pub mod JointMembers
 pub mod JointWorked
 pub mod JointGathered
+pub mod JointWatches
 pub mod JointDoing
 pub mod JointShown
 pub mod JointAllowed

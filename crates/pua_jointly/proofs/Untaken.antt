@@ -5,27 +5,29 @@ use Rattle.pua_jointly.proofs.Common.{exact_spots, is_dir, look, Some≢None, Ca
 use Rattle.pua_jointly.proofs.Common.{Call, Asked, World, apply}
 use Rattle.pua_jointly.proofs.Common.{NoCallNeedsError}
 use Rattle.pua_ever.specs.Ever.{is_yes}
-use Rattle.pua_script.specs.declared.request.Action.TheVariants.{OnPath, Symlink, Rename, Link, Pledge, Unveil, Lock, Fork, Exit, Uses, Comment}
+use Rattle.pua_script.specs.declared.request.Action.TheVariants.{OnPath, Symlink, Rename, Link, Pledge, Unveil, Lock, Fork, Exit, Uses, Hold, Close, Fchdir, Take, Comment}
 use Rattle.pua_script.specs.Guards.{IsGranted}
 use Rattle.pua_script.specs.Limits.{most_processes}
 use Rattle.pua_path.specs.declared.errno.Errno.TheVariants.{EAGAIN}
 use Rattle.pua_script.specs.Worlds.{tree_left}
 use Rattle.pua_script.specs.declared.request.Action.{Action}
 use Rattle.pua_path.specs.declared.found.Found.{Found}
-use Rattle.pua_policy.specs.States.{may_any}
+use Rattle.pua_policy.specs.States.{is_pledged, may_any}
 use Rattle.pua_calls.specs.Calls.{rule_of}
 use Rattle.pua_calls.specs.TmpTable.{tmp_table}
 use Rattle.pua_tree.specs.Tree.{is_living, Node}
-use Rattle.std.specs.Prelude.{Ok, Err, nat_le}
+use Rattle.std.specs.Prelude.{Ok, Err, Result, nat_le}
+use Rattle.pua_path.specs.declared.errno.Errno.{Errno}
+use Rattle.pua_policy.specs.declared.open_file.OpenFile.{OpenFile}
 use Rattle.pua_tree.specs.Edits.{add, tie, with_new, with_row, has_room, has_name_room}
 use Rattle.pua_tree.specs.declared.fault.TreeFault.TheVariants.{NotDir, Missing, IsDir as IsDirFault, Taken, Full}
 use Rattle.pua_tree.proofs.ForCallers.{same_or_other, put_elsewhere}
 use Rattle.pua_path.specs.Fits.{spot_named, node_named}
 use Rattle.pua_calls.specs.declared.call.Call.TheVariants as call
 use Rattle.pua_policy.specs.declared.answer.May.TheVariants.{Yes}
-use Rattle.pua_script.specs.Decide.{made_by, plain_node, link_node, Change, change_by, CopyAs}
-use Rattle.pua_script.specs.Replay.{edit_effect, edited_tree, kept_at, change_effect, Copies, Fails}
-use Rattle.pua_script.proofs.ForCallers.{by_own_tree, by_going, by_placing, by_tying, by_making, changes_granted, IsWithin}
+use Rattle.pua_script.specs.Decide.{made_by, plain_node, link_node, Change, change_by, CopyAs, TakeFile}
+use Rattle.pua_script.specs.Replay.{edit_effect, edited_tree, kept_at, change_effect, Copies, Fails, sent_by, take_effect}
+use Rattle.pua_script.proofs.ForCallers.{by_own_tree, by_filing, by_going, by_placing, by_tying, by_making, changes_granted, IsWithin}
 use Rattle.pua_ever.proofs.ForCallers.{yes_before}
 use Rattle.pua_jointly.specs.Jointly.{may_take}
 
@@ -99,6 +101,13 @@ module _ (table : CallTable) (w : World) (h : ProcessState) (lacks : may_take ta
       by true = rows_same w.tree
       by false = rows_same w.tree
 
+  keeps_taken : (number from theirs : ℕ) → Keeps (TakeFile number from theirs)
+  keeps_taken number from theirs = by (sent_by (is_pledged h) (kept_at w from) theirs)
+    where
+      by : (r : Result OpenFile Errno) → RowsStay w.tree (tree_left w.tree (take_effect w h number r))
+      by (Ok file) = rows_same w.tree
+      by (Err errno) = rows_same w.tree
+
   keeps_by : (action : Action) (c : Change) → IsGranted table w.tree h action c → Keeps c
   keeps_by (OnPath asked path) c (inl d) = subst Keeps (sym d.2) (keeps_call asked d.0 d.1.promised)
   keeps_by (OnPath asked path) c (inr same) = subst Keeps (sym same) (rows_same w.tree)
@@ -114,6 +123,11 @@ module _ (table : CallTable) (w : World) (h : ProcessState) (lacks : may_take ta
   keeps_by (Fork new) c d = subst Keeps (sym d.1) (keeps_copy new)
   keeps_by Exit c d = subst Keeps (sym d) (rows_same w.tree)
   keeps_by (Uses sets) c d = subst Keeps (sym d.1) (rows_same w.tree)
+  keeps_by (Hold number asked path) c d =
+      subst Keeps (sym d.1) (by_filing Keeps (rows_same w.tree) number _ (λ file. rows_same w.tree))
+  keeps_by (Close number) c d = subst Keeps (sym d.2) (rows_same w.tree)
+  keeps_by (Fchdir number) c d = subst Keeps (sym d.is) (rows_same w.tree)
+  keeps_by (Take number from theirs) c d = subst Keeps (sym d.1) (keeps_taken number from theirs)
   keeps_by Comment c d = subst Keeps (sym d) (rows_same w.tree)
 
 pub untaken : (table : CallTable) (w : World) (ask : Asked) (h : ProcessState) → kept_at w ask.process ≡ Some h →

@@ -7,13 +7,13 @@ use Rattle.std.specs.List.{Contains, list_any}
 use Rattle.pua_tree.specs.Tree.{Tree, is_dir, is_within, look, empty_tree}
 use Rattle.pua_calls.specs.Calls.{CallTable}
 use Rattle.pua_policy.specs.States.{ProcessState, has_veil, perms_kept, veils}
-use Rattle.pua_policy.specs.Verdict.{IsMissing, covered_verdict, is_allowed}
+use Rattle.pua_policy.specs.Verdict.{IsFile, IsMissing, covered_verdict, is_allowed}
 use Rattle.pua_policy.specs.declared.answer.Cover.{Cover}
 use Rattle.pua_policy.specs.declared.answer.Cover.TheVariants.{All, Nothing, Only}
 use Rattle.pua_policy.specs.declared.place.Place.{Place}
 use Rattle.pua_policy.specs.declared.place.Place.TheVariants as place
 use Rattle.pua_script.specs.Confinement.{has_c}
-use Rattle.pua_ever.specs.Ever.{New, NewDir, is_made_by, can_move, can_link}
+use Rattle.pua_ever.specs.Ever.{New, NewDir, is_made_by, can_move, can_link, turning_calls}
 use Rattle.pua_jointly.specs.Jointly.{Seat, Old, Made, Source, Row, Maker, Fact, StandsIn, NotAbove, DirCover, NameCover, Free, WayIn, Writes}
 use Rattle.pua_jointly.specs.Jointly.{Makes, StandsAt, may_take, is_standing, own_veil, name_veil, kind_of_source, Can}
 
@@ -59,6 +59,10 @@ pub record CanCarry (t : Tree) (table : CallTable) (crew : List ProcessState) (r
 -- a call of it that makes such a thing is allowed under a cover
 abbrev pub makes_under : CallTable → ProcessState → New → Cover → Bool
 makes_under table a new k = is_made_by (λ maker. is_allowed (covered_verdict empty_tree table a maker k IsMissing)) new
+
+-- and one by which a file can come to be a program
+abbrev pub turns_under : CallTable → ProcessState → Cover → Bool
+turns_under table a k = list_any (λ call. is_allowed (covered_verdict empty_tree table a call k IsFile)) turning_calls
 
 -- what is kept, as facts
 abbrev pub Means : Tree → CallTable → List ProcessState → Kept → Type 0

@@ -1,22 +1,22 @@
 -- The covers of things that the table of a crew has, and what is found of several processes.
-use Rattle.std.specs.Prelude.{◌≡◌, ◌<◌, ◌+◌, ◌&&◌, ◌==◌, ℕ, Bool, List, Some, false, get_or, length, nat_lt, if◌then◌else◌}
+use Rattle.std.specs.Prelude.{◌≡◌, ◌<◌, ◌+◌, ◌&&◌, ◌||◌, ◌==◌, ℕ, Bool, List, Some, false, get_or, length, nat_lt, if◌then◌else◌}
 use Rattle.std.specs.Int.Bits.{bit_or}
 use Rattle.std.specs.List.{fold, list_any}
+use Rattle.std.specs.BTreeSet.{contains}
+use Rattle.std.specs.Ordering.{nat_cmp}
 use Rattle.pua_tree.specs.Tree.{Tree}
 use Rattle.pua_calls.specs.Calls.{CallTable}
 use Rattle.pua_policy.specs.States.{ProcessState}
-use Rattle.pua_policy.specs.Verdict.{IsFile}
-use Rattle.pua_ever.specs.Ever.{New, is_some_file, turning_calls}
-use Rattle.pua_jointly.specs.JointCovers.{allows_under, numbered}
+use Rattle.pua_ever.specs.Ever.{New, is_some_file}
 use Rattle.pua_jointly.specs.JointFacts.{watches}
 use Rattle.pua_jointly.specs.JointMembers.{SameMembers}
-use Rattle.pua_jointly.specs.JointOld.{over_word}
+use Rattle.pua_jointly.specs.JointOld.{asked_word}
 use Rattle.pua_jointly.specs.JointPlace.{new_bit}
 use Rattle.pua_jointly.specs.JointRounds.{has_one, stays_in}
 use Rattle.pua_jointly.specs.Closing.{IsClosed}
 use Rattle.pua_jointly.specs.JointSetup.{FollowsTold, IsWorkedOut, count_told, crew_told, dirs_of, layout_told}
 use Rattle.pua_jointly.specs.JointTable.{HasFacts}
-use Rattle.pua_jointly.specs.JointWords.{covers_in, word_at}
+use Rattle.pua_jointly.specs.JointWords.{covers_in, meets, word_at}
 use Rattle.pua_jointly.specs.declared.crew.Agent.{Agent}
 use Rattle.pua_jointly.specs.declared.crew.Crew.{Crew}
 use Rattle.pua_jointly.specs.declared.crew.Entry.{Entry}
@@ -40,7 +40,7 @@ carried_covers c told of row bit = fold (λ word by. bit_or word (carried_by c t
 -- of what stands at a name
 abbrev pub entry_word : Crew → List ℕ → Agent → Entry → ℕ
 entry_word c told of entry =
-    bit_or (over_word of.process.now told c.columns entry.dir entry.name.now of.place) (carried_covers c told of entry.row 0)
+    bit_or (asked_word of.named of.process.now told c.columns entry.dir entry.name.now of.place) (carried_covers c told of entry.row 0)
 
 -- of what processes make that is no directory
 abbrev pub born_in : Crew → List ℕ → Agent → New → Agent → ℕ
@@ -55,16 +55,15 @@ new_covers c told of new =
     bit_or (fold (λ word by. bit_or word (born_in c told of new by)) 0 c.agents.items)
     (fold (λ word seat. bit_or word (seat_carried c told of new seat)) 0 c.seats.items)
 
--- a call by which the file at a name can come to be a program is allowed to one of the processes
-abbrev pub turned_by : CallTable → Crew → List ℕ → Entry → Agent → Bool
-turned_by table c told entry of =
-    list_any (λ call. list_any (allows_under table of.process.now (entry_word c told of entry) IsFile call) (numbered 18)) turning_calls
+-- a call by which the file at a name can come to be a program is allowed to one of the processes, or that holds it open so that it can
+abbrev pub turned_by : Crew → List ℕ → Entry → Agent → Bool
+turned_by c told entry of = meets (entry_word c told of entry) of.turning || contains nat_cmp of.turned entry.node
 
-abbrev pub turns : CallTable → Crew → List ℕ → Entry → Bool
-turns table c told entry = is_some_file (Some entry.kind) && list_any (turned_by table c told entry) c.agents.items
+abbrev pub turns : Crew → List ℕ → Entry → Bool
+turns c told entry = is_some_file (Some entry.kind) && list_any (turned_by c told entry) c.agents.items
 
-abbrev pub turns_in : CallTable → Crew → List ℕ → ℕ → Entry → Bool
-turns_in table c told node entry = (entry.node == node) && turns table c told entry
+abbrev pub turns_in : Crew → List ℕ → ℕ → Entry → Bool
+turns_in c told node entry = (entry.node == node) && turns c told entry
 
 -- the numbers below a count of which some name passes a test
 abbrev pub AreMarked : (ℕ → Entry → Bool) → List Entry → ℕ → List Bool → Type 0
@@ -78,4 +77,4 @@ pub record AreFacts (t : Tree) (table : CallTable) (crew : List ProcessState) (f
   pub closed : IsClosed (FollowsTold t table facts.crew) facts.told.items
   pub has : HasFacts t table (crew_told facts.crew) (watches t (crew_told facts.crew)) (layout_told facts.crew) facts.told.items
   pub held : AreMarked (stays_in facts.crew facts.told.items) facts.crew.entries.items (dirs_of facts.crew) facts.held.items
-  pub turned : AreMarked (turns_in table facts.crew facts.told.items) facts.crew.entries.items (dirs_of facts.crew) facts.turned.items
+  pub turned : AreMarked (turns_in facts.crew facts.told.items) facts.crew.entries.items (dirs_of facts.crew) facts.turned.items

@@ -5,7 +5,10 @@ use Rattle.std.specs.List.{AllByRecursion, Contains}
 use Rattle.std.specs.Option.{option_eq}
 use Rattle.std.specs.Bool.{beq}
 use Rattle.pua_policy.specs.States.{ProcessState, same_place}
+use Rattle.pua_policy.specs.declared.open_file.OpenFile.{OpenFile}
 use Rattle.pua_policy.specs.declared.place.Place.{Place}
+use Rattle.pua_tree.specs.declared.node.Kind.{Kind}
+use Rattle.pua_tree.specs.declared.node.Kind.TheVariants as kind
 
 -- what is lent
 abbrev pub states : List (Bor ProcessState) → List ProcessState
@@ -14,12 +17,15 @@ states processes = map (λ process. process.now) processes
 abbrev pub veil_now : Bor Place × Bor ℕ → Place × ℕ
 veil_now veil = (veil.0.now, veil.1.now)
 
+abbrev pub file_now : Bor ℕ × Bor OpenFile → ℕ × OpenFile
+file_now held = (held.0.now, held.1.now)
+
 -- the same things, however often
 pub record SameMembers (xs ys : List ProcessState) : Type 0 where
   pub there : (a : ProcessState) → Contains xs a → Contains ys a
   pub back : (a : ProcessState) → Contains ys a → Contains xs a
 
--- equal but for their veils
+-- equal but for their veils and open files
 abbrev pub has_same_state : ProcessState → ProcessState → Bool
 has_same_state a b =
     option_eq (λ x y. x == y) a.promises b.promises
@@ -29,6 +35,17 @@ has_same_state a b =
 -- two veils are the same, and two lists of them
 abbrev pub same_veil : Place × ℕ → Place × ℕ → Bool
 same_veil a b = same_place a.0 b.0 && (a.1 == b.1)
+
+-- two descriptors stand for the same open file
+abbrev pub kind_number : Kind → ℕ
+kind_number kind.Dir = 0
+kind_number kind.File = 1
+kind_number kind.Prog = 2
+kind_number kind.Link = 3
+
+abbrev pub same_file : ℕ × OpenFile → ℕ × OpenFile → Bool
+same_file a b =
+    (a.0 == b.0) && ((a.1.node == b.1.node) && ((kind_number a.1.kind == kind_number b.1.kind) && (a.1.letters == b.1.letters)))
 
 -- the permissions of veils are of a veil's letters
 abbrev pub AreSmall : List (Place × ℕ) → Type 0

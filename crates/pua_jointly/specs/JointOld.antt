@@ -42,3 +42,8 @@ own_or_word (Some perms) others = cover_word (Only perms)
 abbrev pub over_word : ProcessState → List ℕ → ℕ → ℕ → List ℕ → ℕ → ℕ
 over_word h told columns dir name of =
     own_or_word (perms_kept h (place.Slot dir name)) (covers_in (word_at told columns dir of))
+
+-- the same covers, asked of its veils only where it has one at a name
+abbrev pub asked_word : Bool → ProcessState → List ℕ → ℕ → ℕ → List ℕ → ℕ → ℕ
+asked_word named h told columns dir name of =
+    if named then over_word h told columns dir name of else covers_in (word_at told columns dir of)

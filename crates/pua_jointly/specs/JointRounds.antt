@@ -1,5 +1,5 @@
 -- What follows from the table of a crew whose state has been worked out, as the code finds it: whole words.
-use Rattle.std.specs.Prelude.{◌+◌, ◌^◌, ◌==◌, ◌&&◌, ◌||◌, not, true, false, ℕ, Bool, List, Option, Some, None, slice_get}
+use Rattle.std.specs.Prelude.{◌+◌, ◌^◌, ◌==◌, ◌&&◌, ◌||◌, not, true, false, ℕ, Bool, List, Option, Some, None, get_or, slice_get}
 use Rattle.std.specs.Prelude.{if◌then◌else◌}
 use Rattle.std.specs.Int.{bit_at}
 use Rattle.std.specs.Int.Bits.{bit_or}
@@ -12,9 +12,9 @@ use Rattle.pua_policy.specs.declared.place.Place.TheVariants as place
 use Rattle.pua_script.specs.Confinement.{has_c}
 use Rattle.pua_ever.specs.Ever.{New, NewDir, NewOthers, NewFile, NewLink, new_kind}
 use Rattle.pua_jointly.specs.JointPlace.{new_bit}
-use Rattle.pua_jointly.specs.JointWords.{word_at, covers_in, landing_word, meets, moves_at, moved_word, apart_word, made_word, with_c}
+use Rattle.pua_jointly.specs.JointWords.{word_at, covers_in, clear_by, landing_word, meets, moves_at, moved_word, apart_word, made_word, with_c}
 use Rattle.pua_jointly.specs.JointWords.{dropped_word, some_meets, making, carrying}
-use Rattle.pua_jointly.specs.JointOld.{above_word, old_word, over_word}
+use Rattle.pua_jointly.specs.JointOld.{above_word, asked_word, old_word}
 use Rattle.pua_jointly.specs.declared.crew.Agent.{Agent}
 use Rattle.pua_jointly.specs.declared.crew.Crew.{Crew}
 use Rattle.pua_jointly.specs.declared.crew.Entry.{Entry}
@@ -42,7 +42,7 @@ is_freed c told (Some row) = is_taken c told row
 
 -- the covers of a name with a veil; some of these is among others, and the name can come to be free
 abbrev pub mark_word : Crew → List ℕ → Agent → Mark → ℕ
-mark_word c told of mark = over_word of.process.now told c.columns mark.dir mark.name.now of.place
+mark_word c told of mark = asked_word of.named of.process.now told c.columns mark.dir mark.name.now of.place
 
 abbrev pub opens : Crew → List ℕ → Agent → ℕ → Mark → Bool
 opens c told of covers mark = is_freed c told mark.row && meets (mark_word c told of mark) covers
@@ -124,7 +124,7 @@ carries_on c told row bit of kind by = has_one (word_at told c.columns row by.pl
 abbrev pub carries_at : Crew → List ℕ → Agent → Entry → Bool
 carries_at c told of entry =
     not (is_dir_kind (Some entry.kind))
-    && meets (over_word of.process.now told c.columns entry.dir entry.name.now of.place) (carrying of entry.kind)
+    && meets (asked_word of.named of.process.now told c.columns entry.dir entry.name.now of.place) (carrying of entry.kind)
 
 abbrev pub can_carry_row : Crew → List ℕ → Agent → Entry → Bool
 can_carry_row c told of entry =
@@ -143,21 +143,23 @@ abbrev pub takes_at : Crew → List ℕ → Entry → Agent → Bool
 takes_at c told entry by =
     by.may_take
     && meets (if is_dir_kind (Some entry.kind) then word_at told c.columns entry.node by.place
-    else over_word by.process.now told c.columns entry.dir entry.name.now by.place) with_c
+    else asked_word by.named by.process.now told c.columns entry.dir entry.name.now by.place) with_c
 
--- the bits in a column of where a directory comes when it is moved
-abbrev pub is_watch_of : ℕ → Watch → Bool
-is_watch_of dir watch = watch.dir == dir
-
-abbrev pub apart_if : Crew → List ℕ → ℕ → ℕ → Watch → ℕ
-apart_if c told dir column watch =
-    if watch.dir == dir then apart_word told c.columns c.agents.items c.seats.items dir watch.column column else 0
+-- the bits in a column of where a directory comes when it is moved, by its own column if it is watched
+abbrev pub come_by : Crew → List ℕ → ℕ → ℕ → Option ℕ → ℕ
+come_by c told dir column None = moved_word told c.columns c.agents.items dir column
+come_by c told dir column (Some watch) = apart_word told c.columns c.agents.items c.seats.items dir watch column
 
 abbrev pub come_word : Crew → List ℕ → ℕ → ℕ → ℕ
-come_word c told dir column =
-    if list_any (is_watch_of dir) c.watches.items
-    then fold (λ word watch. bit_or word (apart_if c told dir column watch)) 0 c.watches.items
-    else moved_word told c.columns c.agents.items dir column
+come_word c told dir column = come_by c told dir column (get_or c.watch_columns.items dir None)
+
+-- whether the one bit of a watched directory's column is among them
+abbrev pub comes_clear_by : Crew → List ℕ → ℕ → ℕ → Option ℕ → Bool
+comes_clear_by c told dir column None = has_one (moved_word told c.columns c.agents.items dir column) 0
+comes_clear_by c told dir column (Some watch) = list_any (clear_by told c.columns c.seats.items dir watch column) c.agents.items
+
+abbrev pub comes_clear : Crew → List ℕ → ℕ → ℕ → Bool
+comes_clear c told dir column = comes_clear_by c told dir column (get_or c.watch_columns.items dir None)
 
 -- the words of a process
 abbrev pub dir_word : Tree → Crew → List ℕ → Agent → ℕ → ℕ
@@ -190,7 +192,7 @@ makers_word c told of =
 abbrev pub clears_dir : Tree → Crew → List ℕ → ℕ → Watch → Bool
 clears_dir t c told dir watch =
     not (dir == watch.dir)
-    && ((dir == 0) || has_one (bit_or (above_word t told c.columns dir watch.column) (come_word c told dir watch.column)) 0)
+    && ((dir == 0) || (has_one (above_word t told c.columns dir watch.column) 0 || comes_clear c told dir watch.column))
 
 abbrev pub clears_new : Crew → List ℕ → ℕ → Agent → Watch → Bool
 clears_new c told row maker watch =

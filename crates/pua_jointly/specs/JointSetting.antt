@@ -1,5 +1,5 @@
 -- What is worked out of a crew and a tree, piece by piece.
-use Rattle.std.specs.Prelude.{◌≡◌, ◌<◌, ◌+◌, ◌^◌, ℕ, suc, Bool, List, Option, Some, None, nat_lt, if◌then◌else◌, IsTrue, map}
+use Rattle.std.specs.Prelude.{◌≡◌, ◌<◌, ◌+◌, ◌^◌, ℕ, suc, Bool, List, Option, Some, None, get_or, nat_lt, if◌then◌else◌, IsTrue, map}
 use Rattle.std.specs.Borrow.{Bor}
 use Rattle.std.specs.List.{Contains, list_any}
 use Rattle.std.specs.List.Sorted.{IsNonDecreasingBy}
@@ -84,3 +84,9 @@ pub record AreWatched (t : Tree) (many dirs : ℕ) (veils : List (Place × ℕ))
   pub each : Each (λ i watch. (watch.dir < dirs) × (watch.column ≡ many + suc i) × IsTrue (is_watched t veils watch.dir)) watches
   pub all : (dir : ℕ) → dir < dirs → IsTrue (is_watched t veils dir) → (watch : Watch) × Contains watches watch × (watch.dir ≡ dir)
   pub once : Once (map (λ watch. watch.dir) watches)
+
+-- and their columns, by the numbers of directories
+pub record AreColumns (watches : List Watch) (columns : List (Option ℕ)) : Type 0 where
+  pub each : (dir column : ℕ) → get_or columns dir None ≡ Some column →
+      (watch : Watch) × Contains watches watch × (watch.dir ≡ dir) × (watch.column ≡ column)
+  pub all : (watch : Watch) → Contains watches watch → get_or columns watch.dir None ≡ Some watch.column

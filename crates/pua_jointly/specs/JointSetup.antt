@@ -8,7 +8,7 @@ use Rattle.pua_policy.specs.declared.place.Place.TheVariants as place
 use Rattle.pua_jointly.specs.JointFacts.{watches}
 use Rattle.pua_jointly.specs.JointTable.{Layout, FollowsAt, TableFits, columns, entities, numbers, table_says}
 use Rattle.pua_jointly.specs.JointPlace.{Once}
-use Rattle.pua_jointly.specs.JointSetting.{AreInOrder}
+use Rattle.pua_jointly.specs.JointSetting.{AreColumns, AreInOrder}
 use Rattle.pua_jointly.specs.JointWords.{AreAgents}
 use Rattle.pua_jointly.specs.declared.crew.Crew.{Crew}
 use Rattle.pua_jointly.specs.declared.crew.Entry.{Entry}
@@ -80,6 +80,7 @@ pub record IsCrew (t : Tree) (table : CallTable) (crew : List ProcessState) (wat
   pub low_nodes : (entry : Entry) → Contains c.entries.items entry → entry.node < dirs_of c
   pub marks : AreMarks t crew (dirs_of c) spots c.marks.items
   pub watches : AreWatches (dirs_of c) (length crew) guarded c.watches.items
+  pub watch_columns : AreColumns c.watches.items c.watch_columns.items
 
 -- of a crew and a tree by themselves
 abbrev pub crew_told : Crew → List ProcessState
@@ -103,3 +104,9 @@ IsWorkedOut t table c =
 
 abbrev pub FollowsTold : Tree → CallTable → Crew → List ℕ → ℕ → ℕ → Type 0
 FollowsTold t table c told at bit = FollowsAt t table (crew_told c) (watches t (crew_told c)) (layout_told c) told at bit
+
+-- what contracts see of the steps by which its table is filled
+pub record RoundsState : Type 0 where
+  pub tree : Tree
+  pub table : CallTable
+  pub crew : Crew

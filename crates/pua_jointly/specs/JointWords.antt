@@ -1,5 +1,5 @@
 -- What follows from the table of a crew, word by word, as the code finds it.
-use Rattle.std.specs.Prelude.{◌≡◌, ◌<◌, ◌+◌, ◌*◌, ◌^◌, ◌==◌, ◌&&◌, ◌||◌, not, ℕ, Bool, List, Some, length, get_or, slice_get}
+use Rattle.std.specs.Prelude.{◌≡◌, ◌<◌, ◌+◌, ◌*◌, ◌^◌, ◌==◌, ◌&&◌, ◌||◌, not, ℕ, Bool, true, false, List, Some, length, get_or, slice_get}
 use Rattle.std.specs.Prelude.{if◌then◌else◌}
 use Rattle.std.specs.Int.{bit_at}
 use Rattle.std.specs.Int.Bits.{bit_and, bit_or}
@@ -7,12 +7,16 @@ use Rattle.std.specs.List.{fold, list_any}
 use Rattle.pua_tree.specs.declared.node.Kind.{Kind}
 use Rattle.pua_tree.specs.declared.node.Kind.TheVariants as kind
 use Rattle.pua_calls.specs.Calls.{CallTable}
-use Rattle.pua_policy.specs.States.{ProcessState}
+use Rattle.pua_policy.specs.States.{ProcessState, veils}
 use Rattle.pua_policy.specs.declared.answer.Cover.{Cover}
+use Rattle.pua_policy.specs.declared.place.Place.{Place}
+use Rattle.pua_policy.specs.declared.place.Place.TheVariants as place
 use Rattle.pua_jointly.specs.Closing.{has_bit}
 use Rattle.pua_ever.specs.Ever.{New, NewDir, NewOthers, NewFile, NewLink, can_move, can_link}
+use Rattle.pua_ever.specs.Prospects.{IsTurnedSet}
 use Rattle.pua_jointly.specs.Jointly.{may_take}
-use Rattle.pua_jointly.specs.JointFacts.{makes_under}
+use Rattle.pua_jointly.specs.JointCovers.{AreCallsByCover}
+use Rattle.pua_jointly.specs.JointFacts.{makes_under, turns_under}
 use Rattle.pua_jointly.specs.JointPlace.{cover_bit}
 use Rattle.pua_jointly.specs.declared.crew.Agent.{Agent}
 
@@ -54,8 +58,16 @@ abbrev pub carrying : Agent → Kind → ℕ
 carrying agent kind.Link = agent.carrying_links
 carrying agent _ = agent.carrying
 
--- what is asked of a process of the crew, by its place: itself, the rows of where it can put directories and other things, and
--- the covers under which it can do something
+-- a process has a veil at a name
+abbrev pub is_name : Place → Bool
+is_name (place.Slot dir name) = true
+is_name (place.Dir dir) = false
+
+abbrev pub has_named : ProcessState → Bool
+has_named h = list_any (λ (veil : Place × ℕ). is_name veil.0) (veils h)
+
+-- what is asked of a process of the crew, by its place: itself, the rows of where it can put directories and other things, the
+-- covers under which it can do something, and what it holds open so that it can make programs of it
 pub record IsAgent (table : CallTable) (dirs many i : ℕ) (b : ProcessState) (agent : Agent) : Type 0 where
   pub process : agent.process.now ≡ b
   pub place : agent.place ≡ i
@@ -65,6 +77,10 @@ pub record IsAgent (table : CallTable) (dirs many i : ℕ) (b : ProcessState) (a
   pub carries : (kind : Kind) → AreCovers (carrying agent kind) (λ k. can_move table b k || can_link table b (Some kind) k)
   pub makes : (new : New) → AreCovers (making agent new) (makes_under table b new)
   pub takes : agent.may_take ≡ may_take table b
+  pub named : agent.named ≡ has_named b
+  pub turning : AreCovers agent.turning (turns_under table b)
+  pub turned : IsTurnedSet b agent.turned
+  pub calls : AreCallsByCover table b agent.calls.items
 
 -- of each process, by its place
 pub record AreAgents (table : CallTable) (crew : List ProcessState) (dirs : ℕ) (agents : List Agent) : Type 0 where
@@ -99,6 +115,16 @@ apart_by told columns seats seat watch of agent =
 abbrev pub apart_word : List ℕ → ℕ → List Agent → List ℕ → ℕ → ℕ → ℕ → ℕ
 apart_word told columns agents seats seat watch of =
     fold (λ word agent. bit_or word (apart_by told columns seats seat watch of agent)) 0 agents
+
+-- whether one of those is one that another watched directory is not above, by the column of that
+abbrev pub clear_at : List ℕ → ℕ → ℕ → ℕ → ℕ → ℕ → Bool
+clear_at told columns by watch of into =
+    (bit_at (word_at told columns into by) 18 == 1)
+    && ((bit_at (word_at told columns into watch) 0 == 1) && (bit_at (word_at told columns into of) 0 == 1))
+
+abbrev pub clear_by : List ℕ → ℕ → List ℕ → ℕ → ℕ → ℕ → Agent → Bool
+clear_by told columns seats seat watch of agent =
+    moves_at told columns seat agent && list_any (clear_at told columns agent.place watch of) seats
 
 -- the covers of what a process makes, by the row of what each can make: where it is made, and where it is moved
 abbrev pub born_at : List ℕ → ℕ → ℕ → Agent → ℕ → ℕ

@@ -37,7 +37,7 @@ use Rattle.pua_script.specs.Tightening.{NoCallNeedsError, Tightens}
 use Rattle.pua_script.specs.Confinement.{TreesAlong, has_c}
 use Rattle.pua_objects.specs.Objects.{At, Others, Item, Subject, items}
 use Rattle.pua_ever.specs.Ever.{EverLine, all_new, has_ever_calls, own_spot, New, NewDir, NewOthers, NewFile, NewLink, Thing, Stands, Comes}
-use Rattle.pua_ever.specs.Ever.{new_kind, is_made_by, is_yes, can_move, can_link, is_exec_call, lasting_dir, removable_dir, turning_calls}
+use Rattle.pua_ever.specs.Ever.{new_kind, is_made_by, is_yes, can_move, can_link, is_exec_call, is_turned_held, lasting_dir, removable_dir, turning_calls}
 use Rattle.pua_ever.specs.Through.{is_bounded, GoAlong}
 use Rattle.pua_ever.specs.Laws.{ForeseesIn, EditsNeedC, VeilsStand, ActsWithin, NoExecLoosens, IsLineOf}
 
@@ -199,16 +199,20 @@ pub record IsJointlyStarted (t : Tree) (table : CallTable) (crew : List ProcessS
   pub shows : Shows t table crew a thing cover IsFile
   pub allowed : IsTrue (is_allowed (covered_verdict empty_tree table a call.Exec cover IsProg))
 
--- a file that stands can come to be a program: by a call that can ever be allowed to some process of the crew, at some name of the file
+-- a call by which a file can come to be a program can ever be allowed to a process at a name of the file
+pub record IsTurnedByCall (t : Tree) (table : CallTable) (crew : List ProcessState) (agent : ProcessState) (row : Spot) (node : ℕ) : Type 0 where
+  pub call : Call
+  pub turns : Contains turning_calls call
+  pub allowed : IsJointlyAllowed t table crew agent (Stands (At (Slot row.0 row.1 (Some node)))) call
+
+-- a file that stands can come to be a program: by such a call to some process of the crew, or by what that holds open
 pub record IsTurned (t : Tree) (table : CallTable) (crew : List ProcessState) (node : ℕ) : Type 0 where
   pub agent : ProcessState
   pub among : Contains crew agent
   pub row : Spot
   pub at : look t row.0 row.1 ≡ Some node
   pub file : kind_at t node ≡ Some kind.File
-  pub call : Call
-  pub turns : Contains turning_calls call
-  pub allowed : IsJointlyAllowed t table crew agent (Stands (At (Slot row.0 row.1 (Some node)))) call
+  pub by : IsTurnedByCall t table crew agent row node ⊎ IsTrue (is_turned_held agent node)
 
 -- a file that is made is made with any mode
 abbrev pub CanTurn : Tree → CallTable → List ProcessState → Thing → Type 0

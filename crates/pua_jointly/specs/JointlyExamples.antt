@@ -1,14 +1,15 @@
 -- Worked rows on what processes with veils of their own can ever touch together, in the tree of the rows through execs.
-use Rattle.std.specs.Prelude.{◌≡◌, ◌+◌, true, List, [], ◌∷◌, Some, None, codes}
+use Rattle.std.specs.Prelude.{◌≡◌, ◌+◌, ℕ, true, false, List, [], ◌∷◌, Some, None, codes}
 use Rattle.pua_path.specs.declared.found.Found.TheVariants.{Slot, Whole}
 use Rattle.pua_path.specs.declared.found.Way.TheVariants.{Named}
-use Rattle.pua_calls.specs.Promises.{rpath, wpath, cpath, exec, unix, reading, writing, executing, creating}
+use Rattle.pua_calls.specs.Promises.{rpath, wpath, cpath, fattr, exec, unix, reading, writing, executing, creating}
 use Rattle.pua_calls.specs.Calls.{openbsd_table, standard_table}
 use Rattle.pua_calls.specs.declared.call.Call.TheVariants as call
+use Rattle.pua_tree.specs.declared.node.Kind.TheVariants.{File}
 use Rattle.pua_policy.specs.States.{ProcessState, new_process}
 use Rattle.pua_policy.specs.declared.place.Place.TheVariants as place
 use Rattle.pua_objects.specs.Objects.{At}
-use Rattle.pua_ever.specs.Ever.{Thing, Stands}
+use Rattle.pua_ever.specs.Ever.{Thing, Stands, is_turned_held}
 use Rattle.pua_ever.specs.ThroughExamples.{started_tree}
 use Rattle.pua_ever.specs.declared.lasting_list.ExecBound.TheVariants.{Bounded, Never, Open}
 use Rattle.pua_jointly.specs.JointRefusals.{first_refusal}
@@ -40,6 +41,18 @@ runner = record new_process { promises = Some exec; veils = (place.Dir 2, execut
 abbrev pub three : List ProcessState
 three = mover ∷ writer ∷ runner ∷ []
 
+-- who has the file in /in open for reading, under no letter, and sets modes by this promise
+abbrev pub opener : ℕ → ProcessState
+opener promise = record new_process {
+  promises = Some promise;
+  veils = (place.Slot 0 (codes "p"), 0) ∷ [];
+  locked = true;
+  files = (5, record { node = 3; kind = File; letters = reading }) ∷ [];
+}
+
+abbrev pub opened : List ProcessState
+opened = mover ∷ opener fattr ∷ runner ∷ []
+
 -- who may take /p away, and who binds a socket there once it is gone: it holds no promise to take a name away
 abbrev pub remover : ProcessState
 remover = record new_process { promises = Some cpath; veils = (place.Slot 0 (codes "p"), creating) ∷ []; locked = true }
@@ -69,6 +82,10 @@ pub record JointlyRows : Type 0 where
   pub unread : IsJointlyAllowed started_tree standard_table crew mover file_in call.OpenRead → ⊥
   -- and one starts what another made a program, where a third brought it
   pub turned : IsJointlyListed started_tree standard_table three runner file_in call.Exec
+  -- or what another one has open, and could alone not start
+  pub held : IsJointlyListed started_tree standard_table opened runner file_in call.Exec
+  pub held_by_fattr : is_turned_held (opener fattr) 3 ≡ true
+  pub held_by_another : is_turned_held (opener rpath) 3 ≡ false
   -- one uses a name that another one frees, and alone could not
   pub freed : IsJointlyAllowed started_tree openbsd_table (remover ∷ binder ∷ []) binder (Stands (At (Slot 0 (codes "p") None))) call.Bind
   -- one reads what another put at a name that it has a veil on, which the first hasn't

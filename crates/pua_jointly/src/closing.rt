@@ -8,23 +8,14 @@ use std::alloc::{AllocError, Global};
 
 /// What follows from the facts of a table, word by word.
 pub(crate) trait Steps {
-    ghost use Rattle.std.specs.Prelude.{◌≡◌, ℕ, ◌<◌, List, length};
+    ghost use Rattle.std.specs.Prelude.{ℕ, List};
     ghost use Rattle.pua_jointly.specs.Closing.{has_bit};
-
-    /// What has to be known of it.
-    ghost known: { Self → Type 0 };
-
-    /// How many words the table has.
-    ghost count: { Self → ℕ };
 
     /// That a fact of a word follows from the facts of a table.
     ghost follows: { Self → List ℕ → ℕ → ℕ → Type 0 };
 
     /// The facts of a word that follow.
     fn next(&self, told: &[u32], at: usize) -> u32
-        requires known { known self.now }
-        requires full { length told.now ≡ count self.now }
-        requires within { at < count self.now }
         ensures only { (bit : ℕ) → has_bit result bit → follows self.now told.now at bit }
         ensures all { (bit : ℕ) → follows self.now told.now at bit → has_bit result bit };
 }
@@ -39,8 +30,6 @@ pub(crate) fn close<S: Steps>(
     first: usize,
     end: usize,
 ) -> Result<Vec<u32>, OutOfMemory>
-    requires known { S.known steps.now }
-    requires count { count ≡ S.count steps.now }
     ensures full { IfOk result (λ told. length told.items ≡ count) }
     ensures closed { IfOk result (λ told. IsClosed (S.follows steps.now) told.items) }
     ensures reached { IfOk result (λ told. AreReached (S.follows steps.now) told.items) }
@@ -66,14 +55,12 @@ fn no_facts(alloc: Global, count: usize) -> Result<Vec<u32>, AllocError>
 /// Adds to the words from a first one to an end what follows, and what follows from that for the
 /// same word.
 fn add_some<S: Steps>(steps: &S, told: &mut Vec<u32>, first: usize, end: usize)
-    requires known { S.known steps.now }
-    requires full { length told.now.items ≡ S.count steps.now }
     ensures full { length told.new.items ≡ length told.old.items }
     ensures reached { AreReached (S.follows steps.now) told.old.items →
         AreReached (S.follows steps.now) told.new.items }
 {
     for at in first..end {
-        if at < told.len() && add_word(steps, told, at) {
+        if add_word(steps, told, at) {
             add_word(steps, told, at);
         }
     }
@@ -81,8 +68,6 @@ fn add_some<S: Steps>(steps: &S, told: &mut Vec<u32>, first: usize, end: usize)
 
 /// Adds to each word what follows; answers whether that was anything.
 fn add_all<S: Steps>(steps: &S, told: &mut Vec<u32>) -> bool
-    requires known { S.known steps.now }
-    requires full { length told.now.items ≡ S.count steps.now }
     ensures full { length told.new.items ≡ length told.old.items }
     ensures reached { AreReached (S.follows steps.now) told.old.items →
         AreReached (S.follows steps.now) told.new.items }
@@ -98,19 +83,19 @@ fn add_all<S: Steps>(steps: &S, told: &mut Vec<u32>) -> bool
     is_changed
 }
 
-/// Adds to a word what follows; answers whether that was anything.
+/// Adds to a word what follows, if the table has it; answers whether that was anything.
 fn add_word<S: Steps>(steps: &S, told: &mut Vec<u32>, at: usize) -> bool
-    requires known { S.known steps.now }
-    requires full { length told.now.items ≡ S.count steps.now }
-    requires within { at < length told.now.items }
     ensures full { length told.new.items ≡ length told.old.items }
     ensures reached { AreReached (S.follows steps.now) told.old.items →
         AreReached (S.follows steps.now) told.new.items }
     ensures same { result ≡ false → told.new.items ≡ told.old.items }
-    ensures closed { result ≡ false → (bit : ℕ) → S.follows steps.now told.new.items at bit →
-        knows told.new.items at bit }
+    ensures closed { result ≡ false → at < length told.new.items → (bit : ℕ) →
+        S.follows steps.now told.new.items at bit → knows told.new.items at bit }
     ensures fewer { result ≡ true → room told.new.items < room told.old.items }
 {
+    if at >= told.len() {
+        return false;
+    }
     let word = told[at] | steps.next(told, at);
     if word == told[at] {
         return false;

@@ -1,19 +1,29 @@
 //! What is asked of several processes and of the tree while their facts are found.
 
-ghost use Rattle.std.specs.Prelude.{◌≡◌, Some};
-ghost use Rattle.pua_tree.specs.Tree.{is_dir_kind, spot_cmp};
+ghost use Rattle.std.specs.Prelude.{◌≡◌, ◌<◌, Some};
+ghost use Rattle.std.specs.List.{list_any};
+ghost use Rattle.pua_tree.specs.Tree.{empty_tree, is_dir_kind, spot_cmp};
+ghost use Rattle.pua_calls.specs.CallSets.{has as has_call};
+ghost use Rattle.pua_calls.specs.declared.call.Call.{Call as AnyCall};
+ghost use Rattle.pua_policy.specs.Objects.{object_seen};
+ghost use Rattle.pua_policy.specs.Verdict.{Object as Judged, covered_verdict, is_allowed};
 ghost use Rattle.pua_ever.specs.EverLines.{new_of};
+ghost use Rattle.pua_jointly.specs.JointCovers.{AreCallsByCover, allows_under, cover_of, numbered};
 ghost use Rattle.pua_jointly.specs.JointSetting.{AreInOrder, IsEntryIn, entry_of};
 ghost use Rattle.pua_jointly.specs.JointWords.{carrying as carrying_of, making as making_of};
 
+use crate::doing::{Allowed, COUNT, cover_at};
 use crate::shape::Shape;
+use crate::words::has;
+use pua_calls::{CallTable, Calls};
 use pua_ever::Made;
-use pua_policy::Process;
+use pua_policy::{Cover, Object, Process, judge};
 use pua_tree::{Kind, Name, NodeId};
 use std::cmp::Ordering;
+use std::collections::BTreeSet;
 
 /// What is asked of a process of the crew. Covers are kept as bits.
-#[derive(Clone, Copy)]
+#[derive(Drop)]
 pub(crate) struct Agent<'t> {
     /// The process.
     pub(crate) process: &'t Process,
@@ -23,6 +33,8 @@ pub(crate) struct Agent<'t> {
     pub(crate) landing: usize,
     /// The row of where it can put other things.
     pub(crate) drops: usize,
+    /// Whether it has a veil at a name.
+    pub(crate) named: bool,
     /// Whether it may take a name away.
     pub(crate) may_take: bool,
     /// The covers under which it can move something.
@@ -37,9 +49,46 @@ pub(crate) struct Agent<'t> {
     pub(crate) making_files: u32,
     /// Those under which it can make a link.
     pub(crate) making_links: u32,
+    /// Those under which it can make a file a program.
+    pub(crate) turning: u32,
+    /// The numbers of the nodes that it holds open so that it can make programs of them.
+    pub(crate) turned: BTreeSet<u32>,
+    /// The calls that are allowed to it under each cover.
+    pub(crate) calls: Vec<Allowed>,
 }
 
 impl Agent<'_> {
+    /// The calls that are allowed to it on such an object under one of these covers.
+    pub(crate) fn calls_under(&self, table: &CallTable, covers: u32, object: Object) -> Calls
+        ensures { AreCallsByCover table.now self.now.process.now self.now.calls.items →
+            (judged : Judged) → object ≡ object_seen empty_tree judged → (call : AnyCall) →
+            has_call result call ≡ list_any
+            (allows_under table.now self.now.process.now covers judged call) (numbered 18) }
+    {
+        let mut calls = Calls::NONE;
+        for bit in 0..COUNT {
+            if has(covers, bit) {
+                let more = self.calls_at(table, bit, cover_at(bit), object);
+                calls = calls.union(more);
+            }
+        }
+        calls
+    }
+
+    /// Those under a cover, the one of a bit.
+    fn calls_at(&self, table: &CallTable, bit: u32, cover: Cover, object: Object) -> Calls
+        ensures { cover ≡ cover_of bit →
+            AreCallsByCover table.now self.now.process.now self.now.calls.items →
+            (judged : Judged) → object ≡ object_seen empty_tree judged → (call : AnyCall) →
+            has_call result call ≡ is_allowed
+            (covered_verdict empty_tree table.now self.now.process.now call (cover_of bit) judged) }
+    {
+        match self.calls.get(bit as usize) {
+            Some(allowed) => allowed.on(object),
+            None => judge::allowed(self.process, table, cover, object),
+        }
+    }
+
     /// The covers under which it can make something.
     pub(crate) fn making(&self, made: Made) -> u32
         ensures { result ≡ making_of self.now (new_of made) }
@@ -158,4 +207,6 @@ pub(crate) struct Crew<'t> {
     pub(crate) marks: Vec<Mark<'t>>,
     /// The watched directories.
     pub(crate) watches: Vec<Watch>,
+    /// The column of each directory that is watched, by its number.
+    pub(crate) watch_columns: Vec<Option<usize>>,
 }

@@ -1,26 +1,22 @@
 //! Covers as bits, and what a process can do under each of them.
 
-ghost use Rattle.std.specs.Prelude.{◌≡◌, ◌<◌, ◌&&◌, ◌==◌, if◌then◌else◌};
+ghost use Rattle.std.specs.Prelude.{◌≡◌, ◌<◌, ◌==◌, if◌then◌else◌, IfOk};
 ghost use Rattle.std.specs.Int.{bit_at};
-ghost use Rattle.std.specs.List.{list_any};
-ghost use Rattle.pua_tree.specs.Tree.{Tree, empty_tree};
-ghost use Rattle.pua_calls.specs.CallSets.{has as has_call};
-ghost use Rattle.pua_calls.specs.declared.call.Call.{Call as AnyCall};
-ghost use Rattle.pua_policy.specs.Objects.{object_seen};
-ghost use Rattle.pua_policy.specs.Verdict.{Object as Judged, covered_verdict, is_allowed};
-ghost use Rattle.pua_jointly.specs.JointCovers.{allows_under, cover_of, does, numbered};
+ghost use Rattle.pua_jointly.specs.JointCovers.{AreCallsByCover, AreCallsUnder, calls_on, cover_of};
+ghost use Rattle.pua_jointly.specs.JointCovers.{does};
 ghost use Rattle.pua_jointly.specs.JointWords.{AreCovers};
 ghost use Rattle.pua_jointly.specs.Jointly.{may_take as takes};
 
 use crate::rounds::flag;
 use crate::words::has;
 use pua_calls::{Call, CallTable, Calls, Perms};
-use pua_ever::{Made, can_link, can_move, may_any};
+use pua_ever::{Made, can_link, can_move, can_turn, may_any};
 use pua_policy::{Cover, Object, Process, judge};
 use pua_tree::Kind;
+use std::alloc::{AllocError, Global};
 
 /// How many covers there are: everything, nothing, and the permissions of a veil.
-const COUNT: u32 = 18;
+pub(crate) const COUNT: u32 = 18;
 
 /// What a process does that asks for a cover.
 #[derive(Clone, Copy)]
@@ -31,6 +27,8 @@ pub(crate) enum Doing {
     Carrying(Kind),
     /// It makes such a thing.
     Making(Made),
+    /// It makes a file a program.
+    Turning,
 }
 
 impl Doing {
@@ -46,6 +44,62 @@ impl Doing {
             Doing::Making(made) => {
                 made.is_made_by(judge::allowed(process, table, cover, Object::Missing))
             }
+            Doing::Turning => {
+                can_turn(judge::allowed(process, table, cover, Object::Node(Kind::File)))
+            }
+        }
+    }
+}
+
+/// The calls that are allowed to a process under a cover, by what they are on.
+#[derive(Clone, Copy)]
+pub(crate) struct Allowed {
+    /// On a name where nothing stands.
+    missing: Calls,
+    /// On a directory that can be removed.
+    removable: Calls,
+    /// On a directory.
+    dir: Calls,
+    /// On a file.
+    file: Calls,
+    /// On a program.
+    program: Calls,
+    /// On a link.
+    link: Calls,
+}
+
+impl Allowed {
+    /// Those of a process under a cover.
+    fn under(process: &Process, table: &CallTable, cover: &Cover) -> Allowed
+        ensures { AreCallsUnder table.now process.now cover.now result }
+    {
+        let missing = judge::allowed(process, table, *cover, Object::Missing);
+        let removable = judge::allowed(process, table, *cover, Object::Removable);
+        let dir = judge::allowed(process, table, *cover, Object::Node(Kind::Dir));
+        let file = judge::allowed(process, table, *cover, Object::Node(Kind::File));
+        let program = judge::allowed(process, table, *cover, Object::Node(Kind::Prog));
+        let link = judge::allowed(process, table, *cover, Object::Node(Kind::Link));
+        Allowed {
+            missing,
+            removable,
+            dir,
+            file,
+            program,
+            link,
+        }
+    }
+
+    /// Those on such an object.
+    pub(crate) fn on(&self, object: Object) -> Calls
+        ensures { result ≡ calls_on self.now object }
+    {
+        match object {
+            Object::Missing => self.missing,
+            Object::Removable => self.removable,
+            Object::Node(Kind::Dir) => self.dir,
+            Object::Node(Kind::File) => self.file,
+            Object::Node(Kind::Prog) => self.program,
+            Object::Node(Kind::Link) => self.link,
         }
     }
 }
@@ -61,29 +115,24 @@ pub(crate) fn covers_for(process: &Process, table: &CallTable, doing: Doing) -> 
     word
 }
 
-/// The calls that are allowed to a process on such an object under one of these covers.
-pub(crate) fn calls_under(
+/// The calls that are allowed to a process under each cover, by its bit. The only error is that a
+/// growth was refused.
+pub(crate) fn calls_by_cover(
+    alloc: Global,
     process: &Process,
     table: &CallTable,
-    covers: u32,
-    object: Object,
-) -> Calls
-    ensures { (judged : Judged) → object ≡ object_seen empty_tree judged → (call : AnyCall) →
-        has_call result call ≡ list_any
-        (allows_under table.now process.now covers judged call) (numbered 18) }
+) -> Result<Vec<Allowed>, AllocError>
+    ensures { IfOk result (λ calls. AreCallsByCover table.now process.now calls.items) }
 {
-    let mut calls = Calls::NONE;
+    let mut calls = Vec::new(alloc);
     for bit in 0..COUNT {
-        if has(covers, bit) {
-            let more = judge::allowed(process, table, cover_at(bit), object);
-            calls = calls.union(more);
-        }
+        calls.push(Allowed::under(process, table, &cover_at(bit)))?;
     }
-    calls
+    Ok(calls)
 }
 
 /// The cover of a bit.
-fn cover_at(bit: u32) -> Cover
+pub(crate) fn cover_at(bit: u32) -> Cover
     requires { bit < 18 }
     ensures { result ≡ cover_of bit }
 {

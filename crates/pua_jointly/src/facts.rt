@@ -10,14 +10,12 @@ ghost use Rattle.pua_jointly.specs.JointRounds.{is_taken, stays_in};
 ghost use Rattle.pua_jointly.specs.JointWords.{covers_in, word_at};
 
 use crate::crew::{Agent, Crew, Entry};
-use crate::doing::calls_under;
 use crate::made::made_bit;
+use crate::marks::{is_marked, mark, no_marks};
 use crate::old::over;
 use crate::rounds::{CARRIES, GOES};
-use crate::words::{covers_at, has, word};
-use pua_calls::CallTable;
-use pua_ever::{Made, can_turn};
-use pua_policy::Object;
+use crate::words::{covers_at, does_meet, has, word};
+use pua_ever::Made;
 use pua_tree::{Kind, NodeId};
 use std::alloc::{AllocError, Global};
 
@@ -74,16 +72,8 @@ impl Facts<'_> {
     pub(crate) fn on_entry(&self, of: &Agent<'_>, entry: &Entry<'_>) -> u32
         ensures { result ≡ entry_word self.now.crew self.now.told.items of.now entry.now }
     {
-        let crew = &self.crew;
-        let told = &self.told;
-        over(
-            of.process,
-            told,
-            crew.columns,
-            entry.dir,
-            entry.name,
-            of.place,
-        ) | self.carried(of, entry.row, GOES)
+        over(&self.told, self.crew.columns, of, entry.dir, entry.name)
+            | self.carried(of, entry.row, GOES)
     }
 
     /// Those under which others put what they can carry, by the row and the bit that say so.
@@ -167,33 +157,32 @@ impl Facts<'_> {
     }
 
     /// The same by what is allowed on what stands at a name.
-    fn turns(&self, table: &CallTable, entry: &Entry<'_>) -> bool
-        ensures { result ≡ turns table.now self.now.crew self.now.told.items entry.now }
+    fn turns(&self, entry: &Entry<'_>) -> bool
+        ensures { result ≡ turns self.now.crew self.now.told.items entry.now }
     {
         match entry.kind {
-            Kind::File => self.is_turned_by_some(table, entry),
+            Kind::File => self.is_turned_by_some(entry),
             Kind::Dir | Kind::Prog | Kind::Link => false,
         }
     }
 
-    /// Whether a call by which it can come to be a program is allowed to one of the processes.
-    fn is_turned_by_some(&self, table: &CallTable, entry: &Entry<'_>) -> bool
-        ensures { result
-            ≡ list_any (turned_by table.now self.now.crew self.now.told.items entry.now) self.now.crew.agents.items }
+    /// Whether a call by which it can come to be a program is allowed to one of the processes, or
+    /// that holds it open so that it can.
+    fn is_turned_by_some(&self, entry: &Entry<'_>) -> bool
+        ensures { result ≡ list_any (turned_by self.now.crew self.now.told.items entry.now)
+            self.now.crew.agents.items }
     {
         self.crew
             .agents
             .iter()
-            .any(|by| self.is_turned_by(table, entry, by))
+            .any(|by| self.is_turned_by(entry, by))
     }
 
     /// Whether it is so to this one.
-    fn is_turned_by(&self, table: &CallTable, entry: &Entry<'_>, by: &Agent<'_>) -> bool
-        ensures { result
-            ≡ turned_by table.now self.now.crew self.now.told.items entry.now by.now }
+    fn is_turned_by(&self, entry: &Entry<'_>, by: &Agent<'_>) -> bool
+        ensures { result ≡ turned_by self.now.crew self.now.told.items entry.now by.now }
     {
-        let covers = self.on_entry(by, entry);
-        can_turn(calls_under(by.process, table, covers, Object::Node(Kind::File)))
+        does_meet(self.on_entry(by, entry), by.turning) || by.turned.contains(&entry.node.number())
     }
 
     /// The directories in which something stays, and the files that can be made programs, by their
@@ -201,52 +190,21 @@ impl Facts<'_> {
     pub(crate) fn marks(
         &self,
         alloc: Global,
-        table: &CallTable,
         entries: &[Entry<'_>],
         count: usize,
     ) -> Result<(Vec<bool>, Vec<bool>), AllocError>
         ensures held { IfOk result (λ both.
             AreMarked (stays_in self.now.crew self.now.told.items) entries.now count both.0.items) }
         ensures turned { IfOk result (λ both. AreMarked
-            (turns_in table.now self.now.crew self.now.told.items) entries.now count both.1.items) }
+            (turns_in self.now.crew self.now.told.items) entries.now count both.1.items) }
     {
         let mut held = no_marks(alloc, count)?;
         let mut turned = no_marks(alloc, count)?;
         for entry in entries {
             let stays = !self.crew.is_taken(&self.told, entry.row);
             mark(&mut held, entry.dir, stays);
-            mark(&mut turned, entry.node, self.turns(table, entry));
+            mark(&mut turned, entry.node, self.turns(entry));
         }
         Ok((held, turned))
-    }
-}
-
-/// So many numbers without a mark. The only error is that a growth was refused.
-fn no_marks(alloc: Global, count: usize) -> Result<Vec<bool>, AllocError>
-    ensures full { IfOk result (λ marked. length marked.items ≡ count) }
-    ensures none { IfOk result (λ marked. (at : ℕ) → get_or marked.items at false ≡ false) }
-{
-    vec![in alloc; false; count]
-}
-
-/// Marks a number, if it is so of it.
-fn mark(marked: &mut Vec<bool>, number: NodeId, is: bool)
-    ensures full { length marked.new.items ≡ length marked.old.items }
-    ensures marked { (at : ℕ) → at < length marked.old.items → get_or marked.new.items at false
-        ≡ (get_or marked.old.items at false || (number == at && is)) }
-{
-    let place = number.number() as usize;
-    if is && place < marked.len() {
-        marked[place] = true;
-    }
-}
-
-/// Whether a number has a mark.
-fn is_marked(marked: &[bool], number: NodeId) -> bool
-    ensures { result ≡ get_or marked.now number false }
-{
-    match marked.get(number.number() as usize) {
-        Some(is) => *is,
-        None => false,
     }
 }

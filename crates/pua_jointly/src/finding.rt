@@ -16,6 +16,7 @@ use pua_ever::{EverRefusal, why_refused};
 use pua_policy::Process;
 use pua_tree::{FileTree, OutOfMemory};
 use std::alloc::Global;
+use std::marker::Model;
 
 /// Finds the facts of several processes in a tree, by a table of what calls need: all that they can
 /// come to do by doing of their own, all of them together, if no exec of theirs lets them do more,
@@ -89,7 +90,7 @@ pub(crate) fn facts_of<'t, T: FileTree>(
         held: Vec::new(alloc),
         turned: Vec::new(alloc),
     };
-    let (held, turned) = facts.marks(alloc, table, &facts.crew.entries, last + 1)?;
+    let (held, turned) = facts.marks(alloc, &facts.crew.entries, last + 1)?;
     facts.held = held;
     facts.turned = turned;
     Ok(facts)
@@ -110,7 +111,8 @@ fn words_of(crew: &Crew<'_>, last: usize) -> usize {
     crew.columns.saturating_mul(last.saturating_add(1))
 }
 
-/// What follows from a table of facts, by what has been worked out of a crew and a tree.
+/// What follows from a table of facts, by what has been worked out of a crew and a tree. Contracts
+/// see these and the table of calls.
 #[derive(Drop)]
 struct Rounds<'c, 't, T: FileTree> {
     tree: &'c T,
@@ -118,16 +120,25 @@ struct Rounds<'c, 't, T: FileTree> {
     crew: &'c Crew<'t>,
 }
 
+impl<'c, 't, T: FileTree> Model for Rounds<'c, 't, T> {
+    ghost use Rattle.pua_jointly.specs.JointSetup.{IsWorkedOut, RoundsState};
+
+    ghost Value = { RoundsState };
+
+    ghost view = { λ a. record {
+      tree = T.content a.tree.now;
+      table = a.table.now;
+      crew = a.crew.now;
+    } };
+
+    ghost invariant = { λ a. IsWorkedOut (T.content a.tree.now) a.table.now a.crew.now };
+}
+
 impl<T: FileTree> Steps for Rounds<'_, '_, T> {
-    ghost use Rattle.pua_jointly.specs.JointSetup.{FollowsTold, IsWorkedOut, count_told};
+    ghost use Rattle.pua_jointly.specs.JointSetup.{FollowsTold};
 
-    ghost known = { λ rounds. IsWorkedOut (T.content rounds.tree.now) rounds.table.now
-        rounds.crew.now };
-
-    ghost count = { λ rounds. count_told rounds.crew.now };
-
-    ghost follows = { λ rounds told at bit. FollowsTold (T.content rounds.tree.now) rounds.table.now
-        rounds.crew.now told at bit };
+    ghost follows = { λ rounds told at bit. FollowsTold rounds.tree rounds.table rounds.crew told
+        at bit };
 
     fn next(&self, told: &[u32], at: usize) -> u32 {
         let crew = self.crew;

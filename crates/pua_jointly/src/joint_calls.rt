@@ -21,7 +21,6 @@ ghost use Rattle.pua_jointly.specs.Jointly.{agents_of};
 ghost use Rattle.pua_jointly.specs.JointSetting.{AreInOrder, IsEntryIn};
 
 use crate::crew::{Agent, Entry, Group, entry_at};
-use crate::doing::calls_under;
 use crate::facts::Facts;
 use pua_calls::{CallTable, Calls};
 use pua_ever::{Made, on_new_file, own_name};
@@ -108,11 +107,11 @@ impl Facts<'_> {
             AreCallsOf t table.now crew a (Stands (At (Whole dir way))) result }
     {
         let covers = self.on_dir(of, dir);
-        let lasting = calls_under(of.process, table, covers, Object::Node(Kind::Dir));
+        let lasting = of.calls_under(table, covers, Object::Node(Kind::Dir));
         if !self.is_removable(dir) {
             return lasting;
         }
-        let emptied = calls_under(of.process, table, covers, Object::Removable);
+        let emptied = of.calls_under(table, covers, Object::Removable);
         lasting.union(emptied)
     }
 
@@ -129,7 +128,7 @@ impl Facts<'_> {
             IsOf t table.now crew self.now a of.now → is_dir t dir ≡ true →
             AreCallsOf t table.now crew a (Stands (Others dir)) result }
     {
-        calls_under(of.process, table, self.on_dir(of, dir), Object::Missing)
+        of.calls_under(table, self.on_dir(of, dir), Object::Missing)
     }
 
     /// Those on a name at which no directory stands.
@@ -161,11 +160,11 @@ impl Facts<'_> {
             (Stands (At (Slot entry.now.dir entry.now.name.now (Some entry.now.node)))) result }
     {
         let covers = self.on_entry(of, entry);
-        let calls = calls_under(of.process, table, covers, Object::Node(entry.kind));
+        let calls = of.calls_under(table, covers, Object::Node(entry.kind));
         if !self.is_turned(entry.node) {
             return kept_by(entry.kind, calls);
         }
-        let started = calls_under(of.process, table, covers, Object::Node(Kind::Prog));
+        let started = of.calls_under(table, covers, Object::Node(Kind::Prog));
         on_new_file(calls, started)
     }
 
@@ -180,6 +179,9 @@ impl Facts<'_> {
         let Some(own) = own_name(item) else {
             return Calls::NONE;
         };
+        if !of.named {
+            return Calls::NONE;
+        }
         let Some(entry) = self.entry(own.0, own.1) else {
             return Calls::NONE;
         };
@@ -196,17 +198,17 @@ impl Facts<'_> {
             AreCallsOf t table.now crew a (Comes (new_of made)) result }
     {
         match made {
-            Made::Dir => calls_under(of.process, table, self.on_made_dir(of), Object::Removable),
-            Made::Others => calls_under(of.process, table, self.on_made_dir(of), Object::Missing),
+            Made::Dir => of.calls_under(table, self.on_made_dir(of), Object::Removable),
+            Made::Others => of.calls_under(table, self.on_made_dir(of), Object::Missing),
             Made::File => {
                 let covers = self.on_made(of, Made::File);
-                let calls = calls_under(of.process, table, covers, Object::Node(Kind::File));
-                let started = calls_under(of.process, table, covers, Object::Node(Kind::Prog));
+                let calls = of.calls_under(table, covers, Object::Node(Kind::File));
+                let started = of.calls_under(table, covers, Object::Node(Kind::Prog));
                 on_new_file(calls, started)
             }
             Made::Link => {
                 let covers = self.on_made(of, Made::Link);
-                let calls = calls_under(of.process, table, covers, Object::Node(Kind::Link));
+                let calls = of.calls_under(table, covers, Object::Node(Kind::Link));
                 calls.keeping()
             }
         }

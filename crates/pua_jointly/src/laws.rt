@@ -1,7 +1,7 @@
 //! Laws and worked examples, each the contract of a function that does nothing.
 
 ghost use Rattle.pua_jointly.specs.JointLasting.{JointlyTold};
-ghost use Rattle.pua_jointly.specs.JointStarts.{JointStartsListed};
+ghost use Rattle.pua_jointly.specs.JointStarts.{JointHeldListed, JointStartsListed};
 ghost use Rattle.pua_jointly.specs.JointTable.{TableLaw};
 ghost use Rattle.pua_jointly.specs.Jointly.{JointListsGrow, JointlyAfterRead, JointlyComplete};
 ghost use Rattle.pua_jointly.specs.Jointly.{JointlyGrows, JointlyLasts, JointlyThrough};
@@ -15,7 +15,7 @@ ghost use Rattle.pua_jointly.specs.JointlyExamples.{JointlyRows};
 /// So it is of a list as it is printed, of a process and of what it starts where that counts, as
 /// long as no exec is answered ok of those who start what isn't bounded. Who has more help has no
 /// less in its list. A file on which exec would be allowed to one of them, were it a program, has
-/// exec in its list, if a call of any of them could make it one.
+/// exec in its list, if a call of any of them could make it one, or what one of them held open.
 pub fn jointly_law()
     ensures within { JointlyWithin }
     ensures complete { JointlyComplete }
@@ -25,6 +25,7 @@ pub fn jointly_law()
     ensures grows { JointlyGrows }
     ensures lists { JointListsGrow }
     ensures starts { JointStartsListed }
+    ensures held { JointHeldListed }
     ensures told { JointlyTold }
 {}
 

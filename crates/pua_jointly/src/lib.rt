@@ -12,12 +12,14 @@ mod joint_calls;
 mod joint_list;
 mod laws;
 mod made;
+mod marks;
 mod members;
 mod old;
 mod rounds;
 mod setup;
 mod shape;
 mod starting;
+mod watching;
 mod words;
 
 pub use counting::{Actor, Counted, find_counted, worst};

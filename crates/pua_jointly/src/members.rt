@@ -4,13 +4,13 @@ ghost use Rattle.std.specs.Prelude.{◌≡◌, ◌<◌, map, flat_map, IfOk};
 ghost use Rattle.std.specs.Bool.{Decides};
 ghost use Rattle.std.specs.List.{Contains};
 ghost use Rattle.pua_policy.specs.States.{veils as veils_of};
-ghost use Rattle.pua_jointly.specs.JointMembers.{AreSmall, SameMembers, has_same_state, same_veil, states};
-ghost use Rattle.pua_jointly.specs.JointMembers.{veil_now};
+ghost use Rattle.pua_jointly.specs.JointMembers.{AreSmall, SameMembers, file_now, has_same_state};
+ghost use Rattle.pua_jointly.specs.JointMembers.{kind_number, same_file, same_veil, states, veil_now};
 ghost use Rattle.pua_jointly.specs.JointPlace.{Once};
 
 use pua_calls::Perms;
-use pua_policy::{Place, Process};
-use pua_tree::OutOfMemory;
+use pua_policy::{OpenFile, Place, Process};
+use pua_tree::{Kind, OutOfMemory};
 use std::alloc::{AllocError, Global};
 
 /// The processes, of equal ones one. The only error is that a growth was refused.
@@ -47,12 +47,62 @@ fn has_equal(alloc: Global, kept: &[&Process], process: &Process) -> Result<bool
 pub(crate) fn is_equal(alloc: Global, one: &Process, other: &Process) -> Result<bool, OutOfMemory>
     ensures { IfOk result (λ is. Decides is (one.now ≡ other.now)) }
 {
+    let alike = have_same_files(alloc, one, other)?;
+    if !alike {
+        return Ok(false);
+    }
     let own = one.veils(alloc)?;
     let others = other.veils(alloc)?;
     Ok(has_same_state(one, other) && are_same(&own, &others))
 }
 
-/// Whether two processes are equal but for their veils.
+/// Whether two processes have the same files open. The only error is that a growth was refused.
+fn have_same_files(alloc: Global, one: &Process, other: &Process) -> Result<bool, OutOfMemory>
+    ensures { IfOk result (λ is. Decides is (one.now.files ≡ other.now.files)) }
+{
+    let own = one.files(alloc)?;
+    let others = other.files(alloc)?;
+    Ok(are_same_files(&own, &others))
+}
+
+/// Whether these open files are the same, by the numbers of their descriptors.
+fn are_same_files(own: &[(&u32, &OpenFile)], others: &[(&u32, &OpenFile)]) -> bool
+    ensures { Decides result (map file_now own.now ≡ map file_now others.now) }
+{
+    if own.len() != others.len() {
+        return false;
+    }
+    for (place, file) in own.iter().enumerate() {
+        if !is_same_file(file, &others[place]) {
+            return false;
+        }
+    }
+    true
+}
+
+/// Whether two descriptors stand for the same open file.
+fn is_same_file(one: &(&u32, &OpenFile), other: &(&u32, &OpenFile)) -> bool
+    ensures { result ≡ same_file (file_now one.now) (file_now other.now) }
+{
+    one.0 == other.0
+        && one.1.node == other.1.node
+        && kind_number(one.1.kind) == kind_number(other.1.kind)
+        && one.1.letters == other.1.letters
+}
+
+/// A number for each kind.
+fn kind_number(kind: Kind) -> u32
+    ensures { result ≡ kind_number kind }
+{
+    match kind {
+        Kind::Dir => 0,
+        Kind::File => 1,
+        Kind::Prog => 2,
+        Kind::Link => 3,
+    }
+}
+
+/// Whether two processes are equal but for their veils and open files.
 fn has_same_state(one: &Process, other: &Process) -> bool
     ensures { result ≡ has_same_state one.now other.now }
 {

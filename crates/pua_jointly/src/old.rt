@@ -1,8 +1,10 @@
 //! The covers of a directory of the beginning that follow from the table of a crew.
 
-ghost use Rattle.std.specs.Prelude.{◌≡◌};
-ghost use Rattle.pua_jointly.specs.JointOld.{above_word, cover_word, old_word, over_word, root_word};
+ghost use Rattle.std.specs.Prelude.{◌≡◌, if◌then◌else◌};
+ghost use Rattle.pua_jointly.specs.JointOld.{above_word, asked_word, cover_word, old_word};
+ghost use Rattle.pua_jointly.specs.JointOld.{over_word, root_word};
 
+use crate::crew::Agent;
 use crate::words::covers_at;
 use pua_policy::{Cover, Place, Process};
 use pua_tree::{FileTree, Kind, Name, NodeId};
@@ -29,8 +31,20 @@ pub(crate) fn old<T: FileTree>(
 }
 
 /// The covers by the veils of one process of a name at which no directory stands, in a directory
-/// that stands.
-pub(crate) fn over(
+/// that stands. Its veils are asked only where it has one at a name.
+pub(crate) fn over(told: &[u32], columns: usize, of: &Agent<'_>, dir: NodeId, name: &Name) -> u32
+    ensures { result ≡ asked_word of.now.named of.now.process.now told.now columns dir name.now
+        of.now.place }
+{
+    if of.named {
+        over_asked(of.process, told, columns, dir, name, of.place)
+    } else {
+        covers_at(told, columns, dir.number() as usize, of.place)
+    }
+}
+
+/// The same where its veils are asked.
+fn over_asked(
     process: &Process,
     told: &[u32],
     columns: usize,

@@ -1,31 +1,32 @@
 //! What follows from the table of a crew, by what a word of it is about.
 
-ghost use Rattle.std.specs.Prelude.{◌≡◌, ◌<◌, if◌then◌else◌, Some};
+ghost use Rattle.std.specs.Prelude.{◌≡◌, ◌<◌, if◌then◌else◌, None, Some, get_or};
 ghost use Rattle.std.specs.Int.Bits.{bit_or};
 ghost use Rattle.std.specs.List.{fold, list_any};
 ghost use Rattle.pua_tree.specs.Tree.{is_dir_kind};
 ghost use Rattle.pua_policy.specs.States.{perms_kept};
 ghost use Rattle.pua_ever.specs.EverLines.{new_of};
-ghost use Rattle.pua_jointly.specs.JointOld.{over_word};
+ghost use Rattle.pua_jointly.specs.JointOld.{asked_word};
 ghost use Rattle.pua_jointly.specs.JointWords.{word_at};
-ghost use Rattle.pua_jointly.specs.JointRounds.{agent_word, apart_if, brings, can_carry_new};
-ghost use Rattle.pua_jointly.specs.JointRounds.{can_carry_row, can_create, can_enter, can_turn};
-ghost use Rattle.pua_jointly.specs.JointRounds.{carried_flag, carried_word, carries_at, carries_born};
-ghost use Rattle.pua_jointly.specs.JointRounds.{carries_on, clears_dir, clears_landing, clears_new};
-ghost use Rattle.pua_jointly.specs.JointRounds.{come_word, comes_in, common_word, create_flag};
-ghost use Rattle.pua_jointly.specs.JointRounds.{dir_word, drops_word, finds, flag, gives_c, is_clear};
-ghost use Rattle.pua_jointly.specs.JointRounds.{is_freed, is_taken, is_turned, is_watch_of};
-ghost use Rattle.pua_jointly.specs.JointRounds.{makers_word, mark_word, new_word, opens, opens_in};
-ghost use Rattle.pua_jointly.specs.JointRounds.{part_word, put_at, replaces, stands_in, stays_in};
-ghost use Rattle.pua_jointly.specs.JointRounds.{takes_at, turns_at, watched_word};
+ghost use Rattle.pua_jointly.specs.JointRounds.{agent_word, brings, can_carry_new, can_carry_row};
+ghost use Rattle.pua_jointly.specs.JointRounds.{can_create, can_enter, can_turn, carried_flag};
+ghost use Rattle.pua_jointly.specs.JointRounds.{carried_word, carries_at, carries_born};
+ghost use Rattle.pua_jointly.specs.JointRounds.{carries_on, clears_dir, clears_landing};
+ghost use Rattle.pua_jointly.specs.JointRounds.{clears_new, come_word, comes_clear, comes_in};
+ghost use Rattle.pua_jointly.specs.JointRounds.{common_word, create_flag, dir_word, drops_word};
+ghost use Rattle.pua_jointly.specs.JointRounds.{finds, flag, gives_c, is_clear, is_freed};
+ghost use Rattle.pua_jointly.specs.JointRounds.{is_taken, is_turned, makers_word, mark_word};
+ghost use Rattle.pua_jointly.specs.JointRounds.{new_word, opens, opens_in, part_word, put_at};
+ghost use Rattle.pua_jointly.specs.JointRounds.{replaces, stands_in, stays_in, takes_at};
+ghost use Rattle.pua_jointly.specs.JointRounds.{turns_at, watched_word};
 
 use crate::crew::{Agent, Crew, Entry, Mark, Watch};
 use crate::made::{made_bit, made_node};
 use crate::old::{above, old, over};
 use crate::shape::{Part, Row};
 use crate::words::{
-    CLEAR, ENTERS, WITH_C, apart, covers_of, covers_some, does_meet, dropped, has, landing, made,
-    moved, moves, word,
+    CLEAR, ENTERS, WITH_C, apart, covers_of, covers_some, does_meet, dropped, has, is_clear_apart,
+    landing, made, moved, moves, word,
 };
 use pua_ever::{Made, has_c};
 use pua_policy::{Cover, Place};
@@ -425,14 +426,7 @@ impl Crew<'_> {
         if entry.kind == Kind::Dir {
             return false;
         }
-        let covers = over(
-            of.process,
-            told,
-            self.columns,
-            entry.dir,
-            entry.name,
-            of.place,
-        );
+        let covers = over(told, self.columns, of, entry.dir, entry.name);
         does_meet(covers, of.carrying(entry.kind))
     }
 
@@ -506,72 +500,42 @@ impl Crew<'_> {
     fn over_entry(&self, told: &[u32], entry: &Entry<'_>, of: &Agent<'_>) -> u32
         ensures { result ≡ (if is_dir_kind (Some entry.now.kind)
             then word_at told.now self.now.columns entry.now.node of.now.place
-            else over_word of.now.process.now told.now self.now.columns entry.now.dir
+            else asked_word of.now.named of.now.process.now told.now self.now.columns entry.now.dir
             entry.now.name.now of.now.place) }
     {
         if entry.kind == Kind::Dir {
             return word(told, self.columns, entry.node.number() as usize, of.place);
         }
-        over(
-            of.process,
-            told,
-            self.columns,
-            entry.dir,
-            entry.name,
-            of.place,
-        )
+        over(told, self.columns, of, entry.dir, entry.name)
     }
 
     /// The bits in a column of where a directory comes when it is moved.
     fn come(&self, told: &[u32], dir: NodeId, column: usize) -> u32
         ensures { result ≡ come_word self.now told.now dir column }
     {
-        if self.is_watched(dir) {
-            return self.apart(told, dir, column);
+        let seat = dir.number() as usize;
+        match self.watch_column(dir) {
+            Some(watch) => apart(
+                told,
+                self.columns,
+                &self.agents,
+                &self.seats,
+                seat,
+                watch,
+                column,
+            ),
+            None => moved(told, self.columns, &self.agents, seat, column),
         }
-        moved(
-            told,
-            self.columns,
-            &self.agents,
-            dir.number() as usize,
-            column,
-        )
     }
 
-    /// Whether a directory is watched.
-    fn is_watched(&self, dir: NodeId) -> bool
-        ensures { result ≡ list_any (is_watch_of dir) self.now.watches.items }
+    /// The column of a directory, if it is watched.
+    fn watch_column(&self, dir: NodeId) -> Option<usize>
+        ensures { result ≡ get_or self.now.watch_columns.items dir None }
     {
-        self.watches.iter().any(|watch| is_watch_of(dir, watch))
-    }
-
-    /// Those of a directory that is watched.
-    fn apart(&self, told: &[u32], dir: NodeId, column: usize) -> u32
-        ensures { result ≡ fold (λ word watch. bit_or word (apart_if self.now told.now dir column
-            watch)) 0 self.now.watches.items }
-    {
-        self.watches.iter().fold(
-            0,
-            |word, watch| word | self.apart_if(told, dir, column, watch),
-        )
-    }
-
-    /// Those of this one, if it is the directory.
-    fn apart_if(&self, told: &[u32], dir: NodeId, column: usize, watch: &Watch) -> u32
-        ensures { result ≡ apart_if self.now told.now dir column watch.now }
-    {
-        if !is_watch_of(dir, watch) {
-            return 0;
+        match self.watch_columns.get(dir.number() as usize) {
+            Some(column) => *column,
+            None => None,
         }
-        apart(
-            told,
-            self.columns,
-            &self.agents,
-            &self.seats,
-            dir.number() as usize,
-            watch.column,
-            column,
-        )
     }
 
     /// Whether a watched directory can come to be neither one of the beginning nor above it.
@@ -584,8 +548,28 @@ impl Crew<'_> {
         if dir == NodeId::ROOT {
             return true;
         }
-        let above = above(tree, told, self.columns, dir, watch.column);
-        has(above | self.come(told, dir, watch.column), CLEAR)
+        has(above(tree, told, self.columns, dir, watch.column), CLEAR)
+            || self.comes_clear(told, dir, watch.column)
+    }
+
+    /// Whether a directory that is moved comes where a watched one is not above it, by the column of
+    /// that.
+    fn comes_clear(&self, told: &[u32], dir: NodeId, column: usize) -> bool
+        ensures { result ≡ comes_clear self.now told.now dir column }
+    {
+        let seat = dir.number() as usize;
+        match self.watch_column(dir) {
+            Some(watch) => is_clear_apart(
+                told,
+                self.columns,
+                &self.agents,
+                &self.seats,
+                seat,
+                watch,
+                column,
+            ),
+            None => has(moved(told, self.columns, &self.agents, seat, column), CLEAR),
+        }
     }
 
     /// Whether it can come to be not above what a process makes.
@@ -623,14 +607,7 @@ impl Crew<'_> {
     fn over_mark(&self, told: &[u32], of: &Agent<'_>, mark: &Mark<'_>) -> u32
         ensures { result ≡ mark_word self.now told.now of.now mark.now }
     {
-        over(
-            of.process,
-            told,
-            self.columns,
-            mark.dir,
-            mark.name,
-            of.place,
-        )
+        over(told, self.columns, of, mark.dir, mark.name)
     }
 
     /// Whether a name can come to be free, by the row of what stands there.
@@ -649,13 +626,6 @@ impl Crew<'_> {
     {
         has(word(told, self.columns, row, self.shape.agents), GOES)
     }
-}
-
-/// Whether this is a watched directory.
-fn is_watch_of(dir: NodeId, watch: &Watch) -> bool
-    ensures { result ≡ is_watch_of dir watch.now }
-{
-    watch.dir == dir
 }
 
 /// Whether a directory stands in another one.

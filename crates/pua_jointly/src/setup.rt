@@ -6,22 +6,22 @@ ghost use Rattle.std.specs.List.{fold, list_any};
 ghost use Rattle.pua_tree.specs.LentRows.{lent_entry};
 ghost use Rattle.pua_tree.specs.Tree.{WellFormed, kind_at};
 ghost use Rattle.pua_ever.specs.Laws.{dir_of_place};
-ghost use Rattle.pua_jointly.specs.JointFacts.{watches_by};
 ghost use Rattle.pua_jointly.specs.JointMembers.{Each, SameMembers, states, veil_now};
-ghost use Rattle.pua_jointly.specs.JointSetting.{AreInOrder, AreMarksOf, AreWatched, IsEntryAt};
+ghost use Rattle.pua_jointly.specs.JointSetting.{AreInOrder, AreMarksOf, IsEntryAt};
 ghost use Rattle.pua_jointly.specs.JointSetting.{IsMarkOf, IsRowIn};
 ghost use Rattle.pua_jointly.specs.JointSetting.{HasRoom, IsSize, entry_of, greater as greater_of};
 ghost use Rattle.pua_jointly.specs.JointSetting.{mark_spot, row_number, veil_number};
 ghost use Rattle.pua_jointly.specs.JointSetup.{IsWorkedOut, crew_told};
 ghost use Rattle.pua_jointly.specs.JointTable.{numbers};
-ghost use Rattle.pua_jointly.specs.JointWords.{IsAgent};
+ghost use Rattle.pua_jointly.specs.JointWords.{IsAgent, has_named, is_name};
 
 use crate::crew::{Agent, Crew, Entry, Mark, Watch, entry_at};
-use crate::doing::{Doing, covers_for, may_take};
+use crate::doing::{Doing, calls_by_cover, covers_for, may_take};
 use crate::members::{all_veils, distinct, know_perms};
 use crate::shape::Shape;
+use crate::watching::find_watches;
 use pua_calls::{CallTable, Perms};
-use pua_ever::{Made, has_c};
+use pua_ever::{Made, has_c, turned_nodes};
 use pua_policy::{Cover, Place, Process};
 use pua_tree::{FileTree, Kind, LentRow, Name, NodeId, OutOfMemory};
 use std::alloc::{AllocError, Global};
@@ -58,7 +58,7 @@ pub(crate) fn work_out<'t, T: FileTree>(
         agents: members.len(),
         last: last_number(&rows, &veils),
     };
-    let watches = find_watches(alloc, tree, shape, &veils)?;
+    let (watches, watch_columns) = find_watches(alloc, tree, shape, &veils)?;
     let Some(size) = size_of(shape, rows.len(), watches.len()) else {
         return Err(OutOfMemory);
     };
@@ -75,6 +75,7 @@ pub(crate) fn work_out<'t, T: FileTree>(
         entries,
         marks,
         watches,
+        watch_columns,
     })
 }
 
@@ -136,7 +137,7 @@ fn ask_agents<'t>(
     table: &CallTable,
     shape: Shape,
     size: Size,
-) -> Result<Vec<Agent<'t>>, AllocError>
+) -> Result<Vec<Agent<'t>>, OutOfMemory>
     requires room { HasRoom shape size }
     requires many { length members.now ≡ shape.agents }
     ensures crew { IfOk result (λ agents.
@@ -146,29 +147,37 @@ fn ask_agents<'t>(
 {
     let mut agents = Vec::new(alloc);
     for (place, process) in members.iter().enumerate() {
-        agents.push(agent(process, table, place, shape, size))?;
+        let agent = ask_agent(alloc, process, table, place, shape, size)?;
+        agents.push(agent)?;
     }
     Ok(agents)
 }
 
-/// What is asked of the process at a place of the crew.
-fn agent<'t>(
+/// What is asked of the process at a place of the crew. The only error is that a growth was
+/// refused.
+fn ask_agent<'t>(
+    alloc: Global,
     process: &'t Process,
     table: &CallTable,
     place: usize,
     shape: Shape,
     size: Size,
-) -> Agent<'t>
+) -> Result<Agent<'t>, OutOfMemory>
     requires room { HasRoom shape size }
     requires low { place < shape.agents }
-    ensures is { IsAgent table.now (shape.last + 1) shape.agents place process.now result }
-    ensures process { result.process.now ≡ process.now }
+    ensures is { IfOk result (λ agent.
+        IsAgent table.now (shape.last + 1) shape.agents place process.now agent) }
+    ensures process { IfOk result (λ agent. agent.process.now ≡ process.now) }
 {
-    Agent {
+    let turned = turned_nodes(alloc, process)?;
+    let named = has_named(alloc, process)?;
+    let calls = calls_by_cover(alloc, process, table)?;
+    Ok(Agent {
         process,
         place,
         landing: size.seats + place,
         drops: size.seats + shape.agents + place,
+        named,
         may_take: may_take(process, table),
         moving: covers_for(process, table, Doing::Moving),
         carrying: covers_for(process, table, Doing::Carrying(Kind::File)),
@@ -176,6 +185,34 @@ fn agent<'t>(
         making_dirs: covers_for(process, table, Doing::Making(Made::Dir)),
         making_files: covers_for(process, table, Doing::Making(Made::File)),
         making_links: covers_for(process, table, Doing::Making(Made::Link)),
+        turning: covers_for(process, table, Doing::Turning),
+        turned,
+        calls,
+    })
+}
+
+/// Whether a process has a veil at a name. The only error is that a growth was refused.
+fn has_named(alloc: Global, process: &Process) -> Result<bool, OutOfMemory>
+    ensures { IfOk result (λ has. has ≡ has_named process.now) }
+{
+    let veils = process.veils(alloc)?;
+    Ok(is_some_at_name(&veils))
+}
+
+/// Whether one of these veils is at a name.
+fn is_some_at_name(veils: &[(&Place, &Perms)]) -> bool
+    ensures { result ≡ list_any (λ veil. is_name veil.0.now) veils.now }
+{
+    veils.iter().any(|veil| is_name(veil.0))
+}
+
+/// Whether a place is a name.
+fn is_name(place: &Place) -> bool
+    ensures { result ≡ is_name place.now }
+{
+    match place {
+        Place::Slot(_, _) => true,
+        Place::Dir(_) => false,
     }
 }
 
@@ -270,49 +307,6 @@ fn row_of(entries: &[Entry<'_>], dir: NodeId, name: &Name) -> Option<usize>
 {
     let entry = entry_at(entries, dir, name)?;
     Some(entry.row)
-}
-
-/// The watched directories. The only error is that a growth was refused.
-fn find_watches<T: FileTree>(
-    alloc: Global,
-    tree: &T,
-    shape: Shape,
-    veils: &[(&Place, &Perms)],
-) -> Result<Vec<Watch>, AllocError>
-    requires { shape.agents < 2 ^ 63 }
-    ensures { IfOk result (λ watches.
-        AreWatched (T.content tree.now) shape.agents (shape.last + 1) (map veil_now veils.now)
-        watches.items) }
-{
-    let mut watches = Vec::new(alloc);
-    for number in 0..shape.last as usize + 1 {
-        let dir = NodeId::new(number as u32);
-        if is_watched(tree, dir, veils) {
-            let column = shape.agents + 1 + watches.len();
-            watches.push(Watch { dir, column })?;
-        }
-    }
-    Ok(watches)
-}
-
-/// Whether a directory is watched, by all veils.
-fn is_watched<T: FileTree>(tree: &T, dir: NodeId, veils: &[(&Place, &Perms)]) -> bool
-    ensures { result
-        ≡ list_any (λ veil. watches_by (T.content tree.now) dir (veil_now veil)) veils.now }
-{
-    veils.iter().any(|veil| watches(tree, dir, veil.0, *veil.1))
-}
-
-/// Whether a directory is watched for a veil: it is another one's that is below it, or its own with
-/// `c`.
-fn watches<T: FileTree>(tree: &T, dir: NodeId, place: &Place, perms: Perms) -> bool
-    ensures { result ≡ watches_by (T.content tree.now) dir (place.now, perms) }
-{
-    match place {
-        Place::Slot(_, _) => false,
-        Place::Dir(other) if *other == dir => has_c(Cover::Only(perms)),
-        Place::Dir(other) => tree.is_within(*other, dir),
-    }
 }
 
 /// The rows of directories, and of what each process makes. The only error is that a growth was

@@ -2,9 +2,11 @@
 
 ghost use Rattle.std.specs.Prelude.{◌≡◌, ◌<◌, ◌==◌};
 ghost use Rattle.std.specs.Int.{bit_at};
-ghost use Rattle.pua_jointly.specs.JointWords.{apart_at, apart_by, apart_word, born_at, covers_in};
-ghost use Rattle.pua_jointly.specs.JointWords.{dropped_at, dropped_word, landed_at, landing_word};
-ghost use Rattle.pua_jointly.specs.JointWords.{made_word, meets, moved_at, moved_word, moves_at};
+ghost use Rattle.std.specs.List.{list_any};
+ghost use Rattle.pua_jointly.specs.JointWords.{apart_at, apart_by, apart_word, born_at};
+ghost use Rattle.pua_jointly.specs.JointWords.{clear_at, clear_by, covers_in, dropped_at};
+ghost use Rattle.pua_jointly.specs.JointWords.{dropped_word, landed_at, landing_word, made_word};
+ghost use Rattle.pua_jointly.specs.JointWords.{meets, moved_at, moved_word, moves_at};
 ghost use Rattle.pua_jointly.specs.JointWords.{some_meets, word_at};
 
 use crate::crew::Agent;
@@ -142,6 +144,71 @@ fn apart_in(told: &[u32], columns: usize, by: usize, watch: usize, of: usize, in
     } else {
         0
     }
+}
+
+/// Whether some process can move a watched directory into one where it can come to stand and that
+/// another watched one is not above, by the columns of the two.
+pub(crate) fn is_clear_apart(
+    told: &[u32],
+    columns: usize,
+    agents: &[Agent<'_>],
+    seats: &[usize],
+    seat: usize,
+    watch: usize,
+    of: usize,
+) -> bool
+    ensures { result
+        ≡ list_any (clear_by told.now columns seats.now seat watch of) agents.now }
+{
+    agents.iter().any(|agent| is_clear_by(told, columns, seats, seat, watch, of, agent))
+}
+
+/// Whether this one can.
+fn is_clear_by(
+    told: &[u32],
+    columns: usize,
+    seats: &[usize],
+    seat: usize,
+    watch: usize,
+    of: usize,
+    agent: &Agent<'_>,
+) -> bool
+    ensures { result ≡ clear_by told.now columns seats.now seat watch of agent.now }
+{
+    moves(told, columns, seat, agent)
+        && is_clear_in_some(told, columns, seats, agent.place, watch, of)
+}
+
+/// Whether there is such a directory, into which it can put others.
+fn is_clear_in_some(
+    told: &[u32],
+    columns: usize,
+    seats: &[usize],
+    by: usize,
+    watch: usize,
+    of: usize,
+) -> bool
+    ensures { result ≡ list_any (clear_at told.now columns by watch of) seats.now }
+{
+    seats
+        .iter()
+        .any(|into| is_clear_in(told, columns, by, watch, of, *into))
+}
+
+/// Whether this is one.
+fn is_clear_in(
+    told: &[u32],
+    columns: usize,
+    by: usize,
+    watch: usize,
+    of: usize,
+    into: usize,
+) -> bool
+    ensures { result ≡ clear_at told.now columns by watch of into }
+{
+    has(word(told, columns, into, by), ENTERS)
+        && (has(word(told, columns, into, watch), CLEAR)
+            && has(word(told, columns, into, of), CLEAR))
 }
 
 /// The covers by the veils of one process of all directories into which another one can come to put

@@ -1,13 +1,14 @@
 -- The name of each errno.
 use Rattle.std.specs.Prelude.{ℕ, List, codes}
 use Rattle.pua_path.specs.declared.errno.Errno.{Errno}
-use Rattle.pua_path.specs.declared.errno.Errno.TheVariants.{EPERM, ENOENT, E2BIG, EACCES, EAGAIN, EBUSY, EEXIST, ENOTDIR, EISDIR, EINVAL}
-use Rattle.pua_path.specs.declared.errno.Errno.TheVariants.{ENOSPC, ELOOP, ENAMETOOLONG, ENOTEMPTY, ENOSYS, ENOTSOCK, EADDRINUSE}
+use Rattle.pua_path.specs.declared.errno.Errno.TheVariants.{EPERM, ENOENT, E2BIG, EBADF, EACCES, EAGAIN, EBUSY, EEXIST, ENOTDIR, EISDIR}
+use Rattle.pua_path.specs.declared.errno.Errno.TheVariants.{EINVAL, ENOSPC, ELOOP, ENAMETOOLONG, ENOTEMPTY, ENOSYS, ENOTSOCK, EADDRINUSE}
 
 abbrev pub errno_name : Errno → List ℕ
 errno_name EPERM = codes "EPERM"
 errno_name ENOENT = codes "ENOENT"
 errno_name E2BIG = codes "E2BIG"
+errno_name EBADF = codes "EBADF"
 errno_name EACCES = codes "EACCES"
 errno_name EAGAIN = codes "EAGAIN"
 errno_name EBUSY = codes "EBUSY"

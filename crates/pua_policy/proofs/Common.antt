@@ -11,7 +11,7 @@ pub use Rattle.pua_path.specs.declared.found.Found.{Found}
 pub use Rattle.pua_path.specs.declared.found.Found.TheVariants.{Slot, Whole}
 pub use Rattle.pua_path.specs.declared.found.Way.{Way}
 pub use Rattle.pua_tree.specs.Tree.{above, climb, is_dir, Tree, WellFormed}
-pub use Rattle.pua_policy.specs.States.{Ended, has_veil, is_ended, Locked, meet, Moved, Pledged, ProcessState, state_after}
+pub use Rattle.pua_policy.specs.States.{Ended, Filed, has_veil, is_ended, Locked, meet, Moved, Pledged, ProcessState, state_after}
 pub use Rattle.pua_policy.specs.States.{same_place, Unveiled, veil_at, with_veil}
 pub use Rattle.pua_policy.specs.Laws.{places_over}
 pub use Rattle.pua_policy.specs.Reasons.{cover_of, covering_at, first_veiled}

@@ -1,6 +1,6 @@
 -- The veils are the places kept, and only an unveil changes a cover.
 use Rattle.pua_policy.proofs.Common.{◌≡◌, ℕ, List, [], ◌∷◌, map, length, Bool, true, false, refl, sym, ap, ◌∙◌, eqb-true, eq-eqb, Option}
-use Rattle.pua_policy.proofs.Common.{Some, None, Place, Dir, ProcessState, Pledged, Unveiled, Locked, Moved, Ended, has_veil, with_veil}
+use Rattle.pua_policy.proofs.Common.{Some, None, Place, Dir, ProcessState, Pledged, Unveiled, Locked, Moved, Ended, Filed, has_veil, with_veil}
 use Rattle.pua_policy.proofs.Common.{state_after}
 use Rattle.pua_policy.proofs.Common.{veil_at, same_place, and_parts, Tree, Found, Errno, All, Only, holds, cover, cover_fault}
 use Rattle.pua_policy.proofs.Common.{nearest, places_over}
@@ -97,6 +97,7 @@ veils_are_kept (Pledged p e ∷ h) at = veils_are_kept h at
 veils_are_kept (Locked ∷ h) at = veils_are_kept h at
 veils_are_kept (Moved d ∷ h) at = veils_are_kept h at
 veils_are_kept (Ended ∷ h) at = veils_are_kept h at
+veils_are_kept (Filed n f ∷ h) at = veils_are_kept h at
 
 pub cover_needs_unveil : CoverNeedsUnveil
 cover_needs_unveil (Pledged p e) other t h found = refl
@@ -104,6 +105,7 @@ cover_needs_unveil (Unveiled place perms) other t h found = cc other
 cover_needs_unveil Locked other t h found = refl
 cover_needs_unveil (Moved d) other t h found = refl
 cover_needs_unveil Ended other t h found = refl
+cover_needs_unveil (Filed n f) other t h found = refl
 
 -- looking up by any test that is the definition's gives the permissions at a place
 pub veil_at-lookup : (eq : Place → Place → Bool) → ((a b : Place) → eq a b ≡ same_place a b) → (place : Place) (vs : List (Place × ℕ)) →

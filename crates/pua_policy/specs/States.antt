@@ -1,8 +1,12 @@
 -- What a process keeps, what its accepted calls and an exec leave of that, and what it may do by it.
 use Rattle.std.specs.Prelude.{◌≡◌, ℕ, ◌-◌, Bool, true, false, ◌&&◌, ◌||◌, if◌then◌else◌, List, [], ◌∷◌, length, nat_le, ◌==◌, Option}
-use Rattle.std.specs.Prelude.{Some, None, bit_and, bit_or, unwrap_or}
+use Rattle.std.specs.Prelude.{Some, None, bit_and, bit_or, is_some, unwrap_or}
+use Rattle.std.specs.BTreeMap.{insert_entry, is_at}
 use Rattle.std.specs.List.{list_any}
+use Rattle.std.specs.Map.{lookup, remove_entry}
+use Rattle.std.specs.Ordering.{nat_cmp}
 use Rattle.pua_tree.specs.Names.{same_bytes}
+use Rattle.pua_tree.specs.Tree.{is_dir_kind}
 pub use Rattle.pua_policy.specs.Limits.{most_places}
 use Rattle.pua_calls.specs.Promises.{holds, all_promises, error}
 use Rattle.pua_path.specs.declared.errno.Errno.{Errno}
@@ -11,6 +15,7 @@ use Rattle.pua_calls.specs.declared.rules.ExecPromises.{ExecPromises}
 use Rattle.pua_calls.specs.declared.rules.ExecPromises.TheVariants.{Unset, Stay}
 use Rattle.pua_calls.specs.declared.rules.Rules.{Rules}
 use Rattle.pua_calls.specs.declared.rules.Rules.TheVariants.{Standard, Openbsd}
+use Rattle.pua_policy.specs.declared.open_file.OpenFile.{OpenFile}
 use Rattle.pua_policy.specs.declared.place.Place.{Place}
 use Rattle.pua_policy.specs.declared.place.Place.TheVariants.{Dir, Slot}
 use Rattle.pua_policy.specs.declared.answer.UnveilFault.{UnveilFault}
@@ -18,16 +23,18 @@ use Rattle.pua_policy.specs.declared.answer.UnveilFault.TheVariants.{NotPermitte
 use Rattle.pua_policy.specs.declared.answer.May.{May}
 use Rattle.pua_policy.specs.declared.answer.May.TheVariants.{Yes, Enosys, Death}
 
--- an accepted call that changes what a process may do; an argument that was NULL is None
+-- an accepted call that changes what a process may do; an argument that was NULL is None. `Filed` says for which open file a
+-- descriptor stands from now on: for none where it is closed
 pub data Event : Type 0 where
   Pledged : Option ℕ → Option ℕ → Event
   Unveiled : Place → ℕ → Event
   Locked : Event
   Moved : ℕ → Event
   Ended : Event
+  Filed : ℕ → Option OpenFile → Event
 
 -- what a process keeps: its promises are None until a pledge gives some, since that pledge alone may name any; its veils stand
--- in the order in which their places came
+-- in the order in which their places came, and its open files in that of the numbers of their descriptors
 pub record ProcessState : Type 0 where
   pub promises : Option ℕ
   pub execpromises : Option ℕ
@@ -35,10 +42,11 @@ pub record ProcessState : Type 0 where
   pub locked : Bool
   pub dir : ℕ
   pub ended : Bool
+  pub files : List (ℕ × OpenFile)
 
 -- a process that was just made works in the root
 abbrev pub new_process : ProcessState
-new_process = record { promises = None; execpromises = None; veils = []; locked = false; dir = 0; ended = false }
+new_process = record { promises = None; execpromises = None; veils = []; locked = false; dir = 0; ended = false; files = [] }
 
 -- the members of all the sets, if there is a set
 abbrev pub meet : ℕ → Option ℕ → ℕ
@@ -83,6 +91,25 @@ abbrev pub EachOnce : List (Place × ℕ) → Type 0
 EachOnce [] = Unit {0}
 EachOnce (veil ∷ more) = (veil_at more veil.0 ≡ None) × EachOnce more
 
+-- the open file for which a descriptor stands
+abbrev pub file_at : List (ℕ × OpenFile) → ℕ → Option OpenFile
+file_at files number = lookup (is_at (nat_cmp number)) files
+
+-- a descriptor that stands for an open file: in the place of what it stood for, or at its place in the order
+abbrev pub with_file : ℕ → OpenFile → List (ℕ × OpenFile) → List (ℕ × OpenFile)
+with_file number file files = insert_entry nat_cmp files number file
+
+-- a descriptor that is closed
+abbrev pub without_file : ℕ → List (ℕ × OpenFile) → List (ℕ × OpenFile)
+without_file number files = remove_entry (is_at (nat_cmp number)) files
+
+abbrev pub set_file : ℕ → Option OpenFile → List (ℕ × OpenFile) → List (ℕ × OpenFile)
+set_file number (Some file) files = with_file number file files
+set_file number None files = without_file number files
+
+abbrev pub is_directory : OpenFile → Bool
+is_directory file = is_dir_kind (Some file.kind)
+
 -- the promises that a process holds: those that its pledges left it, and before the first that gave some all but `error`
 abbrev pub held_set : ProcessState → ℕ
 held_set p = unwrap_or p.promises (all_promises - error)
@@ -112,6 +139,10 @@ is_ended p = p.ended
 abbrev pub working_dir : ProcessState → ℕ
 working_dir p = p.dir
 
+-- a pledge gave it promises
+abbrev pub is_pledged : ProcessState → Bool
+is_pledged p = is_some p.promises
+
 -- the same veils, in whichever order their places came
 pub record SameVeils (a b : ProcessState) : Type 0 where
   pub any : has_veil a.veils ≡ has_veil b.veils
@@ -127,6 +158,7 @@ state_after (Unveiled place perms) p = record p { veils = with_veil place perms 
 state_after Locked p = record p { locked = true }
 state_after (Moved dir) p = record p { dir = dir }
 state_after Ended p = record p { ended = true }
+state_after (Filed number file) p = record p { files = set_file number file p.files }
 
 -- the execpromises that an exec leaves, where some were given
 abbrev pub left_for_exec : ExecPromises → ℕ → Option ℕ
@@ -134,11 +166,11 @@ left_for_exec Unset set = None
 left_for_exec Stay set = Some set
 
 -- the program that a successful exec starts: with execpromises they are its promises, and are unset or stay; without them the
--- working directory alone stays
+-- working directory and the open files alone stay
 abbrev pub state_by_exec : ExecPromises → Option ℕ → ProcessState → ProcessState
 state_by_exec left (Some set) p = record p { promises = Some set; execpromises = left_for_exec left set }
 state_by_exec left None p =
-    record { promises = None; execpromises = None; veils = []; locked = false; dir = p.dir; ended = false }
+    record { promises = None; execpromises = None; veils = []; locked = false; dir = p.dir; ended = false; files = p.files }
 
 abbrev pub after_exec : ExecPromises → ProcessState → ProcessState
 after_exec left p = state_by_exec left p.execpromises p

@@ -7,6 +7,7 @@ mod cover;
 pub mod judge;
 mod laws;
 mod object;
+mod open_file;
 mod place;
 mod process;
 mod promising;
@@ -19,6 +20,7 @@ pub use laws::{
     promise_laws, standing_law, verdict_examples,
 };
 pub use object::Object;
+pub use open_file::OpenFile;
 pub use place::Place;
 pub use process::{MOST_PLACES, Process, error_frees_exec};
 pub use pua_calls::Misfit;

@@ -1,6 +1,7 @@
 //! Wrong bodies of `pua_policy`.
 
 mod allowed;
+mod descriptors;
 mod execs;
 mod pledges;
 mod processes;

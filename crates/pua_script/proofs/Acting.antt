@@ -4,6 +4,7 @@ use Rattle.pua_script.proofs.Common.{asker_of, decide, come_of, Answer, WorldFau
 use Rattle.pua_script.specs.Decide.{refusals, asker_past, decide_by}
 use Rattle.pua_script.specs.Judged.{decision_for}
 use Rattle.pua_script.specs.Openings.{Opening, opening_of}
+use Rattle.pua_script.specs.declared.request.Action.TheVariants.{Hold}
 use Rattle.pua_script.specs.Worlds.{Acts, Attempts}
 use Rattle.pua_script.proofs.Doing.{attempts_same}
 
@@ -21,3 +22,9 @@ pub opened_by : (table : CallTable) (t : Tree) (p : ProcessState) (call : Call) 
     opening_of table p call path ≡ o → decide_by refusals table t (asker_past o (asker_of p)) (OnPath call path) ≡ decide table t p (OnPath call path)
 opened_by table t p call path o is =
     ap (λ (o : Option Opening). decide_by refusals table t (asker_past o (asker_of p)) (OnPath call path)) (sym is)
+
+pub held_by : (table : CallTable) (t : Tree) (p : ProcessState) (number : ℕ) (call : Call) (path : List ℕ) (o : Option Opening) →
+    opening_of table p call path ≡ o →
+    decide_by refusals table t (asker_past o (asker_of p)) (Hold number call path) ≡ decide table t p (Hold number call path)
+held_by table t p number call path o is =
+    ap (λ (o : Option Opening). decide_by refusals table t (asker_past o (asker_of p)) (Hold number call path)) (sym is)

@@ -23,9 +23,10 @@ pub use Rattle.pua_path.specs.declared.found.Last.{Last}
 pub use Rattle.pua_path.specs.declared.text.Ending.{Ending}
 pub use Rattle.pua_path.specs.declared.text.Ending.TheVariants.{Dot, Dropped}
 pub use Rattle.pua_path.specs.declared.traced.PathTextFault.TheVariants.{LongComponent, LongText, NulInText}
-pub use Rattle.pua_policy.specs.States.{Ended, Event, has_error, held_set, ProcessState, is_ended, is_locked, Locked, may_any, Moved, Pledged}
+pub use Rattle.pua_policy.specs.States.{Ended, Event, Filed, has_error, held_set, is_pledged, ProcessState, is_ended, is_locked, Locked, may_any, Moved, Pledged}
 pub use Rattle.pua_policy.specs.States.{state_after, Unveiled, working_dir}
 pub use Rattle.pua_policy.specs.Verdict.{cover, cover_fault, object_fault, object_named, object_of, or_fault, place_of}
+pub use Rattle.pua_policy.specs.declared.open_file.OpenFile.{OpenFile}
 pub use Rattle.pua_policy.specs.declared.answer.Cover.{Cover}
 pub use Rattle.pua_policy.specs.declared.answer.Cover.TheVariants.{All}
 pub use Rattle.pua_policy.specs.declared.answer.May.{May}
@@ -42,7 +43,7 @@ pub use Rattle.pua_tree.specs.declared.fault.TreeFault.{TreeFault}
 pub use Rattle.pua_tree.specs.declared.node.Kind.{Kind}
 pub use Rattle.pua_script.specs.Bytes.{is_bytes, is_in_bytes}
 pub use Rattle.pua_script.specs.Confinement.{has_c, object_in, UncoveredStay}
-pub use Rattle.pua_script.specs.Decide.{AddEvent, AddNode, asker_of, BeginProgram, Change, CopyAs, CutRow, decide, decide_link}
+pub use Rattle.pua_script.specs.Decide.{AddEvent, AddNode, asker_of, BeginProgram, Change, CopyAs, CutRow, decide, decide_link, TakeFile}
 pub use Rattle.pua_script.specs.Decide.{decide_rename, Decision, fault_if, if_may, inside_fault, is_whole, kinds_fault, NoChange, shifting}
 pub use Rattle.pua_script.specs.Decide.{ShiftRow, TieRow}
 pub use Rattle.pua_script.specs.Family.{HasKept, is_chdir, is_done, is_exec, is_member}
@@ -52,7 +53,7 @@ pub use Rattle.pua_script.specs.Judged.{NameFits}
 pub use Rattle.pua_script.specs.Laws.{IsConfined}
 pub use Rattle.pua_script.specs.Limits.{most_processes}
 pub use Rattle.pua_script.specs.Replay.{answer_and_world, answer_to, apply, change_effect, come_of, Copies, edit_effect, edited_tree}
-pub use Rattle.pua_script.specs.Replay.{Effect, effect, Fails, kept_at, Kills, Leaves, left_by, put_at, World, world_after}
+pub use Rattle.pua_script.specs.Replay.{Effect, effect, Fails, kept_at, Kills, Leaves, left_by, put_at, sent_by, take_effect, World, world_after}
 pub use Rattle.pua_script.specs.Requests.{Asked}
 pub use Rattle.pua_script.specs.Scripts.{request_by, request_of_fields}
 pub use Rattle.pua_script.specs.Worlds.{process_at, tree_left, WorldState}

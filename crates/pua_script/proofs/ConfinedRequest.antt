@@ -1,9 +1,9 @@
 -- What a request of a process that can put no veil any more adds to its state.
 use Rattle.pua_script.proofs.Common.{state_after, ◌≡◌, ℕ, [], ◌∷◌, Bool, true, false, cond, refl, sym, ap, ◌∙◌, inl, inr, ◌⊎◌, lit<, ◌||◌, true≢false}
-use Rattle.pua_script.proofs.Common.{Result, Ok, Err, IsTrue, is_some, nat_le, Tree, Errno, EAGAIN, TreeFault, unveil, CallTable, ProcessState}
-use Rattle.pua_script.proofs.Common.{Event, Pledged, Unveiled, Locked, Moved, Ended, is_locked, is_ended, has_error, may_any, Action}
-use Rattle.pua_script.proofs.Common.{Change, NoChange, AddNode, CutRow, ShiftRow, TieRow, BeginProgram, AddEvent, CopyAs, decide, World}
-use Rattle.pua_script.proofs.Common.{Effect, Fails, Kills, Leaves, Copies, kept_at, effect, edit_effect, edited_tree, change_effect}
+use Rattle.pua_script.proofs.Common.{Result, Ok, Err, Some, IsTrue, is_some, nat_le, Tree, Errno, EAGAIN, TreeFault, unveil, CallTable, ProcessState}
+use Rattle.pua_script.proofs.Common.{Event, Pledged, Unveiled, Locked, Moved, Ended, Filed, OpenFile, is_locked, is_ended, has_error, may_any, Action}
+use Rattle.pua_script.proofs.Common.{Change, NoChange, AddNode, CutRow, ShiftRow, TieRow, BeginProgram, AddEvent, CopyAs, TakeFile, decide, World}
+use Rattle.pua_script.proofs.Common.{Effect, Fails, Kills, Leaves, Copies, kept_at, effect, edit_effect, edited_tree, change_effect, sent_by, take_effect, is_pledged}
 use Rattle.pua_script.proofs.Common.{most_processes, Refusal, Failed, Killed, is_exec, is_chdir, IsConfined}
 use Rattle.std.proofs.lemmas.Bool.{false_from_ne_true}
 use Rattle.std.specs.Prelude.{length}
@@ -59,6 +59,11 @@ module _ (m : Bool) (w : World) (h : ProcessState) where
       by : (full : Bool) → Fine m h (cond full (Fails EAGAIN) (Copies new))
       by true = fails
       by false = copies
+  fine_made (TakeFile number from theirs) steps = by (sent_by (is_pledged h) (kept_at w from) theirs)
+    where
+      by : (r : Result OpenFile Errno) → Fine m h (take_effect w h number r)
+      by (Ok file) = leaves (inr (Filed number (Some file), refl, refl))
+      by (Err errno) = fails
 
   fine_refused : (r : Refusal) → Fine m h (refusal_effect r)
   fine_refused (Failed errno) = fails
@@ -91,6 +96,7 @@ locked_after (Pledged p e) h locked = locked
 locked_after (Unveiled place perms) h locked = locked
 locked_after (Moved dir) h locked = locked
 locked_after Ended h locked = locked
+locked_after (Filed number file) h locked = locked
 
 pub confined_after : (event : Event) (h : ProcessState) → IsConfined h → IsConfined (state_after event h)
 confined_after event h (inl locked) = inl (locked_after event h locked)

@@ -19,7 +19,7 @@ pub record Belongs (now : ProcessState) (still : Bool) (h : ProcessState) : Type
 abbrev pub Members : World → List ℕ → ProcessState → Bool → Type 0
 Members w members now still = (m : ℕ) → is_member members m ≡ true → HasKept w m (Belongs now still)
 
-is_okay_only : (a : Answer) → is_okay a ≡ true → a ≡ Okay
+pub is_okay_only : (a : Answer) → is_okay a ≡ true → a ≡ Okay
 is_okay_only Okay e = refl
 is_okay_only (Failed errno) e = absurd (false≢true e)
 is_okay_only Killed e = absurd (false≢true e)
@@ -38,7 +38,7 @@ not_by_one kind table w ask members m belongs none = by (m == ask.process) refl
         ∙ sym (ap (λ b. b && is_own kind table w ask) (ap (is_member members) (sym is) ∙ belongs)) ∙ none
 
 -- a member of the family with a child is one before, or the child
-child_or_old : (action : Action) (members : List ℕ) (m : ℕ) (P : Type 0) → is_member (with_child action members) m ≡ true
+pub child_or_old : (action : Action) (members : List ℕ) (m : ℕ) (P : Type 0) → is_member (with_child action members) m ≡ true
     → (is_member members m ≡ true → P) → ((new : ℕ) → action ≡ Fork new → new ≡ m → P) → P
 child_or_old (Fork new) members m P belongs old child = by (new == m) refl belongs
   where

@@ -2,6 +2,7 @@
 
 -- what becomes of a family, and what it leaves of the tree
 pub use Rattle.pua_script.proofs.Families.{families_narrow}
+pub use Rattle.pua_script.proofs.Holding.{families_hold}
 pub use Rattle.pua_script.proofs.Confined.{families_confine}
 pub use Rattle.pua_script.proofs.KeepTrees.{replays_keep_trees}
 -- what is read is bytes, and what requests in bytes leave
@@ -27,10 +28,10 @@ pub use Rattle.pua_script.proofs.Possible.{name_fits}
 pub use Rattle.pua_script.proofs.Spared.{c_from_cover, covered_by_c, has_spot}
 -- what is so of each change once its guards are passed is so of what a request leaves
 pub use Rattle.pua_script.proofs.Applied.{by_request, by_living, by_decision, by_tree, by_own_tree}
-pub use Rattle.pua_script.proofs.Changing.{by_placing, by_making, by_cutting, by_going, by_tying, by_moves}
+pub use Rattle.pua_script.proofs.Changing.{by_placing, by_making, by_cutting, by_filing, by_going, by_tying, by_moves}
 -- a call that makes a node is one of those that change names
 pub use Rattle.pua_script.proofs.Unchanged.{adding_changes}
-pub use Rattle.pua_script.proofs.Guarding.{decisions_are_guarded, first_none, second_none, not_faulty}
+pub use Rattle.pua_script.proofs.Guarding.{decisions_are_guarded, first_none, second_none, not_faulty, takes_ask}
 -- what is decided passes the checks of the table by which lists for ever go, which allows no less and needs the same permissions; what a
 -- promise opens is no exec
 pub use Rattle.pua_script.proofs.Widened.{changes_granted, opened_either, opened_no_exec, tmp_may, tmp_perms, tmp_table_allows}

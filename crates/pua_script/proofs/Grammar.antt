@@ -21,19 +21,23 @@ use Rattle.pua_calls.specs.Promises.{holds, error, promises_of, perms_of}
 use Rattle.pua_calls.specs.Neighbours.{call_asked_by}
 use Rattle.pua_calls.specs.declared.rules.Rules.{Rules}
 use Rattle.pua_calls.specs.declared.rules.Rules.TheVariants.{Standard, Openbsd}
-use Rattle.pua_script.specs.Requests.{is_symlink, has_no_nul, comment}
+use Rattle.pua_script.specs.Requests.{is_open, is_symlink, has_no_nul, comment}
+use Rattle.std.specs.Option.{option_or}
+use Rattle.pua_calls.specs.Calls.{call_named_by}
 use Rattle.pua_script.specs.declared.request.Given.{Given}
 use Rattle.pua_script.specs.declared.request.Given.TheVariants.{Null, Good}
-use Rattle.pua_script.specs.declared.request.Action.TheVariants.{Pledge, Lock, Exit, Uses}
+use Rattle.pua_script.specs.declared.request.Action.TheVariants.{Pledge, Lock, Exit, Uses, Hold, Close, Fchdir, Take}
 use Rattle.pua_script.specs.declared.fault.ScriptFault.{ScriptFault}
 use Rattle.pua_script.specs.declared.fault.ScriptFault.TheVariants.{BadLine, BadCall, BadPath, BadList, TooMany}
 use Rattle.pua_script.specs.Scripts.{is_dash, is_equals, path_in, has_empty_word, good_or_unknown, given_in, perms_in, Form, PathForm}
 use Rattle.pua_script.specs.Scripts.{SymlinkForm, RenameForm, LinkForm, PledgeForm, UnveilForm, ForkForm, ExitForm, UsesForm, form_of, with_paths}
 use Rattle.pua_script.specs.Scripts.{set_of_keyword, further_set, sets_of, sets_in, asks_promises}
+use Rattle.pua_script.specs.Scripts.{HoldForm, CloseForm, FchdirForm, TakeForm, descriptor_in, number_in, open_named, hold_form, take_form}
+use Rattle.pua_script.specs.Scripts.{file_form, files_form, if_openbsd}
 use Rattle.pua_script.specs.Scripts.{unveil_of, action_of, form_in, action_in, requests_of, is_blank, text_in, request_of_text}
 use Rattle.pua_script.specs.ScriptGrammar.{SpellsPath, empty, spelled, IsList, SpellsGiven, null, nothing, known, unknown, SpellsPerms}
 use Rattle.pua_script.specs.ScriptGrammar.{no_letter, letters, unknown_letter, SpellsAction, on_path, symlink, rename, link, pledge, unveil}
-use Rattle.pua_script.specs.ScriptGrammar.{lock, fork, exit, uses, IsKeyword, SpellSets, SpellsRequest, SpellsLine, blank, request}
+use Rattle.pua_script.specs.ScriptGrammar.{lock, fork, exit, uses, hold, close, fchdir, take as taken, SpellsDescriptor, IsKeyword, SpellSets, SpellsRequest, SpellsLine, blank, request}
 use Rattle.pua_script.specs.ScriptGrammar.{SpellRequests, ScriptsAreRead}
 
 same_to : (a b : List ℕ) → a ≡ b → same_bytes a b ≡ true
@@ -181,11 +185,15 @@ module _ (rules : Rules) where
       form_of rules word (a ∷ []) ≡ Some (PathForm c a)
   form_of_call word c a other there =
       ap (λ s. cond s (option_map ForkForm (number_within 1 999999 a)) (cond (asks_promises rules word) (Some (UsesForm a))
-      (option_map (λ d. PathForm d a) (only_if (λ d. not (is_symlink d)) (call_asked_by rules word))))) (not_fork word c there)
-      ∙ ap (λ s. cond s (Some (UsesForm a)) (option_map (λ d. PathForm d a) (only_if (λ d. not (is_symlink d)) (call_asked_by rules word))))
+      (option_or (option_map (λ d. PathForm d a) (only_if (λ d. not (is_symlink d)) (call_asked_by rules word))) files))) (not_fork word c there)
+      ∙ ap (λ s. cond s (Some (UsesForm a))
+      (option_or (option_map (λ d. PathForm d a) (only_if (λ d. not (is_symlink d)) (call_asked_by rules word))) files))
       (not_uses rules word c there)
-      ∙ ap (λ o. option_map (λ d. PathForm d a) (only_if (λ d. not (is_symlink d)) o)) there
-      ∙ ap (λ b. option_map (λ d. PathForm d a) (cond (not b) (Some c) None)) other
+      ∙ ap (λ o. option_or (option_map (λ d. PathForm d a) (only_if (λ d. not (is_symlink d)) o)) files) there
+      ∙ ap (λ b. option_or (option_map (λ d. PathForm d a) (cond (not b) (Some c) None)) files) other
+    where
+      files : Option Form
+      files = if_openbsd rules (file_form word a)
 
   -- what a form asks for
   module _ (n : ℕ) where
@@ -261,13 +269,99 @@ module _ (rules : Rules) where
         subst (SpellsAction rules (word ∷ a ∷ [])) (same_Ok (Uses sets.0) action sets.2)
         (uses named.0 named.1 (sets_read n [] (slice_split (λ b. eqb b 124) a) sets.0 sets.1))
 
+    -- a descriptor
+    descriptor_read : (field : List ℕ) (number : ℕ) → descriptor_in field ≡ Some number → SpellsDescriptor field number
+    descriptor_read field number e = let read = number_read 0 1023 field number (lit< tt) e in record { is = read.0; high = read.2 }
+
+    -- lines about descriptors, by the rules that have them
+    close_form : (word a : List ℕ) (number : ℕ) (action : Action) → rules ≡ Openbsd → word ≡ codes "close" → descriptor_in a ≡ Some number →
+        action_of n (CloseForm number) ≡ Ok action → SpellsAction rules (word ∷ a ∷ []) action
+    close_form word a number action by_kernel named e is =
+        subst (SpellsAction rules (word ∷ a ∷ [])) (same_Ok (Close number) action is) (close by_kernel named (descriptor_read a number e))
+
+    fchdir_form : (word a : List ℕ) (number : ℕ) (action : Action) → rules ≡ Openbsd → word ≡ codes "fchdir" → descriptor_in a ≡ Some number →
+        action_of n (FchdirForm number) ≡ Ok action → SpellsAction rules (word ∷ a ∷ []) action
+    fchdir_form word a number action by_kernel named e is =
+        subst (SpellsAction rules (word ∷ a ∷ [])) (same_Ok (Fchdir number) action is) (fchdir by_kernel named (descriptor_read a number e))
+
+    one_file : (word a : List ℕ) (form : Form) (action : Action) → rules ≡ Openbsd → file_form word a ≡ Some form →
+        action_of n form ≡ Ok action → SpellsAction rules (word ∷ a ∷ []) action
+    one_file word a form action by_kernel = by (same_bytes word (codes "close")) refl (same_bytes word (codes "fchdir")) refl
+      where
+        by : (s : Bool) → same_bytes word (codes "close") ≡ s → (f : Bool) → same_bytes word (codes "fchdir") ≡ f
+            → cond s (option_map CloseForm (descriptor_in a)) (cond f (option_map FchdirForm (descriptor_in a)) None) ≡ Some form →
+            action_of n form ≡ Ok action → SpellsAction rules (word ∷ a ∷ []) action
+        by true w f _ e is =
+            let number = mapped CloseForm (descriptor_in a) form e in
+            close_form word a number.0 action by_kernel (same_word word (codes "close") w) number.1 (ap (action_of n) number.2 ∙ is)
+        by false _ true w e is =
+            let number = mapped FchdirForm (descriptor_in a) form e in
+            fchdir_form word a number.0 action by_kernel (same_word word (codes "fchdir") w) number.1 (ap (action_of n) number.2 ∙ is)
+        by false _ false _ e is = absurd (None≢Some form e)
+
+    hold_read : (word a b c : List ℕ) (form : Form) (action : Action) → rules ≡ Openbsd → word ≡ codes "hold" →
+        hold_form (descriptor_in a) (open_named b) c ≡ Some form → action_of n form ≡ Ok action →
+        SpellsAction rules (word ∷ a ∷ b ∷ c ∷ []) action
+    hold_read word a b c form action by_kernel named = by (descriptor_in a) refl (open_named b) refl
+      where
+        by : (x : Option ℕ) → descriptor_in a ≡ x → (y : Option Call) → open_named b ≡ y → hold_form x y c ≡ Some form →
+            action_of n form ≡ Ok action → SpellsAction rules (word ∷ a ∷ b ∷ c ∷ []) action
+        by (Some number) first (Some call) second e is =
+            let opens = only_if_read is_open (call_named_by Openbsd b) call second in
+            let whole = ap (action_of n) (same_Some (HoldForm number call c) form e) ∙ is in
+            let path = step_read (ok_or (path_in c) (BadPath n)) (λ p. Ok (Hold number call p)) action whole in
+            subst (SpellsAction rules (word ∷ a ∷ b ∷ c ∷ [])) (same_Ok (Hold number call path.0) action path.2)
+            (hold by_kernel named (descriptor_read a number first) opens.1 opens.0
+            (path_read c path.0 (ok_or_read (path_in c) (BadPath n) path.0 path.1)))
+        by (Some number) first None second e is = absurd (None≢Some form e)
+        by None first (Some call) second e is = absurd (None≢Some form e)
+        by None first None second e is = absurd (None≢Some form e)
+
+    take_read : (word a b c : List ℕ) (form : Form) (action : Action) → rules ≡ Openbsd → word ≡ codes "take" →
+        take_form (descriptor_in a) (number_in b) (descriptor_in c) ≡ Some form → action_of n form ≡ Ok action →
+        SpellsAction rules (word ∷ a ∷ b ∷ c ∷ []) action
+    take_read word a b c form action by_kernel named = by (descriptor_in a) refl (number_in b) refl (descriptor_in c) refl
+      where
+        by : (x : Option ℕ) → descriptor_in a ≡ x → (y : Option ℕ) → number_in b ≡ y → (z : Option ℕ) → descriptor_in c ≡ z →
+            take_form x y z ≡ Some form → action_of n form ≡ Ok action → SpellsAction rules (word ∷ a ∷ b ∷ c ∷ []) action
+        by (Some number) first (Some from) second (Some theirs) third e is =
+            let read = number_read 1 999999 b from (lit< tt) second in
+            let whole = ap (action_of n) (same_Some (TakeForm number from theirs) form e) ∙ is in
+            subst (SpellsAction rules (word ∷ a ∷ b ∷ c ∷ [])) (same_Ok (Take number from theirs) action whole)
+            (taken by_kernel named (descriptor_read a number first) read.0 read.1 read.2 (descriptor_read c theirs third))
+        by (Some number) first (Some from) second None third e is = absurd (None≢Some form e)
+        by (Some number) first None second (Some theirs) third e is = absurd (None≢Some form e)
+        by (Some number) first None second None third e is = absurd (None≢Some form e)
+        by None first (Some from) second (Some theirs) third e is = absurd (None≢Some form e)
+        by None first (Some from) second None third e is = absurd (None≢Some form e)
+        by None first None second (Some theirs) third e is = absurd (None≢Some form e)
+        by None first None second None third e is = absurd (None≢Some form e)
+
+    three_files : (word a b c : List ℕ) (form : Form) (action : Action) → rules ≡ Openbsd → files_form word a b c ≡ Some form →
+        action_of n form ≡ Ok action → SpellsAction rules (word ∷ a ∷ b ∷ c ∷ []) action
+    three_files word a b c form action by_kernel = by (same_bytes word (codes "hold")) refl (same_bytes word (codes "take")) refl
+      where
+        by : (s : Bool) → same_bytes word (codes "hold") ≡ s → (t : Bool) → same_bytes word (codes "take") ≡ t
+            → cond s (hold_form (descriptor_in a) (open_named b) c)
+            (cond t (take_form (descriptor_in a) (number_in b) (descriptor_in c)) None) ≡ Some form →
+            action_of n form ≡ Ok action → SpellsAction rules (word ∷ a ∷ b ∷ c ∷ []) action
+        by true w t _ e is = hold_read word a b c form action by_kernel (same_word word (codes "hold") w) e is
+        by false _ true w e is = take_read word a b c form action by_kernel (same_word word (codes "take") w) e is
+        by false _ false _ e is = absurd (None≢Some form e)
+
+    -- by the standard rules there is no such line
+    openbsd_form : (named : Rules) (o : Option Form) (form : Form) → if_openbsd named o ≡ Some form → (named ≡ Openbsd) × (o ≡ Some form)
+    openbsd_form Standard o form e = absurd (None≢Some form e)
+    openbsd_form Openbsd o form e = (refl, e)
+
     one_argument : (word a : List ℕ) (form : Form) (action : Action) → form_of rules word (a ∷ []) ≡ Some form → action_of n form ≡ Ok action →
         SpellsAction rules (word ∷ a ∷ []) action
     one_argument word a form action = by (same_bytes word (codes "fork")) refl (asks_promises rules word) refl
       where
         by : (s : Bool) → same_bytes word (codes "fork") ≡ s → (u : Bool) → asks_promises rules word ≡ u
             → cond s (option_map ForkForm (number_within 1 999999 a)) (cond u (Some (UsesForm a))
-            (option_map (λ c. PathForm c a) (only_if (λ c. not (is_symlink c)) (call_asked_by rules word)))) ≡ Some form →
+            (option_or (option_map (λ c. PathForm c a) (only_if (λ c. not (is_symlink c)) (call_asked_by rules word)))
+            (if_openbsd rules (file_form word a)))) ≡ Some form →
             action_of n form ≡ Ok action → SpellsAction rules (word ∷ a ∷ []) action
         by true w u _ e is =
             let number = mapped ForkForm (number_within 1 999999 a) form e in
@@ -276,11 +370,16 @@ module _ (rules : Rules) where
             (fork (same_word word (codes "fork") w) read.0 read.1 read.2)
         by false w true u e is =
             uses_form word a action (uses_named rules word u) (ap (action_of n) (same_Some (UsesForm a) form e) ∙ is)
-        by false w false u e is =
-            let named = mapped (λ c. PathForm c a) (only_if (λ c. not (is_symlink c)) (call_asked_by rules word)) form e in
-            let read = only_if_read (λ c. not (is_symlink c)) (call_asked_by rules word) named.0 named.1 in
-            path_form word a named.0 action (not-true (is_symlink named.0) read.1) read.0 (ap (action_of n) named.2 ∙
-            is)
+        by false w false u e is = called (only_if (λ c. not (is_symlink c)) (call_asked_by rules word)) refl e is
+          where
+            called : (o : Option Call) → only_if (λ c. not (is_symlink c)) (call_asked_by rules word) ≡ o →
+                option_or (option_map (λ c. PathForm c a) o) (if_openbsd rules (file_form word a)) ≡ Some form → action_of n form ≡ Ok action →
+                SpellsAction rules (word ∷ a ∷ []) action
+            called (Some c) named e is =
+                let read = only_if_read (λ c. not (is_symlink c)) (call_asked_by rules word) c named in
+                path_form word a c action (not-true (is_symlink c) read.1) read.0 (ap (action_of n) (same_Some (PathForm c a) form e) ∙ is)
+            called None named e is =
+                let both = openbsd_form rules (file_form word a) form e in one_file word a form action both.0 both.1 is
 
     two_arguments : (word a b : List ℕ) (form : Form) (action : Action) → form_of rules word (a ∷ b ∷ []) ≡ Some form →
         action_of n form ≡ Ok action → SpellsAction rules (word ∷ a ∷ b ∷ []) action
@@ -315,7 +414,9 @@ module _ (rules : Rules) where
         subst (SpellsAction rules (word ∷ [])) (same_Ok Exit action (ap (action_of n) both.1 ∙ is)) (exit (same_word word (codes "exit") both.0))
     action_read (word ∷ a ∷ []) form action e is = one_argument word a form action e is
     action_read (word ∷ a ∷ b ∷ []) form action e is = two_arguments word a b form action e is
-    action_read (word ∷ a ∷ b ∷ c ∷ more) form action e is = absurd (None≢Some form e)
+    action_read (word ∷ a ∷ b ∷ c ∷ []) form action e is =
+        let both = openbsd_form rules (files_form word a b c) form e in three_files word a b c form action both.0 both.1 is
+    action_read (word ∷ a ∷ b ∷ c ∷ d ∷ more) form action e is = absurd (None≢Some form e)
 
     -- the form that fields have, and what it asks for
     abbrev Reads : List (List ℕ) → Action → Type 0
@@ -326,6 +427,10 @@ module _ (rules : Rules) where
     paths_told make a b x y first second =
         ap (λ o. ok_or o (BadPath n) >>= λ v. ok_or (path_in b) (BadPath n) >>= λ w. Ok (make v w)) (path_told a x first)
         ∙ ap (λ o. ok_or o (BadPath n) >>= λ w. Ok (make x w)) (path_told b y second)
+
+    descriptor_told : (field : List ℕ) (number : ℕ) → SpellsDescriptor field number → descriptor_in field ≡ Some number
+    descriptor_told field number spells =
+        ap descriptor_in spells.is ∙ decimal_within 0 1023 number (omega arith) spells.high (omega (arith, spells.high))
 
     action_told : (more : List (List ℕ)) (action : Action) → SpellsAction rules more action → Reads more action
     action_told _ _ (on_path {word = word} {a = a} {path = path} {call = c} other there spells) = (
@@ -371,6 +476,32 @@ module _ (rules : Rules) where
       UsesForm a,
       (λ i. form_of (there i) (named i) (a ∷ [])),
       ap (λ r. r >>= λ sets. Ok (Uses sets)) (sets_told n [] (slice_split (λ b. eqb b 124) a) sets spells),
+    )
+    action_told _ _ (hold {a = a} {b = b} {c = c} {path = path} {number = number} {call = call} there named first opens second third) = (
+      HoldForm number call c,
+      (λ i. form_of (there i) (named i) (a ∷ b ∷ c ∷ []))
+          ∙ ap (λ o. hold_form o (open_named b) c) (descriptor_told a number first)
+          ∙ ap (λ o. hold_form (Some number) (only_if is_open o) c) second
+          ∙ ap (λ s. hold_form (Some number) (cond s (Some call) None) c) opens,
+      ap (λ o. ok_or o (BadPath n) >>= λ p. Ok (Hold number call p)) (path_told c path third),
+    )
+    action_told _ _ (close {a = a} {number = number} there named first) = (
+      CloseForm number,
+      (λ i. form_of (there i) (named i) (a ∷ [])) ∙ ap (option_map CloseForm) (descriptor_told a number first),
+      refl,
+    )
+    action_told _ _ (fchdir {a = a} {number = number} there named first) = (
+      FchdirForm number,
+      (λ i. form_of (there i) (named i) (a ∷ [])) ∙ ap (option_map FchdirForm) (descriptor_told a number first),
+      refl,
+    )
+    action_told _ _ (taken {a = a} {b = b} {c = c} {number = number} {from = from} {theirs = theirs} there named first second low high third) = (
+      TakeForm number from theirs,
+      (λ i. form_of (there i) (named i) (a ∷ b ∷ c ∷ []))
+          ∙ ap (λ o. take_form o (number_in b) (descriptor_in c)) (descriptor_told a number first)
+          ∙ ap (λ o. take_form (Some number) o (descriptor_in c)) (ap number_in second ∙ decimal_within 1 999999 from low high (omega (arith, high)))
+          ∙ ap (λ o. take_form (Some number) (Some from) o) (descriptor_told c theirs third),
+      refl,
     )
 
   request_read : (n : ℕ) (line : List ℕ) (ask : Asked) → request_of_text rules n line ≡ Ok ask → SpellsRequest rules line ask
@@ -498,3 +629,7 @@ action_bytes _ _ _ (lock named first second) = refl
 action_bytes _ _ _ (fork named first low high) = refl
 action_bytes _ _ _ (exit named) = refl
 action_bytes _ _ _ (uses there named spells) = refl
+action_bytes _ _ _ (hold {c = c} {path = path} there named first opens second third) = path_bytes c path third
+action_bytes _ _ _ (close there named first) = refl
+action_bytes _ _ _ (fchdir there named first) = refl
+action_bytes _ _ _ (taken there named first second low high third) = refl

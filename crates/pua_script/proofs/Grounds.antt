@@ -1,17 +1,19 @@
 -- What was checked before a change, whichever request was granted it.
 use Rattle.pua_script.proofs.Common.{◌≡◌, ℕ, List, [], ◌∷◌, Bool, true, false, not, ◌&&◌, refl, sym, subst, ◌⊎◌, inl, inr, Option, Some, None}
 use Rattle.pua_script.proofs.Common.{IsTrue, is_some, Tree, Node, Spot, target_fits, has_room, has_name_room, spot_named, node_named, Dot}
-use Rattle.pua_script.proofs.Common.{Dropped, Found, Whole, Slot, unveil, CallTable, ProcessState, Event, Unveiled, Moved, is_locked, may_any}
+use Rattle.pua_script.proofs.Common.{Dropped, Found, Whole, Slot, unveil, CallTable, ProcessState, Event, Filed, Unveiled, Moved, is_locked, may_any}
 use Rattle.pua_script.proofs.Common.{Yes, Call, is_bytes, is_in_bytes, Change, NoChange, AddNode, CutRow, ShiftRow, TieRow, BeginProgram}
-use Rattle.pua_script.proofs.Common.{AddEvent, CopyAs, shifting, is_whole, is_exec, is_chdir, IsShift, Action, OnPath, and_from, and_parts}
+use Rattle.pua_script.proofs.Common.{AddEvent, CopyAs, TakeFile, shifting, is_whole, is_exec, is_chdir, IsShift, Action, OnPath, and_from, and_parts}
 use Rattle.pua_tree.specs.declared.node.Kind.{Kind}
 use Rattle.pua_calls.specs.declared.call.Call.TheVariants as call
 use Rattle.pua_calls.specs.Calls.{effect_of}
 use Rattle.pua_calls.specs.Effects.{makes as makes_name, removes}
 use Rattle.pua_calls.specs.TmpTable.{tmp_table}
-use Rattle.pua_script.specs.Decide.{plain_node}
+use Rattle.pua_script.specs.Decide.{file_opened, plain_node}
 use Rattle.pua_script.specs.Decide.{link_node, placing, cutting, tying, change_by, adding, removing, made_by, making}
-use Rattle.pua_script.specs.Guards.{OnOne, OnTwo}
+use Rattle.pua_script.specs.Guards.{IsOpened, OnOne, OnTwo}
+use Rattle.pua_script.specs.declared.request.Action.TheVariants.{Take}
+use Rattle.pua_policy.specs.declared.open_file.OpenFile.{OpenFile}
 use Rattle.pua_script.specs.Laws.{adds_node, lacks_room}
 
 -- the calls that make a name, and those that take one away
@@ -73,10 +75,19 @@ module _ (table : CallTable) (t : Tree) (h : ProcessState) (action : Action) whe
     pub bytes : is_in_bytes action ≡ true → is_bytes new_path ≡ true
     pub room : IsTrue (not (has_name_room t)) → IsTrue (lacks_room t action)
 
-  -- an unveil of a process that may, and a move by chdir
+  -- an open file that the path of a call named which may open it
+  pub record IsOpening (file : OpenFile) : Type 0 where
+    pub call : Call
+    pub path : List ℕ
+    pub object : Found
+    pub on : OnOne table t h call path object ⊎ IsOpened table t h call path object
+    pub opened : file_opened t call (node_named object) ≡ Some file
+
+  -- an unveil of a process that may, a move by chdir or fchdir, and such an open file
   abbrev pub IsSaid : Event → Type 0
   IsSaid (Unveiled place perms) = (may_any h (unveil ∷ []) ≡ Yes) × (is_locked h ≡ false)
   IsSaid (Moved dir) = is_chdir action ≡ true
+  IsSaid (Filed number (Some file)) = IsOpening file
   IsSaid _ = Unit {0}
 
   abbrev pub Grounds : Change → Type 0
@@ -88,6 +99,7 @@ module _ (table : CallTable) (t : Tree) (h : ProcessState) (action : Action) whe
   Grounds (BeginProgram left) = is_exec action ≡ true
   Grounds (AddEvent event) = IsSaid event
   Grounds (CopyAs new) = Unit {0}
+  Grounds (TakeFile number from theirs) = action ≡ Take number from theirs
 
 module _ (table : CallTable) (t : Tree) (h : ProcessState) where
   pub on_adding : (action : Action) (c : Call) (path : List ℕ) (x : Found) (node : Node) → OnOne (tmp_table table) t h c path x → makes c ≡ true →

@@ -4,26 +4,30 @@ use Rattle.pua_script.proofs.Common.{Err, is_some, Tree, is_same_node, path_faul
 use Rattle.pua_script.proofs.Common.{EINVAL, Ending, Found, proc, unveil, CallTable, PairRule, rule_of, ProcessState, is_locked, may_any}
 use Rattle.pua_script.proofs.Common.{working_dir, place_of, cover, cover_fault, or_fault, object_named, object_fault, object_of, Call, May}
 use Rattle.pua_script.proofs.Common.{fault_if, is_whole, inside_fault, kinds_fault, Change, NoChange, Decision, if_may, decide_rename}
-use Rattle.pua_script.proofs.Common.{decide_link, asker_of, shifting, OnPath, Symlink, Rename, Link, Unveil, Fork, IsShift, and_parts, sym}
+use Rattle.pua_script.proofs.Common.{TakeFile, decide, decide_link, asker_of, shifting, OnPath, Symlink, Rename, Link, Unveil, Fork, IsShift, and_parts, sym}
 use Rattle.pua_script.proofs.Common.{subst, is_bytes, Action, ENOSPC, Failed, ◌≢◌, ◌&&◌}
-use Rattle.std.specs.Prelude.{not, ◌||◌}
-use Rattle.pua_path.specs.declared.errno.Errno.TheVariants.{EPERM, EEXIST, ENOTDIR}
+use Rattle.std.specs.Prelude.{not, ok_or, ◌||◌}
+use Rattle.std.proofs.lemmas.Bool.{not-false}
+use Rattle.pua_calls.specs.Promises.{recvfd}
+use Rattle.pua_policy.specs.declared.open_file.OpenFile.{OpenFile}
+use Rattle.pua_path.specs.declared.errno.Errno.TheVariants.{EBADF, EPERM, EEXIST, ENOTDIR}
 use Rattle.pua_path.specs.declared.text.Ending.TheVariants as ending
 use Rattle.pua_path.specs.declared.found.Last.TheVariants.{Followed}
 use Rattle.pua_calls.specs.declared.rules.Rules.{Rules}
-use Rattle.pua_policy.specs.States.{unveil_fault, pledge_fault}
+use Rattle.pua_policy.specs.States.{file_at, is_directory, unveil_fault, pledge_fault}
 use Rattle.pua_policy.specs.Verdict.{found_fault}
 use Rattle.pua_calls.specs.declared.call.Call.TheVariants as call
 use Rattle.pua_policy.specs.declared.answer.May.TheVariants as may
 use Rattle.pua_script.specs.Decide.{asks_directory, link_node, unveil_errno, given_set, is_unknown}
 use Rattle.pua_script.specs.Decide.{unless_fault, if_named, adding, change_by, asker_past, cover_past, decide_by, refusals, Sole}
 use Rattle.pua_script.specs.Openings.{Opening, opening_of}
-use Rattle.pua_script.specs.Decide.{covers_by, decide_veil, decide_pair, ways_fault, named_by, named_in, path_named}
-use Rattle.pua_script.specs.declared.request.Action.TheVariants.{Pledge, Lock, Exit, Uses, Comment}
+use Rattle.pua_script.specs.Decide.{covers_by, decide_veil, decide_object, decide_pair, ways_fault, named_by, named_in, path_named}
+use Rattle.pua_script.specs.Decide.{file_opened, filing, holding, past_promises}
+use Rattle.pua_script.specs.declared.request.Action.TheVariants.{Pledge, Lock, Exit, Uses, Hold, Close, Fchdir, Take, Comment}
 use Rattle.pua_script.specs.Guards.{OnOne, OnTwo, IsOpened, IsVeil, ChangesAreGranted, DecisionsAreGuarded}
 use Rattle.pua_script.specs.Guards.{IsDecided}
 use Rattle.pua_script.specs.Laws.{RefusalsLackNoRoom}
-use Rattle.pua_script.proofs.Faults.{promised_apart, checked_apart, if_apart, none_or, path_apart, granted_apart, object_has_room}
+use Rattle.pua_script.proofs.Faults.{HasRoom, promised_apart, checked_apart, if_apart, none_or, path_apart, granted_apart, object_has_room}
 use Rattle.pua_script.proofs.Faults.{pair_has_room, rename_has_room, link_has_room, veil_has_room, opened_has_room}
 use Rattle.pua_script.proofs.Grounds.{Grounds, on_adding, on_call, on_rename, on_link, link_leads}
 use Rattle.pua_script.proofs.Linking.{target_is}
@@ -41,6 +45,11 @@ from_checked (Some errno) d c e = cc
 from_named : (r : Result Found Errno) (g : Found → Decision) (c : Change) → if_named r g ≡ Ok c → (x : Found) × (r ≡ Ok x) × (g x ≡ Ok c)
 from_named (Ok x) g c e = (x, refl, e)
 from_named (Err errno) g c e = cc
+
+from_file : (o : Option OpenFile) (g : OpenFile → Decision) (c : Change) → if_named (ok_or o EBADF) g ≡ Ok c →
+    (file : OpenFile) × (o ≡ Some file) × (g file ≡ Ok c)
+from_file (Some file) g c e = (file, refl, e)
+from_file None g c e = cc
 
 pub not_faulty : (b : Bool) (errno : Errno) → fault_if b errno ≡ None → b ≡ false
 not_faulty true errno e = cc
@@ -81,15 +90,16 @@ module _ (t : Tree) (h : ProcessState) where
       (at.0, record { promised = may; found = named_ok table.whose t (working_dir h) path (object_named t h c path) at.0 at.1; covered = first_none a b free.0; fitting = second_none a b free.0 }, is_ok _ _ free.1)
 
   -- a call that a promise opens
-  opened : (table : CallTable) (c : Call) (path : List ℕ) (change : Change) (o : Opening) → opening_of table h c path ≡ Some o →
-      decide_by refusals table t (asker_past (Some o) (asker_of h)) (OnPath c path) ≡ Ok change →
-      (object : Found) × IsOpened table t h c path object × (change ≡ change_by table c object)
-  opened table c path change o is e =
+  opened : (table : CallTable) (c : Call) (path : List ℕ) (g : Found → Change) (change : Change) (o : Opening) →
+      opening_of table h c path ≡ Some o →
+      decide_object table t (past_promises o.asks_veils (asker_of h)) c path (λ x. Ok (g x)) ≡ Ok change →
+      (object : Found) × IsOpened table t h c path object × (change ≡ g object)
+  opened table c path g change o is e =
       let named = named_in table.whose t (working_dir h) path (object_named t h c path) in
       let asked : Found → Option Errno = λ x. cover_past o.asks_veils (asker_of h).cover Sole t x (rule_of table c).perms in
       let fit : Found → Option Errno = λ x. object_fault table.whose t c (object_of t x) in
-      let at = from_named named (λ x. unless_fault (or_fault (asked x) (fit x)) (Ok (change_by table c x))) change e in
-      let free = from_checked (or_fault (asked at.0) (fit at.0)) (Ok (change_by table c at.0)) change at.2 in (
+      let at = from_named named (λ x. unless_fault (or_fault (asked x) (fit x)) (Ok (g x))) change e in
+      let free = from_checked (or_fault (asked at.0) (fit at.0)) (Ok (g at.0)) change at.2 in (
         at.0,
         record {
           opening = o;
@@ -194,7 +204,7 @@ decisions_are_guarded table t h (OnPath c path) change e = by (opening_of table 
         let may = from_promised (may_any h (rule_of table c).alternatives) _ change e in
         let at = one t h table c path (change_by table c) change may.0 may.1 in
         (at.0, inl at.1, at.2)
-    by (Some o) is e = let at = opened t h table c path change o is e in (at.0, inr at.1, at.2)
+    by (Some o) is e = let at = opened t h table c path (change_by table c) change o is e in (at.0, inr at.1, at.2)
 decisions_are_guarded table t h (Symlink target path) change e =
     let may = from_promised (may_any h (rule_of table call.Symlink).alternatives) _ change e in
     let text = from_checked (path_fault target) _ change may.1 in
@@ -234,6 +244,28 @@ decisions_are_guarded table t h (Fork new) change e =
 decisions_are_guarded table t h Exit change e = is_ok _ _ e
 decisions_are_guarded table t h (Uses sets) change e =
     let may = from_promised (may_any h sets) _ change e in (may.0, is_ok _ _ may.1)
+decisions_are_guarded table t h (Hold number c path) change e = by (opening_of table h c path) refl e
+  where
+    by : (o : Option Opening) → opening_of table h c path ≡ o →
+        decide_by refusals table t (asker_past o (asker_of h)) (Hold number c path) ≡ Ok change → IsDecided table t h (Hold number c path) change
+    by None is e =
+        let may = from_promised (may_any h (rule_of table c).alternatives) _ change e in
+        let at = one t h table c path (holding t number c) change may.0 may.1 in
+        (at.0, inl at.1, at.2)
+    by (Some o) is e = let at = opened t h table c path (holding t number c) change o is e in (at.0, inr at.1, at.2)
+decisions_are_guarded table t h (Close number) change e =
+    let at = from_file (file_at h.files number) _ change e in (at.0, at.1, is_ok _ _ at.2)
+decisions_are_guarded table t h (Fchdir number) change e =
+    let at = from_file (file_at h.files number) _ change e in
+    let free = from_checked (fault_if (not (is_directory at.0)) ENOTDIR) _ change at.2 in
+    record {
+      file = at.0;
+      held = at.1;
+      directory = not-false (is_directory at.0) (not_faulty (not (is_directory at.0)) ENOTDIR free.0);
+      is = is_ok _ _ free.1;
+    }
+decisions_are_guarded table t h (Take number from theirs) change e =
+    let may = from_promised (may_any h (recvfd ∷ [])) _ change e in (may.0, is_ok _ _ may.1)
 decisions_are_guarded table t h Comment change e = is_ok _ _ e
 
 pub changes_are_granted : ChangesAreGranted
@@ -262,7 +294,26 @@ module _ (table : CallTable) (t : Tree) (h : ProcessState) where
   grounds (Fork new) c d = subst (Grounds table t h (Fork new)) (sym d.1) tt
   grounds Exit c d = subst (Grounds table t h Exit) (sym d) tt
   grounds (Uses sets) c d = subst (Grounds table t h (Uses sets)) (sym d.1) tt
+  grounds (Hold number asked path) c d =
+      subst (Grounds table t h (Hold number asked path)) (sym d.2) (filed (file_opened t asked (node_named d.0)) refl)
+    where
+      filed : (o : Option OpenFile) → file_opened t asked (node_named d.0) ≡ o → Grounds table t h (Hold number asked path) (filing number o)
+      filed None is = tt
+      filed (Some file) is = record { call = asked; path = path; object = d.0; on = d.1; opened = is }
+  grounds (Close number) c d = subst (Grounds table t h (Close number)) (sym d.2) tt
+  grounds (Fchdir number) c d = subst (Grounds table t h (Fchdir number)) (sym d.is) refl
+  grounds (Take number from theirs) c d = subst (Grounds table t h (Take number from theirs)) (sym d.1) refl
   grounds Comment c d = subst (Grounds table t h Comment) (sym d) tt
+
+file_has_room : (o : Option OpenFile) (g : OpenFile → Decision) → ((file : OpenFile) → HasRoom (g file)) → HasRoom (if_named (ok_or o EBADF) g)
+file_has_room (Some file) g has = has file
+file_has_room None g has = λ e. cc
+
+-- what another process has is asked for by a take alone
+pub takes_ask : (table : CallTable) (t : Tree) (h : ProcessState) (action : Action) (number from theirs : ℕ) →
+    decide table t h action ≡ Ok (TakeFile number from theirs) → action ≡ Take number from theirs
+takes_ask table t h action number from theirs is =
+    grounds table t h action (TakeFile number from theirs) (decisions_are_guarded table t h action (TakeFile number from theirs) is)
 
 pub refusals_lack_no_room : RefusalsLackNoRoom
 refusals_lack_no_room table t h (OnPath c path) = by (opening_of table h c path)
@@ -284,4 +335,13 @@ refusals_lack_no_room table t h Lock = promised_apart _ _ (granted_apart _)
 refusals_lack_no_room table t h (Fork new) = promised_apart _ _ (granted_apart _)
 refusals_lack_no_room table t h Exit = granted_apart _
 refusals_lack_no_room table t h (Uses sets) = promised_apart _ _ (granted_apart _)
+refusals_lack_no_room table t h (Hold number c path) = by (opening_of table h c path)
+  where
+    by : (o : Option Opening) → decide_by refusals table t (asker_past o (asker_of h)) (Hold number c path) ≢ Err (Failed ENOSPC)
+    by None = promised_apart _ _ (object_has_room table t h c path (holding t number c))
+    by (Some o) = opened_has_room table t h o.asks_veils c path (holding t number c)
+refusals_lack_no_room table t h (Close number) = file_has_room (file_at h.files number) _ (λ file. granted_apart _)
+refusals_lack_no_room table t h (Fchdir number) = file_has_room (file_at h.files number) _ λ file.
+    checked_apart _ _ (if_apart (not (is_directory file)) ENOTDIR (λ e. cc)) (granted_apart _)
+refusals_lack_no_room table t h (Take number from theirs) = promised_apart _ _ (granted_apart _)
 refusals_lack_no_room table t h Comment = granted_apart _

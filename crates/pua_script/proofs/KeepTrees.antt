@@ -7,7 +7,8 @@ use Rattle.pua_script.proofs.Common.{with_row_moved, is_full_dir, is_full_dir_th
 use Rattle.pua_script.proofs.Common.{TreeFault, put_here, put_elsewhere, None≢Some, spot_named, resolution_of_text, EAGAIN, Ending, Dot}
 use Rattle.pua_script.proofs.Common.{Dropped, Found, Whole, Slot, CallTable, ending_of, last_of, ProcessState, working_dir, most_processes}
 use Rattle.pua_script.proofs.Common.{is_bytes, is_in_bytes, Change, AddNode, CutRow, ShiftRow, TieRow, CopyAs, World, Fails, Copies}
-use Rattle.pua_script.proofs.Common.{edit_effect, edited_tree, kept_at, apply, change_effect, tree_left, Action, Last}
+use Rattle.pua_script.proofs.Common.{edit_effect, edited_tree, kept_at, apply, change_effect, tree_left, Action, Last, TakeFile, Errno, OpenFile}
+use Rattle.pua_script.proofs.Common.{is_pledged, sent_by, take_effect}
 use Rattle.std.specs.Prelude.{length, option_and_then}
 use Rattle.pua_tree.specs.Names.{is_name}
 use Rattle.pua_tree.specs.Tree.{target_at, rows_of}
@@ -178,6 +179,11 @@ module _ (w : World) (is_tree : IsByteTree w.tree) (h : ProcessState) where
       by : (full : Bool) → IsByteTree (tree_left w.tree (cond full (Fails EAGAIN) (Copies new)))
       by true = is_tree
       by false = is_tree
+  keeps (TakeFile number from theirs) fits = by (sent_by (is_pledged h) (kept_at w from) theirs)
+    where
+      by : (r : Result OpenFile Errno) → IsByteTree (tree_left w.tree (take_effect w h number r))
+      by (Ok file) = is_tree
+      by (Err errno) = is_tree
   keeps _ fits = is_tree
 
   found_named : (end : Ending) (path : List ℕ) (mode : Last) (x : Found) → is_bytes path ≡ true →

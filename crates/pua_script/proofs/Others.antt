@@ -4,7 +4,7 @@ use Rattle.pua_script.proofs.Common.{nat_le, nat_eq, put_at, Tree, TreeFault}
 use Rattle.pua_script.proofs.Common.{EAGAIN, CallTable, ProcessState, may_any, proc, May, Failed, Killed, Change, AddNode, CutRow, ShiftRow}
 use Rattle.pua_script.proofs.Common.{TieRow, CopyAs, Decision, if_may, decide, World, Effect, Fails, Kills, Leaves, Copies, effect}
 use Rattle.pua_script.proofs.Common.{kept_at, apply, left_by, answer_to, edit_effect, edited_tree, change_effect, come_of, Answer, Okay}
-use Rattle.pua_script.proofs.Common.{Action, Fork, most_processes}
+use Rattle.pua_script.proofs.Common.{Action, Fork, most_processes, TakeFile, Errno, OpenFile, is_pledged, sent_by, take_effect}
 use Rattle.std.specs.Prelude.{◌||◌, length}
 use Rattle.std.specs.Map.{lookup}
 use Rattle.pua_script.proofs.Entries.{found_here, found_elsewhere as found_there}
@@ -59,6 +59,11 @@ module _ (w : World) (h : ProcessState) where
       by true full is = tt
       by false true is = tt
       by false false is = is
+  new_made (TakeFile number from theirs) = by (sent_by (is_pledged h) (kept_at w from) theirs)
+    where
+      by : (r : Result OpenFile Errno) → IsNew w (take_effect w h number r)
+      by (Ok file) = tt
+      by (Err errno) = tt
   new_made _ = tt
 
   decision_is_new : (d : Decision) → IsNew w (come_of w h d)

@@ -3,13 +3,14 @@ use Rattle.pua_script.proofs.Common.{◌≡◌, ℕ, List, [], ◌∷◌, Bool, 
 use Rattle.pua_script.proofs.Common.{option_map, Result, Ok, Err, Tree, TreeFault, CallTable, Asked, NoChange, AddNode, CutRow, ShiftRow}
 use Rattle.pua_script.proofs.Common.{TieRow, BeginProgram, AddEvent, CopyAs, Decision, decide, World, Effect, Fails, Leaves, Copies}
 use Rattle.pua_script.proofs.Common.{apply, world_after, answer_and_world, left_by, come_of, edit_effect, edited_tree, Failed, Killed, put_at}
-use Rattle.pua_script.proofs.Common.{state_after, Gone, EAGAIN}
+use Rattle.pua_script.proofs.Common.{state_after, Gone, EAGAIN, Errno, Filed, OpenFile, TakeFile, is_pledged, kept_at, sent_by, take_effect}
 use Rattle.std.specs.Map.{lookup}
 use Rattle.pua_policy.specs.States.{Ended, Event}
 use Rattle.pua_policy.specs.History.{History, state_of, is_ended}
 use Rattle.pua_policy.proofs.ForCallers.{state_more, state_exec}
 use Rattle.pua_script.specs.Replay.{do_decided, answer_to, answers_to}
-use Rattle.pua_script.specs.Pasts.{Past, left_of, past_served, past_decided, past_edited, past_forked, past_after, past_answer, past_answers, KeepsPasts}
+use Rattle.pua_script.specs.Pasts.{Past, left_of, past_served, past_decided, past_edited, past_forked, past_taken, past_after, past_answer, past_answers}
+use Rattle.pua_script.specs.Pasts.{KeepsPasts}
 use Rattle.pua_script.proofs.Entries.{each, each_put}
 
 -- what is kept at a number is what is left of its history
@@ -47,6 +48,10 @@ module _ (past : Past) (n : ℕ) (h : History) where
   more event = ap (λ p. record { tree = past.tree; processes = put_at n p (left_of past).processes }) (sym (state_more event h))
       ∙ put_left past.tree (event ∷ h)
 
+  taken : (number : ℕ) (r : Result OpenFile Errno) → left (take_effect (left_of past) (state_of h) number r) ≡ left_of (past_taken past n h number r)
+  taken number (Ok file) = more (Filed number (Some file))
+  taken number (Err errno) = refl
+
   decided : (d : Decision) → left (come_of (left_of past) (state_of h) d) ≡ left_of (past_decided past n h d)
   decided (Ok NoChange) = put_left past.tree h
   decided (Ok (AddNode spot node)) = edited _
@@ -57,6 +62,7 @@ module _ (past : Past) (n : ℕ) (h : History) where
       ap (λ p. record { tree = past.tree; processes = put_at n p (left_of past).processes }) (sym (state_exec left h)) ∙ put_left past.tree _
   decided (Ok (AddEvent event)) = more event
   decided (Ok (CopyAs new)) = forked new _ _ refl
+  decided (Ok (TakeFile number from theirs)) = taken number (sent_by (is_pledged (state_of h)) (kept_at (left_of past) from) theirs)
   decided (Err (Failed errno)) = refl
   decided (Err Killed) = ap (λ p. record { tree = past.tree; processes = put_at n p (left_of past).processes }) (sym (state_more Ended h))
       ∙ put_left past.tree (Ended ∷ h)

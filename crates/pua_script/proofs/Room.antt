@@ -5,12 +5,40 @@ use Rattle.pua_script.proofs.Common.{TreeFault, EAGAIN, ENOSPC, ProcessState, mo
 use Rattle.pua_script.proofs.Common.{BeginProgram, AddEvent, CopyAs, Effect, Fails, Leaves, Copies, edit_effect, edited_tree, kept_at}
 use Rattle.std.proofs.Common.{true≢false}
 use Rattle.std.specs.Prelude.{◌↔◌, ◌||◌, length}
+use Rattle.pua_script.proofs.Common.{◌&&◌, Option, Some, None, Errno, EINVAL, holds, held_set, is_ended, is_pledged, OpenFile, TakeFile, World}
+use Rattle.pua_script.proofs.Common.{sent_by, take_effect}
+use Rattle.pua_calls.specs.Promises.{sendfd}
+use Rattle.pua_path.specs.declared.errno.Errno.TheVariants.{EBADF, EPERM}
+use Rattle.pua_policy.specs.States.{file_at, is_directory}
+use Rattle.pua_script.specs.Replay.{sent_of}
 use Rattle.pua_tree.specs.declared.fault.TreeFault.TheVariants as faults
 use Rattle.pua_script.specs.Guards.{IsFree}
 use Rattle.pua_script.specs.Laws.{ChangesLackRoom}
 
 leaves_not_fails : (t : Tree) (h : ProcessState) → Leaves t h ≡ Fails ENOSPC → ⊥
 leaves_not_fails t h e = cc
+
+-- nothing that isn't sent lacks room
+sent_apart : (pledged : Bool) (sender : Option ProcessState) (theirs : ℕ) → sent_by pledged sender theirs ≢ Err ENOSPC
+sent_apart pledged None theirs e = cc
+sent_apart pledged (Some sender) theirs e = by (is_ended sender) (file_at sender.files theirs) e
+  where
+    may : (a b : Bool) (file : OpenFile) → cond (not a) (Err EPERM) (cond b (Err EINVAL) (Ok file)) ≢ Err ENOSPC
+    may false b file e = cc
+    may true true file e = cc
+    may true false file e = cc
+
+    by : (ended : Bool) (o : Option OpenFile) → cond ended (Err EBADF) (sent_of pledged sender o) ≢ Err ENOSPC
+    by true o e = cc
+    by false None e = cc
+    by false (Some file) e = may (holds (held_set sender) sendfd) (is_directory file && (pledged || is_pledged sender)) file e
+
+take_apart : (w : World) (h : ProcessState) (number : ℕ) (r : Result OpenFile Errno) → r ≢ Err ENOSPC → take_effect w h number r ≢ Fails ENOSPC
+take_apart w h number (Ok file) other e = leaves_not_fails _ _ e
+take_apart w h number (Err errno) other e = other (ap Err (same errno e))
+  where
+    same : (errno : Errno) → Fails errno ≡ Fails ENOSPC → errno ≡ ENOSPC
+    same errno e = cc
 
 never : (e : Effect) → e ≢ Fails ENOSPC → (e ≡ Fails ENOSPC) ↔ IsTrue false
 never e other = (λ is. absurd (other is), λ b. absurd (true≢false (sym b)))
@@ -63,6 +91,8 @@ changes_lack w h (ShiftRow old new) possible = never _ (tree_leaves w.tree h _ p
 changes_lack w h (TieRow spot x) possible = tie_lacks w.tree h spot x possible.0 possible.1 possible.2
 changes_lack w h (BeginProgram left) possible = never _ (leaves_not_fails w.tree _)
 changes_lack w h (AddEvent event) possible = never _ (leaves_not_fails w.tree _)
+changes_lack w h (TakeFile number from theirs) possible =
+    never _ (take_apart w h number _ (sent_apart (is_pledged h) (kept_at w from) theirs))
 changes_lack w h (CopyAs new) possible = never _ (by (is_some (kept_at w new) || nat_le most_processes (length w.processes)))
   where
     by : (full : Bool) → cond full (Fails EAGAIN) (Copies new) ≢ Fails ENOSPC

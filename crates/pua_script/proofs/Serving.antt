@@ -1,14 +1,19 @@
 -- One request of the replay, from what the process that asks did.
 use Rattle.pua_script.proofs.Common.{◌≡◌, ℕ, [], ◌∷◌, ◌++◌, ◌||◌, nat_eq, List, length, true, false, cond, refl, sym, ap, ◌∙◌}
 use Rattle.pua_script.proofs.Common.{nat_le, Tree, CallTable, proc, ProcessState, may_any, EAGAIN, Asked, Answer, WorldFault}
+use Rattle.pua_script.proofs.Common.{Bool, Errno, OpenFile, TakeFile, is_pledged, sent_by, take_effect, option_map}
 use Rattle.pua_script.proofs.Common.{Okay, Gone, Action, Fork, CopyAs, World, Effect, come_of, Fails, Kills, Leaves, Copies, effect}
 use Rattle.pua_script.proofs.Common.{answer_to, left_by, answer_and_world, apply, most_processes, WorldState, put_at}
 use Rattle.std.proofs.Common.{Result, Ok, Err, IfOk, OnErr}
 use Rattle.std.proofs.Common.{Option, Some, None, is_some, true≢false}
 use Rattle.std.specs.Map.{lookup, set_value}
 use Rattle.std.proofs.lemmas.Map.Steps.{set_value_same}
+use Rattle.std.specs.Borrow.{Bor}
+use Rattle.std.specs.Prelude.{option_copied}
+use Rattle.pua_calls.specs.Promises.{recvfd}
 use Rattle.pua_policy.specs.Verdict.{refusal_of}
-use Rattle.pua_script.proofs.Doing.{promises_allow}
+use Rattle.pua_script.specs.declared.request.Action.TheVariants.{Take}
+use Rattle.pua_script.proofs.Doing.{as_same, promises_allow}
 use Rattle.pua_script.specs.Worlds.{Does, Acts, apply_to, run_to, with_table, with_world, state_after_all}
 use Rattle.pua_script.specs.Replay.{do_decided}
 use Rattle.pua_script.proofs.Common.{decide, same_Some}
@@ -107,6 +112,27 @@ fork_fails table t processes number new p more there living may_fork full wrote 
     ∙ sym (lives table t processes (record { process = number; action = Fork new }) p (sym there) living
     ∙ ap (λ e. (answer_to e, left_by w number p e)) (ap (come_of w p) (promises_allow (may_any p (proc ∷ [])) (Ok (CopyAs new)) may_fork)
     ∙ ap (λ b. cond b (Fails EAGAIN) (Copies new)) full))
+
+-- a process that may take, by what is sent to it
+pub takes : (table : CallTable) (t : Tree) (processes : List (ℕ × ProcessState)) (process number from theirs : ℕ) (p q : ProcessState)
+    (sent : Result OpenFile Errno) (answer : Answer) (more : List (ℕ × ProcessState)) → lookup (nat_eq process) processes ≡ Some p →
+    p.ended ≡ false → refusal_of (may_any p (recvfd ∷ [])) ≡ None →
+    sent_by (is_pledged p) (lookup (nat_eq from) processes) theirs ≡ sent
+    → Does t p (take_effect (record { tree = t; processes = processes }) p number sent) answer t q
+    → more ≡ set_value (nat_eq process) processes q → ◌≡◌ {A = Answer × World} (answer, record { tree = t; processes = more })
+    (apply table (record { tree = t; processes = processes }) (record { process = process; action = Take number from theirs }))
+takes table t processes process number from theirs p q sent answer more there living may_take is does wrote =
+    let w : World = record { tree = t; processes = processes } in
+    serves table t processes (record { process = process; action = Take number from theirs }) p there living answer t q more wrote
+    (as_same t t p answer q _ _ (ap (come_of w p) (promises_allow (may_any p (recvfd ∷ [])) (Ok (TakeFile number from theirs)) may_take)
+    ∙ ap (take_effect w p number) is) does)
+
+-- what is sent is that of the process with the number
+pub sent_seen : (p : ProcessState) (o : Option (Bor ProcessState)) (processes : List (ℕ × ProcessState)) (pledged : Bool) (from theirs : ℕ)
+    (sent : Result OpenFile Errno) → sent ≡ sent_by pledged (option_map (λ process. process.now) o) theirs → pledged ≡ is_pledged p →
+    option_copied o ≡ lookup (nat_eq from) processes → sent_by (is_pledged p) (lookup (nat_eq from) processes) theirs ≡ sent
+sent_seen p o processes pledged from theirs sent is same found =
+    sym (is ∙ (λ i. sent_by (same i) (found i) theirs))
 
 -- what is answered by none, or by one that has ended
 pub gone : (table : CallTable) (w : World) (ask : Asked) → ((p : ProcessState) → lookup (nat_eq ask.process) w.processes ≡ Some p →

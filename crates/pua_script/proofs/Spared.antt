@@ -3,7 +3,8 @@ use Rattle.pua_script.proofs.Common.{◌≡◌, ℕ, Bool, true, false, cond, re
 use Rattle.pua_script.proofs.Common.{not-true, Tree, WellFormed, Spot, is_dir, look, spot_named, EAGAIN, Dropped, Found, Whole, Slot, holds}
 use Rattle.pua_script.proofs.Common.{CallTable, rule_of, ending_of, last_of, ProcessState, working_dir, cover, cover_fault, Call, Cover, All}
 use Rattle.pua_script.proofs.Common.{Asked, Change, AddNode, CutRow, ShiftRow, TieRow, CopyAs, NameFits, World, Fails, Copies, kept_at}
-use Rattle.pua_script.proofs.Common.{apply, change_effect, tree_left, Action, has_c, most_processes}
+use Rattle.pua_script.proofs.Common.{apply, change_effect, tree_left, Action, has_c, most_processes, TakeFile, Errno, OpenFile, Result, Ok, Err}
+use Rattle.pua_script.proofs.Common.{is_pledged, sent_by, take_effect}
 use Rattle.std.specs.Prelude.{◌||◌, length}
 use Rattle.std.proofs.lemmas.Nat.{and_comm}
 use Rattle.pua_path.specs.declared.errno.Errno.TheVariants.{EACCES}
@@ -108,6 +109,11 @@ spares_made w well h (CopyAs new) has = by (is_some (kept_at w new) || nat_le mo
     by : (full : Bool) → Spares w.tree h (tree_left w.tree (cond full (Fails EAGAIN) (Copies new)))
     by true = spares_all w.tree h
     by false = spares_all w.tree h
+spares_made w well h (TakeFile number from theirs) has = by (sent_by (is_pledged h) (kept_at w from) theirs)
+  where
+    by : (r : Result OpenFile Errno) → Spares w.tree h (tree_left w.tree (take_effect w h number r))
+    by (Ok file) = spares_all w.tree h
+    by (Err errno) = spares_all w.tree h
 spares_made w well h _ has = spares_all w.tree h
 
 -- each row that the caller's state doesn't cover with `c` is there after the request, with its node

@@ -1,7 +1,7 @@
 -- What one request leaves of a process that can put no veil any more, whoever makes it.
 use Rattle.pua_script.proofs.Common.{state_after, ◌≡◌, ℕ, [], ◌∷◌, Bool, true, false, cond, ◌&&◌, ◌||◌, refl, sym, ap, subst, ◌∙◌, inl, inr, Some}
 use Rattle.pua_script.proofs.Common.{IsTrue, ◌==◌, false≢true, true≢false, eqb-true, eq-eqb}
-use Rattle.pua_script.proofs.Common.{CallTable, ProcessState, Event, Pledged, Unveiled, Locked, Moved, Ended}
+use Rattle.pua_script.proofs.Common.{CallTable, ProcessState, Event, Pledged, Unveiled, Locked, Moved, Ended, Filed}
 use Rattle.pua_script.proofs.Common.{is_ended, working_dir, Asked, World, Effect, Fails, Kills, Leaves, Copies, effect}
 use Rattle.pua_script.proofs.Common.{kept_at, apply, answer_and_world, left_by, answer_to, IsConfined, is_exec, is_chdir, is_done}
 use Rattle.pua_script.proofs.Common.{is_member, HasKept, Answer, Gone, Action}
@@ -22,6 +22,7 @@ same_unveils (Pledged p e) h step = record { any = refl; kept = λ place. refl }
 same_unveils Locked h step = record { any = refl; kept = λ place. refl }
 same_unveils (Moved dir) h step = record { any = refl; kept = λ place. refl }
 same_unveils Ended h step = record { any = refl; kept = λ place. refl }
+same_unveils (Filed number file) h step = record { any = refl; kept = λ place. refl }
 
 same_dir : (event : Event) (h : ProcessState) → IsTrue (is_step false event) → working_dir (state_after event h) ≡ working_dir h
 same_dir (Unveiled place perms) h step = absurd (false≢true step)
@@ -29,6 +30,7 @@ same_dir (Pledged p e) h step = refl
 same_dir Locked h step = refl
 same_dir (Moved dir) h step = absurd (false≢true step)
 same_dir Ended h step = refl
+same_dir (Filed number file) h step = refl
 
 pub still_ended : (event : Event) (h : ProcessState) → is_ended (state_after event h) ≡ false → is_ended h ≡ false
 still_ended (Unveiled place perms) h lives = lives
@@ -36,6 +38,7 @@ still_ended (Pledged p e) h lives = lives
 still_ended Locked h lives = lives
 still_ended (Moved dir) h lives = lives
 still_ended Ended h lives = absurd (true≢false lives)
+still_ended (Filed number file) h lives = lives
 
 any_step : (m : Bool) (event : Event) → IsTrue (is_step m event) → IsTrue (is_step true event)
 any_step m (Unveiled place perms) step = step
@@ -43,6 +46,7 @@ any_step m (Pledged p e) step = refl
 any_step m Locked step = refl
 any_step m (Moved dir) step = refl
 any_step m Ended step = refl
+any_step m (Filed number file) step = refl
 
 -- what a process has after its own request: the same unveils, no more promises but `error`, and its directory unless it may move
 pub record Steps (moves : Bool) (before after : ProcessState) : Type 0 where
@@ -118,7 +122,7 @@ module _ (table : CallTable) (w : World) (h : ProcessState) (confined : IsConfin
   request_steps none = steps moves h (state_left h does) confined (goes_left (fine_request none))
 
 -- the state of the one that asked is what the effect leaves
-left_here : (w : World) (process : ℕ) (h : ProcessState) (e : Effect) → IsNew w e → kept_at w process ≡ Some h →
+pub left_here : (w : World) (process : ℕ) (h : ProcessState) (e : Effect) → IsNew w e → kept_at w process ≡ Some h →
     kept_at (left_by w process h e) process ≡ Some (state_left h e)
 left_here w process h (Fails errno) new here = here
 left_here w process h Kills new here = found_here process (state_after Ended h) w.processes

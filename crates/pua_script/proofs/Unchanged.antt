@@ -2,7 +2,8 @@
 use Rattle.pua_script.proofs.Common.{◌≡◌, ℕ, List, [], ◌∷◌, Bool, true, false, cond, refl, sym, ap, ◌∙◌, ◌||◌, list_any, AllByRecursion}
 use Rattle.pua_script.proofs.Common.{IsTrue, is_some, nat_le, false≢true, Tree, EAGAIN, holds, ProcessState, held_set, has_error, is_ended}
 use Rattle.pua_script.proofs.Common.{may_any, CallTable, rule_of, Call, Yes, most_processes, tree_left, Change, AddNode, CutRow, ShiftRow}
-use Rattle.pua_script.proofs.Common.{TieRow, CopyAs, World, Fails, Copies, kept_at, change_effect, Action}
+use Rattle.pua_script.proofs.Common.{TieRow, CopyAs, TakeFile, World, Fails, Copies, kept_at, change_effect, Action, Errno, OpenFile, Result, Ok, Err}
+use Rattle.pua_script.proofs.Common.{is_pledged, sent_by, take_effect}
 use Rattle.std.specs.Prelude.{length}
 use Rattle.std.proofs.lemmas.Bool.{or_right}
 use Rattle.pua_script.proofs.Common.{◌++◌, ◌&&◌, and_parts, subst}
@@ -94,6 +95,11 @@ keeps w h (CopyAs new) none = by (is_some (kept_at w new) || nat_le most_process
     by : (full : Bool) → tree_left w.tree (cond full (Fails EAGAIN) (Copies new)) ≡ w.tree
     by true = refl
     by false = refl
+keeps w h (TakeFile number from theirs) none = by (sent_by (is_pledged h) (kept_at w from) theirs)
+  where
+    by : (r : Result OpenFile Errno) → tree_left w.tree (take_effect w h number r) ≡ w.tree
+    by (Ok file) = refl
+    by (Err errno) = refl
 keeps w h _ none = refl
 
 -- a call that makes a name or takes one away is one of those that change names

@@ -21,6 +21,8 @@ use Rattle.pua_script.specs.Futures.{AreServedInPart}
 use Rattle.pua_script.proofs.Tightening.{each_narrows, within_self}
 use Rattle.pua_script.proofs.Confining.{each_spares}
 use Rattle.pua_script.proofs.Families.{families_narrow}
+use Rattle.pua_script.proofs.Holding.{families_hold}
+use Rattle.pua_script.specs.Holding.{HoldsNoMore}
 use Rattle.pua_script.proofs.Confined.{families_confine}
 use Rattle.pua_script.proofs.Serving.{served_more}
 
@@ -180,6 +182,9 @@ held_by before after asks is trees = record {
         spares = λ needs. subst (λ (s : WorldState). UncoveredStay now before.tree s.tree) (sym is) (both.spares needs trees);
         unchanged = λ promises needs lacks. ap (λ (s : WorldState). s.tree) is ∙ both.unchanged promises needs lacks;
       };
+  holds = λ sound process now here confined none takes member belongs.
+      subst (λ (s : WorldState). HasKept (world_of s) member (HoldsNoMore before.table now)) (sym is)
+      (families_hold before.table (world_of before) asks sound process now here confined none takes member belongs);
 }
 
 module _ {A E : Type 0} (before after : WorldState) (asks : List Asked) (told : A → List Answer) where

@@ -1,17 +1,17 @@
 -- What a request decides to change, by the tree and what the one that asks keeps: all checks in their order. Of other
 -- processes, and of the room that a change needs, nothing is known here.
 use Rattle.std.specs.Prelude.{ℕ, Bool, true, false, not, ◌&&◌, ◌||◌, if◌then◌else◌, List, [], ◌∷◌, Option, Some, None, option_map, Result, Ok}
-use Rattle.std.specs.Prelude.{Err, is_some, suc, zero, ◌+◌, ◌==◌, take}
-use Rattle.pua_tree.specs.Tree.{Tree, Node, Spot, is_empty}
+use Rattle.std.specs.Prelude.{Err, is_some, suc, zero, ◌+◌, ◌==◌, take, ok_or}
+use Rattle.pua_tree.specs.Tree.{Tree, Node, Spot, is_empty, kind_at}
 use Rattle.pua_tree.specs.Edits.{is_inside, is_same_node}
 use Rattle.pua_tree.specs.Limits.{most_name}
 use Rattle.pua_path.specs.Paths.{path_fault, text_fault, ends_in_slash}
 use Rattle.pua_path.specs.Resolution.{resolution_of_text}
 use Rattle.pua_path.specs.Fits.{spot_named, node_named}
-use Rattle.pua_calls.specs.Promises.{proc, unveil}
+use Rattle.pua_calls.specs.Promises.{proc, recvfd, unveil}
 use Rattle.pua_calls.specs.Calls.{CallTable, NameRule, PairRule, rule_of, last_of, ending_of, effect_of, execpromises_by}
-use Rattle.pua_policy.specs.States.{ProcessState, Event, Pledged, Unveiled, Locked, Moved, Ended, working_dir, may_any, pledge_fault}
-use Rattle.pua_policy.specs.States.{unveil_fault}
+use Rattle.pua_policy.specs.States.{ProcessState, Event, Pledged, Unveiled, Locked, Moved, Ended, Filed, working_dir, may_any}
+use Rattle.pua_policy.specs.States.{file_at, is_directory, pledge_fault, unveil_fault}
 use Rattle.pua_policy.specs.Verdict.{place_of, cover, cover_fault, or_fault, object_of, refusal_of}
 use Rattle.pua_policy.specs.Misfits.{misfit, misfit_errno}
 use Rattle.pua_calls.specs.declared.fits.Misfit.{Misfit}
@@ -22,7 +22,7 @@ use Rattle.pua_tree.specs.declared.node.Kind.TheVariants as kind
 use Rattle.pua_path.specs.declared.traced.PathTextFault.{PathTextFault}
 use Rattle.pua_path.specs.declared.traced.PathTextFault.TheVariants.{LongComponent}
 use Rattle.pua_path.specs.declared.errno.Errno.{Errno}
-use Rattle.pua_path.specs.declared.errno.Errno.TheVariants.{EPERM, E2BIG, EINVAL}
+use Rattle.pua_path.specs.declared.errno.Errno.TheVariants.{EPERM, E2BIG, EBADF, EINVAL, ENOTDIR}
 use Rattle.pua_path.specs.declared.text.Ending.{Ending}
 use Rattle.pua_path.specs.declared.text.Ending.TheVariants as ending
 use Rattle.pua_path.specs.declared.found.Last.TheVariants.{Followed}
@@ -33,6 +33,7 @@ use Rattle.pua_path.specs.declared.found.Last.{Last}
 use Rattle.pua_calls.specs.declared.rules.ExecPromises.{ExecPromises}
 use Rattle.pua_calls.specs.declared.rules.Rules.{Rules}
 use Rattle.pua_calls.specs.declared.rules.Rules.TheVariants.{Standard, Openbsd}
+use Rattle.pua_policy.specs.declared.open_file.OpenFile.{OpenFile}
 use Rattle.pua_policy.specs.declared.place.Place.{Place}
 use Rattle.pua_calls.specs.declared.effect.Effect.{Effect}
 use Rattle.pua_calls.specs.declared.effect.Effect.TheVariants as effect
@@ -45,13 +46,15 @@ use Rattle.pua_policy.specs.declared.answer.May.{May}
 use Rattle.pua_policy.specs.declared.answer.Refusal.{Refusal}
 use Rattle.pua_policy.specs.declared.answer.Refusal.TheVariants.{Failed}
 use Rattle.pua_script.specs.Openings.{Opening, opening_of}
+use Rattle.pua_script.specs.Requests.{letters_opened}
 use Rattle.pua_script.specs.declared.request.Given.{Given}
 use Rattle.pua_script.specs.declared.request.Given.TheVariants.{Good, Unknown}
 use Rattle.pua_script.specs.declared.request.Action.{Action}
 use Rattle.pua_script.specs.declared.request.Action.TheVariants.{OnPath, Symlink, Rename, Link, Pledge, Unveil, Lock, Fork, Exit, Uses, Comment}
+use Rattle.pua_script.specs.declared.request.Action.TheVariants.{Hold, Close, Fchdir, Take}
 
 -- what a request that is granted changes: nothing, a row of the tree, the program with what it leaves of execpromises,
--- the state by an event, or the number of processes
+-- the state by an event, the number of processes, or for which open file a descriptor stands, by what another process has as one
 pub data Change : Type 0 where
   NoChange : Change
   AddNode : Spot → Node → Change
@@ -61,6 +64,7 @@ pub data Change : Type 0 where
   BeginProgram : ExecPromises → Change
   AddEvent : Event → Change
   CopyAs : ℕ → Change
+  TakeFile : ℕ → ℕ → ℕ → Change
 
 -- what a request is to change, or what is told of the check at which it is refused
 abbrev pub Outcome : Type 0 → Type 0
@@ -89,6 +93,8 @@ pub record Telling (E R : Type 0) : Type 0 where
   pub unknown_promise : Bool → E
   -- the letters of an unveil are unknown
   pub unknown_letter : E
+  -- a descriptor is of no directory
+  pub no_directory : ℕ → E
 
 -- the checks that rest on the process that asks
 pub record Asker (E R : Type 0) : Type 0 where
@@ -104,6 +110,8 @@ pub record Asker (E R : Type 0) : Type 0 where
   pub locked : Option E
   -- a place may not have these permissions
   pub place : Place → ℕ → Option E
+  -- a descriptor stands for no open file
+  pub file : ℕ → Result OpenFile E
 
 -- further checks where nothing refuses
 abbrev pub unless_refused : {R : Type 0} → Option R → Outcome R → Outcome R
@@ -211,6 +219,23 @@ abbrev pub names_by : {E : Type 0} → (Side → Found → Misfit → E) → Fou
 names_by tell old new =
     or_fault (fault_if (is_whole old) (tell Old old IsNoFile)) (fault_if (is_some (node_named new)) (tell New new Exists))
 
+-- the open file of a node, where a call opens it
+abbrev pub file_of : ℕ → Option Kind → Option ℕ → Option OpenFile
+file_of x (Some k) (Some letters) = Some (record { node = x; kind = k; letters = letters })
+file_of x _ _ = None
+
+abbrev pub file_opened : Tree → Call → Option ℕ → Option OpenFile
+file_opened t call None = None
+file_opened t call (Some x) = file_of x (kind_at t x) (letters_opened call)
+
+-- a descriptor that stands for what was opened
+abbrev pub filing : ℕ → Option OpenFile → Change
+filing number None = NoChange
+filing number (Some file) = AddEvent (Filed number (Some file))
+
+abbrev pub holding : Tree → ℕ → Call → Found → Change
+holding t number call object = filing number (file_opened t call (node_named object))
+
 abbrev pub shifting : Option Spot → Option Spot → Change
 shifting (Some old) (Some new) = ShiftRow old new
 shifting _ _ = NoChange
@@ -312,6 +337,25 @@ fork_by asker new = unless_refused (asker.promises (proc ∷ [])) (Ok (CopyAs ne
 abbrev pub uses_by : {E R : Type 0} → Asker E R → List ℕ → Outcome R
 uses_by asker sets = unless_refused (asker.promises sets) (Ok NoChange)
 
+-- an open whose file is kept
+abbrev pub hold_by : {E R : Type 0} → Telling E R → CallTable → Tree → Asker E R → ℕ → Call → List ℕ → Outcome R
+hold_by told table t asker number call path =
+    unless_refused (asker.promises (rule_of table call).alternatives)
+    (object_by told table t asker call path (λ object. Ok (holding t number call object)))
+
+-- a descriptor is closed, or becomes the working directory: neither a promise nor a veil is asked
+abbrev pub close_by : {E R : Type 0} → Telling E R → Asker E R → ℕ → Outcome R
+close_by told asker number = on_named told.failed (asker.file number) (λ file. Ok (AddEvent (Filed number None)))
+
+abbrev pub fchdir_by : {E R : Type 0} → Telling E R → Asker E R → ℕ → Outcome R
+fchdir_by told asker number =
+    on_named told.failed (asker.file number) λ file.
+    unless_failed told.failed (fault_if (not (is_directory file)) (told.no_directory number)) (Ok (AddEvent (Moved file.node)))
+
+-- what another process has as a descriptor, which it sent: of it nothing is known here
+abbrev pub take_by : {E R : Type 0} → Asker E R → ℕ → ℕ → ℕ → Outcome R
+take_by asker number from theirs = unless_refused (asker.promises (recvfd ∷ [])) (Ok (TakeFile number from theirs))
+
 -- what is given and given up, after what was before
 abbrev pub pledging_by : {E R : Type 0} → Telling E R → Asker E R → Rules → Option ℕ → Option ℕ → Outcome R
 pledging_by told asker whose promises execpromises =
@@ -336,6 +380,10 @@ decide_by told table t asker Lock = lock_by asker
 decide_by told table t asker (Fork new) = fork_by asker new
 decide_by told table t asker Exit = Ok (AddEvent Ended)
 decide_by told table t asker (Uses sets) = uses_by asker sets
+decide_by told table t asker (Hold number call path) = hold_by told table t asker number call path
+decide_by told table t asker (Close number) = close_by told asker number
+decide_by told table t asker (Fchdir number) = fchdir_by told asker number
+decide_by told table t asker (Take number from theirs) = take_by asker number from theirs
 decide_by told table t asker Comment = Ok NoChange
 
 -- an errno is told of a check that fails, and of promises whether the process ends
@@ -353,6 +401,7 @@ refusals = record {
   inside = λ old new. EINVAL;
   unknown_promise = λ of_exec. EINVAL;
   unknown_letter = EINVAL;
+  no_directory = λ number. ENOTDIR;
 }
 
 -- how many bytes stand before a text's first component that is too long, of which `start` stand before the component of whose bytes
@@ -411,6 +460,7 @@ asker_of p = record {
   beyond = λ whose promises execpromises. pledge_fault whose p promises execpromises;
   locked = fault_if p.locked EPERM;
   place = λ place perms. unveil_errno (unveil_fault p place perms);
+  file = λ number. ok_or (file_at p.files number) EBADF;
 }
 
 -- the checks of a decision, by names of their own
@@ -484,6 +534,18 @@ decide_fork asker new = fork_by asker new
 abbrev pub decide_uses : Requester → List ℕ → Decision
 decide_uses asker sets = uses_by asker sets
 
+abbrev pub decide_hold : CallTable → Tree → Requester → ℕ → Call → List ℕ → Decision
+decide_hold table t asker number call path = hold_by refusals table t asker number call path
+
+abbrev pub decide_close : Requester → ℕ → Decision
+decide_close asker number = close_by refusals asker number
+
+abbrev pub decide_fchdir : Requester → ℕ → Decision
+decide_fchdir asker number = fchdir_by refusals asker number
+
+abbrev pub decide_take : Requester → ℕ → ℕ → ℕ → Decision
+decide_take asker number from theirs = take_by asker number from theirs
+
 abbrev pub pledging : Requester → Rules → Option ℕ → Option ℕ → Decision
 pledging asker whose promises execpromises = pledging_by refusals asker whose promises execpromises
 
@@ -506,6 +568,7 @@ asker_past (Some o) asker = past_promises o.asks_veils asker
 -- the checks that a process's request meets: an opening is looked for before all others
 abbrev pub asker_for : {E R : Type 0} → CallTable → ProcessState → Action → Asker E R → Asker E R
 asker_for table p (OnPath call path) asker = asker_past (opening_of table p call path) asker
+asker_for table p (Hold number call path) asker = asker_past (opening_of table p call path) asker
 asker_for table p action asker = asker
 
 -- what a process's request changes, or why it is refused, by what the process keeps

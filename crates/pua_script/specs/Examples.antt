@@ -1,17 +1,22 @@
 -- Worked rows on scripts: a listing's lines, a script's lines, and the answers.
-use Rattle.std.specs.Prelude.{◌≡◌, ℕ, Bool, true, false, List, [], ◌∷◌, ◌++◌, Some, None, Result, Ok, Err, codes, refl, replicate}
+use Rattle.std.specs.Prelude.{◌≡◌, ℕ, ◌+◌, Bool, true, false, List, [], ◌∷◌, ◌++◌, Some, None, option_map, unwrap_or, Result, Ok, Err}
+use Rattle.std.specs.Prelude.{codes, refl, replicate}
 use Rattle.pua_tree.specs.Examples.{text_of_lines}
 use Rattle.pua_tree.specs.Listing.{listing}
 use Rattle.pua_tree.specs.Tree.{Tree}
+use Rattle.pua_tree.specs.declared.node.Kind.TheVariants as kind
+use Rattle.pua_calls.specs.Promises.{reading, writing}
 use Rattle.pua_calls.specs.Calls.{CallTable, standard_table, openbsd_table}
 use Rattle.pua_calls.specs.declared.rules.Rules.TheVariants.{Openbsd}
 use Rattle.pua_script.specs.Requests.{Asked, comment}
 use Rattle.pua_script.specs.Scripts.{request_by, script, script_by}
-use Rattle.pua_script.specs.Replay.{answers_to, new_world, told}
+use Rattle.pua_policy.specs.States.{ProcessState}
+use Rattle.pua_policy.specs.declared.open_file.OpenFile.{OpenFile}
+use Rattle.pua_script.specs.Replay.{answers_to, kept_at, new_world, told, world_after}
 use Rattle.pua_script.specs.Family.{is_exec, none_done}
 use Rattle.pua_tree.specs.declared.fault.ListingFault.{ListingFault}
-use Rattle.pua_path.specs.declared.errno.Errno.TheVariants.{EPERM, ENOENT, EACCES, EAGAIN, EBUSY, EEXIST, ENOTDIR, EISDIR, EINVAL, ELOOP}
-use Rattle.pua_path.specs.declared.errno.Errno.TheVariants.{ENAMETOOLONG, ENOTEMPTY, ENOSYS, ENOTSOCK, EADDRINUSE}
+use Rattle.pua_path.specs.declared.errno.Errno.TheVariants.{EPERM, ENOENT, EBADF, EACCES, EAGAIN, EBUSY, EEXIST, ENOTDIR, EISDIR, EINVAL}
+use Rattle.pua_path.specs.declared.errno.Errno.TheVariants.{ELOOP, ENAMETOOLONG, ENOTEMPTY, ENOSYS, ENOTSOCK, EADDRINUSE}
 use Rattle.pua_calls.specs.declared.call.Call.TheVariants as call
 use Rattle.pua_script.specs.declared.request.Action.TheVariants.{OnPath, Exit}
 use Rattle.pua_script.specs.declared.answer.Answer.{Answer}
@@ -311,6 +316,141 @@ uses_rows = record {
   escaped = refl;
 }
 
+-- files that promises open, and a file beside them
+abbrev pub opened_tree : List (List ℕ)
+opened_tree = root_alone ++ codes "1 dir 0 dev" ∷ codes "2 file 1 tty" ∷ codes "3 dir 0 etc" ∷ codes "4 file 3 resolv.conf"
+    ∷ codes "5 file 3 passwd" ∷ codes "6 dir 0 tmp" ∷ codes "7 file 6 x" ∷ codes "8 dir 0 usr" ∷ codes "9 dir 8 share"
+    ∷ codes "10 dir 9 zoneinfo" ∷ codes "11 file 10 UTC" ∷ []
+
+-- a directory in which one with a file stands, and a program
+abbrev pub spool : List (List ℕ)
+spool = codes "tree 1" ∷ codes "0 dir" ∷ codes "1 dir 0 spool" ∷ codes "2 dir 1 new" ∷ codes "3 file 2 a" ∷ codes "4 prog 0 sh" ∷ []
+
+-- what a process has open after a script
+abbrev pub files_over : Result Tree ListingFault → Result (List Asked) ScriptFault → ℕ → List (ℕ × OpenFile)
+files_over (Ok t) (Ok asks) process =
+    unwrap_or (option_map (λ (p : ProcessState). p.files) (kept_at (world_after openbsd_table (new_world t) asks) process)) []
+files_over _ _ process = []
+
+abbrev pub open_by_openbsd : ℕ → List (List ℕ) → List (ℕ × OpenFile)
+open_by_openbsd process lines = files_over (listing (text_of_lines spool)) (script_by Openbsd (text_of_lines lines)) process
+
+pub record FileRows : Type 0 where
+  -- an open that is kept is answered as the open alone, and a descriptor that stands for nothing can't be closed
+  pub held : answers_by_openbsd spool (codes "1 hold 3 open-r /spool/new/a" ∷ codes "1 hold 4 open-w /spool"
+      ∷ codes "1 hold 1023 open-rw /none" ∷ codes "1 close 3" ∷ codes "1 close 3" ∷ codes "1 close 4" ∷ []) ≡ Okay ∷ Failed EISDIR
+      ∷ Failed ENOENT ∷ Okay ∷ Failed EBADF ∷ Failed EBADF ∷ []
+  -- it needs what the open needs
+  pub promised : answers_by_openbsd spool (codes "1 pledge stdio,rpath -" ∷ codes "1 hold 3 open-r /spool/new/a"
+      ∷ codes "1 hold 3 open-w /spool/new/a" ∷ codes "1 close 3" ∷ []) ≡ Okay ∷ Okay ∷ Killed ∷ Gone ∷ []
+  -- fchdir asks no promise and no veil; what paths name from there the veils judge
+  pub entered : answers_by_openbsd spool (codes "1 hold 3 open-r /spool/new" ∷ codes "1 hold 4 open-r /sh" ∷ codes "1 unveil /sh r"
+      ∷ codes "1 unveil - -" ∷ codes "1 pledge stdio,rpath -" ∷ codes "1 fchdir 3" ∷ codes "1 stat a" ∷ codes "1 stat ../../sh"
+      ∷ codes "1 fchdir 4" ∷ codes "1 fchdir 5" ∷ []) ≡ Okay ∷ Okay ∷ Okay ∷ Okay ∷ Okay ∷ Okay ∷ Failed ENOENT ∷ Okay ∷ Failed ENOTDIR
+      ∷ Failed EBADF ∷ []
+  -- a fork copies descriptors, an exec keeps them, and each process closes its own
+  pub copied : answers_by_openbsd spool (codes "1 hold 3 open-r /spool/new/a" ∷ codes "1 fork 2" ∷ codes "2 exec /sh" ∷ codes "1 close 3"
+      ∷ codes "2 close 3" ∷ codes "2 close 3" ∷ []) ≡ Okay ∷ Okay ∷ Okay ∷ Okay ∷ Okay ∷ Failed EBADF ∷ []
+  -- an exec keeps them with execpromises too
+  pub kept : answers_by_openbsd spool (codes "1 hold 3 open-r /spool" ∷ codes "1 pledge - stdio,rpath" ∷ codes "1 exec /sh"
+      ∷ codes "1 fchdir 3" ∷ codes "1 stat new" ∷ codes "1 mkdir x" ∷ []) ≡ Okay ∷ Okay ∷ Okay ∷ Okay ∷ Okay ∷ Killed ∷ []
+  -- a close is of its number alone, whatever else stands for the same node
+  pub closed : answers_by_openbsd spool (codes "1 hold 3 open-r /sh" ∷ codes "1 hold 4 open-r /sh" ∷ codes "1 hold 5 open-r /sh"
+      ∷ codes "1 close 4" ∷ codes "1 close 4" ∷ codes "1 close 3" ∷ codes "1 close 5" ∷ []) ≡ Okay ∷ Okay ∷ Okay ∷ Okay ∷ Failed EBADF
+      ∷ Okay ∷ Okay ∷ []
+  -- a hold closes what its number stood for, and one that is refused doesn't
+  pub held_again : answers_by_openbsd spool (codes "1 hold 3 open-r /sh" ∷ codes "1 hold 3 open-r /spool" ∷ codes "1 fchdir 3"
+      ∷ codes "1 hold 3 open-r /no" ∷ codes "1 fchdir 3" ∷ codes "1 hold 3 open-w /sh" ∷ codes "1 fchdir 3" ∷ []) ≡ Okay ∷ Okay ∷ Okay
+      ∷ Failed ENOENT ∷ Okay ∷ Okay ∷ Failed ENOTDIR ∷ []
+  -- what is open is so with the letters of the call, whatever the veils leave, in the order of the numbers
+  pub lettered : open_by_openbsd 1 (codes "1 unveil / rwx" ∷ codes "1 hold 7 open-rw /sh" ∷ codes "1 hold 3 open-r /sh"
+      ∷ codes "1 hold 0 open-w /spool/new/a" ∷ codes "1 hold 4 open-r /spool" ∷ codes "1 hold 5 open-w /spool" ∷ [])
+      ≡ (0, record { node = 3; kind = kind.File; letters = writing }) ∷ (3, record { node = 4; kind = kind.Prog; letters = reading })
+      ∷ (4, record { node = 1; kind = kind.Dir; letters = reading })
+      ∷ (7, record { node = 4; kind = kind.Prog; letters = reading + writing }) ∷ []
+  -- it stays open when its names go, and a removed directory is one
+  pub outlives : answers_by_openbsd spool (codes "1 hold 3 open-r /spool/new/a" ∷ codes "1 hold 4 open-r /spool/new"
+      ∷ codes "1 unlink /spool/new/a" ∷ codes "1 rename /spool/new /n" ∷ codes "1 close 3" ∷ codes "1 fchdir 4" ∷ codes "1 create x"
+      ∷ codes "1 unlink /n/x" ∷ codes "1 rmdir /n" ∷ codes "1 fchdir 4" ∷ codes "1 stat ." ∷ []) ≡ Okay ∷ Okay ∷ Okay ∷ Okay ∷ Okay ∷ Okay
+      ∷ Okay ∷ Okay ∷ Okay ∷ Okay ∷ Failed ENOENT ∷ []
+  -- where a promise opens a path by itself, a hold is answered as the open
+  pub opened : answers_by_openbsd opened_tree (codes "1 unveil /tmp r" ∷ codes "1 pledge stdio,dns -"
+      ∷ codes "1 hold 3 open-r /etc/resolv.conf" ∷ codes "1 close 3" ∷ codes "1 hold 3 open-w /etc/resolv.conf" ∷ []) ≡ Okay ∷ Okay ∷ Okay
+      ∷ Okay ∷ Killed ∷ []
+  -- with stdio alone fchdir and close are answered
+  pub unasked : answers_by_openbsd spool (codes "1 hold 3 open-r /spool" ∷ codes "1 unveil /sh x" ∷ codes "1 pledge stdio -"
+      ∷ codes "1 fchdir 3" ∷ codes "1 close 3" ∷ []) ≡ Okay ∷ Okay ∷ Okay ∷ Okay ∷ Okay ∷ []
+  -- what another process sends is taken: by one with recvfd from one with sendfd, and no directory where one of both was pledged
+  pub taken : answers_by_openbsd spool (codes "1 hold 3 open-r /spool/new/a" ∷ codes "1 hold 4 open-r /spool" ∷ codes "1 fork 2"
+      ∷ codes "2 close 3" ∷ codes "2 take 0 1 4" ∷ codes "2 take 3 1 3" ∷ codes "2 close 3" ∷ codes "1 pledge stdio,sendfd -"
+      ∷ codes "2 take 5 1 4" ∷ codes "2 take 5 1 3" ∷ codes "2 take 5 1 9" ∷ codes "2 take 5 9 3" ∷ codes "1 pledge stdio -"
+      ∷ codes "2 take 5 1 3" ∷ codes "2 pledge stdio -" ∷ codes "2 take 5 1 3" ∷ []) ≡ Okay ∷ Okay ∷ Okay ∷ Okay ∷ Okay ∷ Okay ∷ Okay
+      ∷ Okay ∷ Failed EINVAL ∷ Okay ∷ Failed EBADF ∷ Failed EBADF ∷ Okay ∷ Failed EPERM ∷ Okay ∷ Killed ∷ []
+  -- from one that has ended nothing is taken
+  pub taken_late : answers_by_openbsd spool (codes "1 fork 2" ∷ codes "1 hold 3 open-r /sh" ∷ codes "1 exit" ∷ codes "2 take 3 1 3" ∷ [])
+      ≡ Okay ∷ Okay ∷ Okay ∷ Failed EBADF ∷ []
+  -- nor is a directory taken where the taker alone was pledged, nor anything without recvfd, under `error` too
+  pub taken_pledged : answers_by_openbsd spool (codes "1 fork 2" ∷ codes "1 hold 4 open-r /spool" ∷ codes "2 pledge stdio,recvfd,error -"
+      ∷ codes "2 take 5 1 4" ∷ codes "2 pledge stdio,error -" ∷ codes "1 hold 4 open-r /sh" ∷ codes "2 take 5 1 4" ∷ codes "2 close 5"
+      ∷ []) ≡ Okay ∷ Okay ∷ Okay ∷ Failed EINVAL ∷ Okay ∷ Okay ∷ Failed ENOSYS ∷ Failed EBADF ∷ []
+  -- it stands for the same file with the same letters, whatever the taker's veils leave, and the sender keeps its own
+  pub taken_as : open_by_openbsd 2 (codes "1 fork 2" ∷ codes "1 hold 3 open-rw /sh" ∷ codes "2 unveil /spool r" ∷ codes "2 take 9 1 3"
+      ∷ []) ≡ (9, record { node = 4; kind = kind.Prog; letters = reading + writing }) ∷ []
+  pub taken_of : open_by_openbsd 1 (codes "1 fork 2" ∷ codes "1 hold 3 open-rw /sh" ∷ codes "2 take 9 1 3" ∷ [])
+      ≡ (3, record { node = 4; kind = kind.Prog; letters = reading + writing }) ∷ []
+  -- by the standard rules there are no such lines
+  pub standard_hold : script (text_of_lines (codes "1 hold 3 open-r /" ∷ [])) ≡ Err (BadCall 1)
+  pub standard_close : script (text_of_lines (codes "1 close 3" ∷ [])) ≡ Err (BadCall 1)
+  pub standard_fchdir : script (text_of_lines (codes "1 fchdir 3" ∷ [])) ≡ Err (BadCall 1)
+  pub standard_take : script (text_of_lines (codes "1 take 3 1 3" ∷ [])) ≡ Err (BadCall 1)
+  -- a descriptor is 0 to 1023, and a hold opens and makes nothing
+  pub above : read_by_openbsd (codes "1 close 1024") ≡ Err (BadCall 1)
+  pub above_held : read_by_openbsd (codes "1 hold 1024 open-r /") ≡ Err (BadCall 1)
+  pub above_taken : read_by_openbsd (codes "1 take 1024 1 3") ≡ Err (BadCall 1)
+  pub above_theirs : read_by_openbsd (codes "1 take 3 1 1024") ≡ Err (BadCall 1)
+  pub below : read_by_openbsd (codes "1 fchdir -1") ≡ Err (BadCall 1)
+  pub no_open : read_by_openbsd (codes "1 hold 3 create /a") ≡ Err (BadCall 1)
+  pub no_path : read_by_openbsd (codes "1 hold 3 open-r") ≡ Err (BadCall 1)
+  pub bad_path : read_by_openbsd (codes "1 hold 3 open-r /\\000") ≡ Err (BadPath 1)
+  pub two_numbers : read_by_openbsd (codes "1 close 3 4") ≡ Err (BadCall 1)
+  pub no_process : read_by_openbsd (codes "1 take 3 0 4") ≡ Err (BadCall 1)
+  pub four : read_by_openbsd (codes "1 take 3 1 4 5") ≡ Err (BadCall 1)
+
+pub file_rows : FileRows
+file_rows = record {
+  held = refl;
+  promised = refl;
+  entered = refl;
+  copied = refl;
+  kept = refl;
+  closed = refl;
+  held_again = refl;
+  lettered = refl;
+  outlives = refl;
+  opened = refl;
+  unasked = refl;
+  taken = refl;
+  taken_late = refl;
+  taken_pledged = refl;
+  taken_as = refl;
+  taken_of = refl;
+  standard_hold = refl;
+  standard_close = refl;
+  standard_fchdir = refl;
+  standard_take = refl;
+  above = refl;
+  above_held = refl;
+  above_taken = refl;
+  above_theirs = refl;
+  below = refl;
+  no_open = refl;
+  no_path = refl;
+  bad_path = refl;
+  two_numbers = refl;
+  no_process = refl;
+  four = refl;
+}
+
 abbrev pub exits : Asked
 exits = record { process = 1; action = Exit }
 
@@ -386,12 +526,6 @@ comment_rows = record {
   standard_blank = refl;
   standard_behind = refl;
 }
-
--- files that promises open, and a file beside them
-abbrev pub opened_tree : List (List ℕ)
-opened_tree = root_alone ++ codes "1 dir 0 dev" ∷ codes "2 file 1 tty" ∷ codes "3 dir 0 etc" ∷ codes "4 file 3 resolv.conf"
-    ∷ codes "5 file 3 passwd" ∷ codes "6 dir 0 tmp" ∷ codes "7 file 6 x" ∷ codes "8 dir 0 usr" ∷ codes "9 dir 8 share"
-    ∷ codes "10 dir 9 zoneinfo" ∷ codes "11 file 10 UTC" ∷ []
 
 abbrev pub openings_of : List (List ℕ) → List Answer
 openings_of lines = answers_by_openbsd opened_tree lines

@@ -7,7 +7,7 @@ use Rattle.pua_calls.specs.declared.call.Call.TheVariants as call
 use Rattle.pua_script.specs.Requests.{Asked}
 use Rattle.pua_script.specs.Replay.{World, kept_at, apply}
 use Rattle.pua_script.specs.declared.request.Action.{Action}
-use Rattle.pua_script.specs.declared.request.Action.TheVariants.{OnPath, Fork}
+use Rattle.pua_script.specs.declared.request.Action.TheVariants.{OnPath, Fork, Fchdir}
 use Rattle.pua_script.specs.declared.answer.Answer.{Answer}
 use Rattle.pua_script.specs.declared.answer.Answer.TheVariants.{Okay}
 
@@ -23,8 +23,10 @@ abbrev pub is_exec : Action → Bool
 is_exec (OnPath call.Exec path) = true
 is_exec _ = false
 
+-- a chdir, or an fchdir
 abbrev pub is_chdir : Action → Bool
 is_chdir (OnPath call.Chdir path) = true
+is_chdir (Fchdir number) = true
 is_chdir _ = false
 
 abbrev pub with_child : Action → List ℕ → List ℕ

@@ -9,6 +9,7 @@ use Rattle.pua_script.specs.Tightening.{NoCallNeedsError, IsNarrowedBy, EndsWith
 use Rattle.pua_calls.specs.declared.call.Call.TheVariants.{Rmdir, Unlink}
 use Rattle.pua_script.specs.Confinement.{NeedsC, CallsNeed, TakingNeedsC, ChangingNeeds, HoldsNone, UncoveredStay, TreesAlong}
 use Rattle.pua_script.specs.Family.{is_exec, is_done, none_done, members_alone, family, is_member, HasKept}
+use Rattle.pua_script.specs.Holding.{HoldsNoMore, none_taken}
 use Rattle.pua_script.specs.Laws.{IsConfined}
 use Rattle.pua_script.specs.declared.answer.Answer.{Answer}
 use Rattle.pua_script.specs.Worlds.{WorldState, world_of, run_to, state_after_all, process_at}
@@ -66,7 +67,7 @@ pub record IsConfining (before : WorldState) (now : ProcessState) (after : World
 
 -- what a list of requests leaves of the family of a process that was confined, as long as no exec of a
 -- member is answered ok: each member allows no more afterwards, and where
--- members alone ask, what they change is confined
+-- members alone ask, what they change is confined; and what they have open was open, or could be opened, where none took from others
 pub record AreHeld (before : WorldState) (asks : List Asked) (after : WorldState) : Type 0 where
   pub narrows : (process : ℕ) (now : ProcessState) →
       process_at before process ≡ Some now → IsConfined now → IsTrue (none_done is_exec before.table (world_of before) asks (process ∷ [])) →
@@ -75,6 +76,11 @@ pub record AreHeld (before : WorldState) (asks : List Asked) (after : WorldState
   pub confines : (process : ℕ) (now : ProcessState) →
       process_at before process ≡ Some now → IsConfined now → IsTrue (none_done is_exec before.table (world_of before) asks (process ∷ [])) →
       IsTrue (members_alone before.table (world_of before) asks (process ∷ [])) → IsConfining before now after
+  pub holds : NoCallNeedsError before.table → (process : ℕ) (now : ProcessState) →
+      process_at before process ≡ Some now → IsConfined now → IsTrue (none_done is_exec before.table (world_of before) asks (process ∷ [])) →
+      IsTrue (none_taken before.table (world_of before) asks (process ∷ [])) →
+      (member : ℕ) → IsTrue (is_member (family before.table (world_of before) asks (process ∷ [])) member) →
+      HasKept (world_of after) member (HoldsNoMore before.table now)
 
 -- some first ones of a list were served, and no more of it, and what a list leaves of families is true of these
 pub record AreServedInPart (before : WorldState) (asks : List Asked) (after : WorldState) : Type 0 where

@@ -1,18 +1,20 @@
 -- What the guards of a change had: which checks a granted request passed.
-use Rattle.std.specs.Prelude.{◌≡◌, ℕ, false, ◌||◌, List, [], ◌∷◌, ◌⊎◌, Option, Some, None, Ok, IsOk, IsTrue, IsFalse, is_some}
+use Rattle.std.specs.Prelude.{◌≡◌, ℕ, true, false, ◌||◌, List, [], ◌∷◌, ◌⊎◌, Option, Some, None, Ok, IsOk, IsTrue, IsFalse, is_some}
 use Rattle.pua_tree.specs.Tree.{Tree, Spot, is_dir, is_living, look, target_fits}
 use Rattle.pua_tree.specs.Edits.{is_same_node, cut, shift}
 use Rattle.pua_path.specs.Paths.{path_fault}
 use Rattle.pua_path.specs.Resolution.{resolution_of_text}
 use Rattle.pua_path.specs.Fits.{spot_named, node_named}
-use Rattle.pua_calls.specs.Promises.{proc, unveil}
+use Rattle.pua_calls.specs.Promises.{proc, recvfd, unveil}
 use Rattle.pua_calls.specs.Calls.{CallTable, PairRule, rule_of}
 use Rattle.pua_calls.specs.TmpTable.{tmp_table}
-use Rattle.pua_policy.specs.States.{ProcessState, Pledged, Unveiled, Locked, Ended, working_dir, is_locked, pledge_fault, unveil_fault, may_any}
+use Rattle.pua_policy.specs.States.{ProcessState, Pledged, Unveiled, Locked, Moved, Ended, Filed, working_dir, is_locked, pledge_fault}
+use Rattle.pua_policy.specs.States.{file_at, is_directory, may_any, unveil_fault}
+use Rattle.pua_policy.specs.declared.open_file.OpenFile.{OpenFile}
 use Rattle.pua_policy.specs.Verdict.{place_of, cover, cover_fault, object_named, object_fault, object_of}
 use Rattle.pua_script.specs.Decide.{link_node, is_whole, kinds_fault, inside_fault, unveil_errno, given_set, is_unknown, Change, NoChange}
-use Rattle.pua_script.specs.Decide.{AddNode, CutRow, ShiftRow, TieRow, AddEvent, CopyAs, adding, change_by, shifting, tying, ways_fault}
-use Rattle.pua_script.specs.Decide.{named_by, decide, asker_of, cover_past, Sole}
+use Rattle.pua_script.specs.Decide.{AddNode, CutRow, ShiftRow, TieRow, AddEvent, CopyAs, TakeFile, adding, change_by, shifting, tying, ways_fault}
+use Rattle.pua_script.specs.Decide.{named_by, decide, asker_of, cover_past, holding, Sole}
 use Rattle.pua_script.specs.Openings.{Opening, opening_of}
 use Rattle.pua_path.specs.declared.text.Ending.{Ending}
 use Rattle.pua_path.specs.declared.text.Ending.TheVariants as ending
@@ -25,6 +27,7 @@ use Rattle.pua_policy.specs.declared.answer.May.TheVariants as may
 use Rattle.pua_script.specs.declared.request.Given.{Given}
 use Rattle.pua_script.specs.declared.request.Action.{Action}
 use Rattle.pua_script.specs.declared.request.Action.TheVariants.{OnPath, Symlink, Rename, Link, Pledge, Unveil, Lock, Fork, Exit, Uses, Comment}
+use Rattle.pua_script.specs.declared.request.Action.TheVariants.{Hold, Close, Fchdir, Take}
 
 -- a call on what its path named: its promises, its letters, and the kind that it is for
 pub record OnOne (table : CallTable) (t : Tree) (h : ProcessState) (call : Call) (path : List ℕ) (object : Found) : Type 0 where
@@ -91,6 +94,13 @@ pub record IsPledge (whose : Rules) (h : ProcessState) (promises execpromises : 
   pub within : pledge_fault whose h (given_set promises) (given_set execpromises) ≡ None
   pub is : change ≡ AddEvent (Pledged (given_set promises) (given_set execpromises))
 
+-- a descriptor that is made the working directory is of a directory
+pub record IsEntered (h : ProcessState) (number : ℕ) (change : Change) : Type 0 where
+  pub file : OpenFile
+  pub held : file_at h.files number ≡ Some file
+  pub directory : is_directory file ≡ true
+  pub is : change ≡ AddEvent (Moved file.node)
+
 -- which checks a request passed that changes this
 abbrev pub IsDecided : CallTable → Tree → ProcessState → Action → Change → Type 0
 IsDecided table t h (OnPath call path) change =
@@ -105,12 +115,20 @@ IsDecided table t h Lock change = (may_any h (unveil ∷ []) ≡ may.Yes) × (ch
 IsDecided table t h (Fork new) change = (may_any h (proc ∷ []) ≡ may.Yes) × (change ≡ CopyAs new)
 IsDecided table t h Exit change = change ≡ AddEvent Ended
 IsDecided table t h (Uses sets) change = (may_any h sets ≡ may.Yes) × (change ≡ NoChange)
+IsDecided table t h (Hold number call path) change =
+    (object : Found) × (OnOne table t h call path object ⊎ IsOpened table t h call path object) × (change ≡ holding t number call object)
+IsDecided table t h (Close number) change =
+    (file : OpenFile) × (file_at h.files number ≡ Some file) × (change ≡ AddEvent (Filed number None))
+IsDecided table t h (Fchdir number) change = IsEntered h number change
+IsDecided table t h (Take number from theirs) change = (may_any h (recvfd ∷ []) ≡ may.Yes) × (change ≡ TakeFile number from theirs)
 IsDecided table t h Comment change = change ≡ NoChange
 
--- what a change passed, whatever opened it: a call on a path passed all checks of this table, or it changes nothing; else its guards
+-- what a change passed, whatever opened it: a call on a path passed all checks of this table, or it changes nothing, and an open
+-- that is kept changes no more than a descriptor; else its guards
 abbrev pub IsGranted : CallTable → Tree → ProcessState → Action → Change → Type 0
 IsGranted table t h (OnPath call path) change =
     ((object : Found) × OnOne table t h call path object × (change ≡ change_by table call object)) ⊎ (change ≡ NoChange)
+IsGranted table t h (Hold number call path) change = (object : Found) × (change ≡ holding t number call object)
 IsGranted table t h action change = IsDecided table t h action change
 
 -- each decision had its guards

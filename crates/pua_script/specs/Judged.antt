@@ -10,7 +10,7 @@ use Rattle.pua_calls.specs.Effects.{edits}
 use Rattle.pua_calls.specs.declared.effect.Effect.{Effect}
 use Rattle.pua_calls.specs.declared.effect.Effect.TheVariants as effect
 use Rattle.pua_calls.specs.declared.call.Call.{Call}
-use Rattle.pua_policy.specs.States.{Locked, Moved, Ended, ProcessState}
+use Rattle.pua_policy.specs.States.{Locked, Moved, Ended, Filed, ProcessState}
 use Rattle.pua_policy.specs.Verdict.{place_of}
 use Rattle.pua_policy.specs.declared.answer.Refusal.{Refusal}
 use Rattle.pua_script.specs.Decide.{NoChange, AddNode, CutRow, ShiftRow, TieRow, BeginProgram, AddEvent, Requester, Change, Decision, pledging}
@@ -53,6 +53,8 @@ decision_by asker (granted.Unveil object perms) = veiling asker (place_of object
 decision_by asker granted.Lock = Ok (AddEvent Locked)
 decision_by asker (granted.Enter dir) = Ok (AddEvent (Moved dir))
 decision_by asker granted.Exit = Ok (AddEvent Ended)
+decision_by asker (granted.Hold number file) = Ok (AddEvent (Filed number (Some file)))
+decision_by asker (granted.Close number) = Ok (AddEvent (Filed number None))
 
 -- a call that makes a name or takes one away
 abbrev pub is_edit : Call → Bool

@@ -16,6 +16,7 @@ pub mod Bytes
 pub mod Family
 pub mod Tightening
 pub mod OpeningLaws
+pub mod Holding
 pub mod Confinement
 pub mod ErrorTables
 pub mod Futures

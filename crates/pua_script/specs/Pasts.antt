@@ -1,15 +1,17 @@
 -- The replay by histories: it keeps the histories of processes, and what is left of a history decides.
-use Rattle.std.specs.Prelude.{◌≡◌, ℕ, if◌then◌else◌, List, [], ◌∷◌, map, nat_eq, Option, Some, None, Ok, Err}
+use Rattle.std.specs.Prelude.{◌≡◌, ℕ, if◌then◌else◌, List, [], ◌∷◌, map, nat_eq, Option, Some, None, Result, Ok, Err}
 use Rattle.std.specs.Map.{lookup}
 use Rattle.pua_tree.specs.Tree.{Tree}
 use Rattle.pua_calls.specs.Calls.{CallTable}
-use Rattle.pua_policy.specs.States.{Ended}
+use Rattle.pua_policy.specs.States.{Ended, Filed, is_pledged}
+use Rattle.pua_policy.specs.declared.open_file.OpenFile.{OpenFile}
 use Rattle.pua_policy.specs.History.{History, new_history, after_exec, is_ended, state_of}
+use Rattle.pua_path.specs.declared.errno.Errno.{Errno}
 use Rattle.pua_policy.specs.declared.answer.Refusal.TheVariants.{Failed, Killed}
 use Rattle.pua_script.specs.Requests.{Asked}
-use Rattle.pua_script.specs.Decide.{Decision, BeginProgram, AddEvent, CopyAs, decide}
+use Rattle.pua_script.specs.Decide.{Decision, BeginProgram, AddEvent, CopyAs, TakeFile, decide}
 use Rattle.pua_script.specs.Replay.{World, Effect, Leaves, Copies, new_world, put_at, fork_effect, change_effect, come_of, answer_to}
-use Rattle.pua_script.specs.Replay.{answers_to, world_after}
+use Rattle.pua_script.specs.Replay.{answers_to, kept_at, sent_by, world_after}
 use Rattle.pua_script.specs.declared.answer.Answer.{Answer}
 use Rattle.pua_script.specs.declared.answer.Answer.TheVariants.{Gone}
 
@@ -36,11 +38,17 @@ abbrev pub past_edited : Past → ℕ → History → Effect → Past
 past_edited past n h (Leaves t p) = record { tree = t; histories = put_at n h past.histories }
 past_edited past n h _ = past
 
+abbrev pub past_taken : Past → ℕ → History → ℕ → Result OpenFile Errno → Past
+past_taken past n h number (Ok file) = with_past past n (Filed number (Some file) ∷ h)
+past_taken past n h number (Err errno) = past
+
 -- what a decision adds to the history of the one that asked
 abbrev pub past_decided : Past → ℕ → History → Decision → Past
 past_decided past n h (Ok (AddEvent event)) = with_past past n (event ∷ h)
 past_decided past n h (Ok (BeginProgram left)) = with_past past n (after_exec left h)
 past_decided past n h (Ok (CopyAs new)) = past_forked past h (fork_effect (left_of past) (state_of h) new)
+past_decided past n h (Ok (TakeFile number from theirs)) =
+    past_taken past n h number (sent_by (is_pledged (state_of h)) (kept_at (left_of past) from) theirs)
 past_decided past n h (Ok change) = past_edited past n h (change_effect (left_of past) (state_of h) change)
 past_decided past n h (Err (Failed errno)) = past
 past_decided past n h (Err Killed) = with_past past n (Ended ∷ h)

@@ -1,16 +1,19 @@
 -- What requests answer and leave, one after another: what each decides is made of the world.
-use Rattle.std.specs.Prelude.{ℕ, ◌||◌, if◌then◌else◌, List, [], ◌∷◌, length, nat_eq, nat_le, Option, Some, None, Result, Ok, Err, is_some}
+use Rattle.std.specs.Prelude.{ℕ, ◌||◌, ◌&&◌, not, Bool, if◌then◌else◌, List, [], ◌∷◌, length, nat_eq, nat_le, Option, Some, None, Result, Ok, Err, is_some}
 use Rattle.std.specs.Map.{lookup}
 use Rattle.pua_tree.specs.Tree.{Tree}
 use Rattle.pua_tree.specs.Edits.{add, tie, cut, shift}
 use Rattle.pua_calls.specs.Calls.{CallTable}
-use Rattle.pua_policy.specs.States.{ProcessState, state_after, Ended, new_process, is_ended, after_exec}
+use Rattle.pua_calls.specs.Promises.{holds, sendfd}
+use Rattle.pua_policy.specs.States.{ProcessState, state_after, Ended, Filed, new_process, is_ended, after_exec, file_at, held_set}
+use Rattle.pua_policy.specs.States.{is_directory, is_pledged}
 use Rattle.pua_script.specs.Requests.{Asked, says_nothing}
 use Rattle.pua_script.specs.Limits.{most_processes}
-use Rattle.pua_script.specs.Decide.{Change, NoChange, AddNode, CutRow, ShiftRow, TieRow, BeginProgram, AddEvent, CopyAs, Decision, decide}
+use Rattle.pua_script.specs.Decide.{Change, NoChange, AddNode, CutRow, ShiftRow, TieRow, BeginProgram, AddEvent, CopyAs, TakeFile, Decision, decide}
 use Rattle.pua_tree.specs.declared.fault.TreeFault.{TreeFault}
 use Rattle.pua_path.specs.declared.errno.Errno.{Errno}
-use Rattle.pua_path.specs.declared.errno.Errno.TheVariants.{EAGAIN, ENOSPC}
+use Rattle.pua_path.specs.declared.errno.Errno.TheVariants.{EAGAIN, EBADF, EINVAL, ENOSPC, EPERM}
+use Rattle.pua_policy.specs.declared.open_file.OpenFile.{OpenFile}
 use Rattle.pua_policy.specs.declared.answer.Refusal.{Refusal}
 use Rattle.pua_policy.specs.declared.answer.Refusal.TheVariants as refusals
 use Rattle.pua_script.specs.declared.request.Action.{Action}
@@ -61,6 +64,26 @@ edited_tree h (Err fault) = Fails ENOSPC
 abbrev pub fork_effect : World → ProcessState → ℕ → Effect
 fork_effect w h new = if is_some (kept_at w new) || nat_le most_processes (length w.processes) then Fails EAGAIN else Copies new
 
+-- an open file that is sent: by a process that may send, and no directory where one of both was pledged
+abbrev pub sent_file : Bool → ProcessState → OpenFile → Result OpenFile Errno
+sent_file pledged sender file =
+    if not (holds (held_set sender) sendfd) then Err EPERM
+    else (if is_directory file && (pledged || is_pledged sender) then Err EINVAL else Ok file)
+
+-- what is sent to a process, pledged or not, of what the sender has as a descriptor
+abbrev pub sent_of : Bool → ProcessState → Option OpenFile → Result OpenFile Errno
+sent_of pledged sender None = Err EBADF
+sent_of pledged sender (Some file) = sent_file pledged sender file
+
+abbrev pub sent_by : Bool → Option ProcessState → ℕ → Result OpenFile Errno
+sent_by pledged None theirs = Err EBADF
+sent_by pledged (Some sender) theirs = if is_ended sender then Err EBADF else sent_of pledged sender (file_at sender.files theirs)
+
+-- what another process has comes to stand as a descriptor
+abbrev pub take_effect : World → ProcessState → ℕ → Result OpenFile Errno → Effect
+take_effect w h number (Ok file) = Leaves w.tree (state_after (Filed number (Some file)) h)
+take_effect w h number (Err errno) = Fails errno
+
 -- what a change comes to in a world, whose tree may lack room for it, or its processes
 abbrev pub change_effect : World → ProcessState → Change → Effect
 change_effect w h NoChange = Leaves w.tree h
@@ -71,6 +94,7 @@ change_effect w h (TieRow spot x) = edited_tree h (tie w.tree spot.0 spot.1 x)
 change_effect w h (BeginProgram left) = Leaves w.tree (after_exec left h)
 change_effect w h (AddEvent event) = Leaves w.tree (state_after event h)
 change_effect w h (CopyAs new) = fork_effect w h new
+change_effect w h (TakeFile number from theirs) = take_effect w h number (sent_by (is_pledged h) (kept_at w from) theirs)
 
 -- the effect of a refused request
 abbrev pub refusal_effect : Refusal → Effect

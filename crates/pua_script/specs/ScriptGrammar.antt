@@ -6,18 +6,20 @@ use Rattle.std.specs.Str.Lines.{lines}
 use Rattle.pua_tree.specs.Names.{has_byte}
 use Rattle.pua_tree.specs.Spelling.{spelling, fields, is_field}
 use Rattle.pua_calls.specs.Promises.{holds, error, promises_of, perms_of}
+use Rattle.pua_calls.specs.Calls.{call_named_by}
 use Rattle.pua_calls.specs.Neighbours.{call_asked_by}
 use Rattle.pua_calls.specs.declared.rules.Rules.{Rules}
 use Rattle.pua_calls.specs.declared.rules.Rules.TheVariants.{Openbsd}
 use Rattle.pua_path.specs.declared.errno.Errno.{Errno}
 use Rattle.pua_calls.specs.declared.call.Call.{Call}
-use Rattle.pua_script.specs.Limits.{most_script_lines, most_number}
-use Rattle.pua_script.specs.Requests.{Asked, comment, is_symlink, has_no_nul}
+use Rattle.pua_script.specs.Limits.{most_descriptor, most_script_lines, most_number}
+use Rattle.pua_script.specs.Requests.{Asked, comment, is_open, is_symlink, has_no_nul}
 use Rattle.pua_script.specs.Scripts.{has_empty_word, is_blank, text_in, script_by}
 use Rattle.pua_script.specs.declared.request.Given.{Given}
 use Rattle.pua_script.specs.declared.request.Given.TheVariants.{Null, Good, Unknown}
 use Rattle.pua_script.specs.declared.request.Action.{Action}
 use Rattle.pua_script.specs.declared.request.Action.TheVariants.{OnPath, Symlink, Rename, Link, Pledge, Unveil, Lock, Fork, Exit, Uses}
+use Rattle.pua_script.specs.declared.request.Action.TheVariants.{Hold, Close, Fchdir, Take}
 
 -- a path or a target: `=` is the empty text, and anything else spells bytes without NUL
 pub data SpellsPath (field : List ℕ) : List ℕ → Type 0 where
@@ -60,6 +62,11 @@ SpellSets before (word ∷ words) sets =
 abbrev pub SpellsSets : List ℕ → List ℕ → Type 0
 SpellsSets field sets = SpellSets [] (slice_split (λ b. b == 124) field) sets
 
+-- the decimal of a descriptor
+pub record SpellsDescriptor (field : List ℕ) (number : ℕ) : Type 0 where
+  pub is : field ≡ decimal number
+  pub high : number ≤ most_descriptor
+
 -- the fields of a call and its arguments
 pub data SpellsAction (rules : Rules) : List (List ℕ) → Action → Type 0 where
   on_path : {word a path : List ℕ} {call : Call} → IsFalse (is_symlink call) → call_asked_by rules word ≡ Some call → SpellsPath a path →
@@ -79,6 +86,16 @@ pub data SpellsAction (rules : Rules) : List (List ℕ) → Action → Type 0 wh
       SpellsAction rules (word ∷ a ∷ []) (Fork new)
   exit : {word : List ℕ} → word ≡ codes "exit" → SpellsAction rules (word ∷ []) Exit
   uses : {word a sets : List ℕ} → rules ≡ Openbsd → word ≡ codes "uses" → SpellsSets a sets → SpellsAction rules (word ∷ a ∷ []) (Uses sets)
+  hold : {word a b c path : List ℕ} {number : ℕ} {call : Call} → rules ≡ Openbsd → word ≡ codes "hold" → SpellsDescriptor a number →
+      IsTrue (is_open call) → call_named_by Openbsd b ≡ Some call → SpellsPath c path →
+      SpellsAction rules (word ∷ a ∷ b ∷ c ∷ []) (Hold number call path)
+  close : {word a : List ℕ} {number : ℕ} → rules ≡ Openbsd → word ≡ codes "close" → SpellsDescriptor a number →
+      SpellsAction rules (word ∷ a ∷ []) (Close number)
+  fchdir : {word a : List ℕ} {number : ℕ} → rules ≡ Openbsd → word ≡ codes "fchdir" → SpellsDescriptor a number →
+      SpellsAction rules (word ∷ a ∷ []) (Fchdir number)
+  take : {word a b c : List ℕ} {number from theirs : ℕ} → rules ≡ Openbsd → word ≡ codes "take" → SpellsDescriptor a number →
+      b ≡ decimal from → 1 ≤ from → from ≤ most_number → SpellsDescriptor c theirs →
+      SpellsAction rules (word ∷ a ∷ b ∷ c ∷ []) (Take number from theirs)
 
 -- a text: the decimal of the process, and the fields of what it asks for, with single spaces between fields
 pub record SpellsRequest (rules : Rules) (text : List ℕ) (ask : Asked) : Type 0 where

@@ -3,7 +3,7 @@ use Rattle.std.specs.Prelude.{◌≡◌, ◌≢◌, MatchResult, ℕ, suc, Bool,
 use Rattle.std.specs.Prelude.{nat_lt, ◌==◌, Option}
 use Rattle.std.specs.Prelude.{Some, None, Result, Ok, Err, codes, ok_or, option_map}
 use Rattle.std.specs.List.{list_all, list_any, slice_split}
-use Rattle.std.specs.Option.{unwrap_or}
+use Rattle.std.specs.Option.{option_or, unwrap_or}
 use Rattle.std.specs.Result.{result_ok}
 use Rattle.std.specs.Str.Lines.{lines}
 use Rattle.pua_tree.specs.Names.{same_bytes, has_byte}
@@ -11,17 +11,19 @@ use Rattle.pua_tree.specs.Spelling.{bytes_spelled, fields, is_field, number_with
 use Rattle.pua_tree.specs.Steps.{◌>>=◌}
 use Rattle.pua_tree.specs.Listing.{only_if}
 use Rattle.pua_calls.specs.Promises.{holds, error, promises_of, perms_of}
+use Rattle.pua_calls.specs.Calls.{call_named_by}
 use Rattle.pua_calls.specs.Neighbours.{call_asked_by}
 use Rattle.pua_calls.specs.declared.rules.Rules.{Rules}
 use Rattle.pua_calls.specs.declared.rules.Rules.TheVariants.{Standard, Openbsd}
-use Rattle.pua_script.specs.Limits.{most_script_lines, most_number}
-use Rattle.pua_script.specs.Requests.{Asked, comment, is_symlink, has_no_nul}
+use Rattle.pua_script.specs.Limits.{most_descriptor, most_script_lines, most_number}
+use Rattle.pua_script.specs.Requests.{Asked, comment, is_open, is_symlink, has_no_nul}
 use Rattle.pua_path.specs.declared.errno.Errno.{Errno}
 use Rattle.pua_calls.specs.declared.call.Call.{Call}
 use Rattle.pua_script.specs.declared.request.Given.{Given}
 use Rattle.pua_script.specs.declared.request.Given.TheVariants.{Null, Good, Unknown}
 use Rattle.pua_script.specs.declared.request.Action.{Action}
 use Rattle.pua_script.specs.declared.request.Action.TheVariants.{OnPath, Symlink, Rename, Link, Pledge, Unveil, Lock, Fork, Exit, Uses}
+use Rattle.pua_script.specs.declared.request.Action.TheVariants.{Hold, Close, Fchdir, Take}
 use Rattle.pua_script.specs.declared.fault.ScriptFault.{ScriptFault}
 use Rattle.pua_script.specs.declared.fault.ScriptFault.TheVariants.{BadLine, BadCall, BadPath, BadList, TooMany, OutOfMemory}
 
@@ -88,21 +90,63 @@ pub data Form : Type 0 where
   ForkForm : ℕ → Form
   ExitForm : Form
   UsesForm : List ℕ → Form
+  HoldForm : ℕ → Call → List ℕ → Form
+  CloseForm : ℕ → Form
+  FchdirForm : ℕ → Form
+  TakeForm : ℕ → ℕ → ℕ → Form
 
--- the form of a line, if its call is known, has that many arguments, and a new process's number is one
+-- the number of a descriptor
+abbrev pub descriptor_in : List ℕ → Option ℕ
+descriptor_in field = number_within 0 most_descriptor field
+
+-- the number of a process
+abbrev pub number_in : List ℕ → Option ℕ
+number_in field = number_within 1 most_number field
+
+-- the call by which a path is opened and kept
+abbrev pub open_named : List ℕ → Option Call
+open_named word = only_if is_open (call_named_by Openbsd word)
+
+abbrev pub hold_form : Option ℕ → Option Call → List ℕ → Option Form
+hold_form (Some number) (Some call) path = Some (HoldForm number call path)
+hold_form _ _ path = None
+
+abbrev pub take_form : Option ℕ → Option ℕ → Option ℕ → Option Form
+take_form (Some number) (Some from) (Some theirs) = Some (TakeForm number from theirs)
+take_form _ _ _ = None
+
+-- the forms of lines about descriptors, with one argument and with three
+abbrev pub file_form : List ℕ → List ℕ → Option Form
+file_form word a =
+    if same_bytes word (codes "close") then option_map CloseForm (descriptor_in a)
+    else (if same_bytes word (codes "fchdir") then option_map FchdirForm (descriptor_in a) else None)
+
+abbrev pub files_form : List ℕ → List ℕ → List ℕ → List ℕ → Option Form
+files_form word a b c =
+    if same_bytes word (codes "hold") then hold_form (descriptor_in a) (open_named b) c
+    else (if same_bytes word (codes "take") then take_form (descriptor_in a) (number_in b) (descriptor_in c) else None)
+
+-- by OpenBSD's rules alone a line may be about descriptors
+abbrev pub if_openbsd : Rules → Option Form → Option Form
+if_openbsd Standard form = None
+if_openbsd Openbsd form = form
+
+-- the form of a line, if its call is known, has that many arguments, and its numbers are such
 abbrev pub form_of : Rules → List ℕ → List (List ℕ) → Option Form
 form_of rules word [] = if same_bytes word (codes "exit") then Some ExitForm else None
 form_of rules word (a ∷ []) =
     if same_bytes word (codes "fork") then option_map ForkForm (number_within 1 most_number a)
     else (if asks_promises rules word then Some (UsesForm a)
-    else option_map (λ call. PathForm call a) (only_if (λ call. not (is_symlink call)) (call_asked_by rules word)))
+    else option_or (option_map (λ call. PathForm call a) (only_if (λ call. not (is_symlink call)) (call_asked_by rules word)))
+    (if_openbsd rules (file_form word a)))
 form_of rules word (a ∷ b ∷ []) =
     if same_bytes word (codes "symlink") then Some (SymlinkForm a b)
     else (if same_bytes word (codes "rename") then Some (RenameForm a b)
     else (if same_bytes word (codes "link") then Some (LinkForm a b)
     else (if same_bytes word (codes "pledge") then Some (PledgeForm a b)
     else (if same_bytes word (codes "unveil") then Some (UnveilForm a b) else None))))
-form_of rules word (a ∷ b ∷ c ∷ more) = None
+form_of rules word (a ∷ b ∷ c ∷ []) = if_openbsd rules (files_form word a b c)
+form_of rules word (a ∷ b ∷ c ∷ d ∷ more) = None
 
 -- two paths, both read or the line's fault
 abbrev pub with_paths : ℕ → (List ℕ → List ℕ → Action) → List ℕ → List ℕ → Result Action ScriptFault
@@ -131,14 +175,21 @@ action_of n (UnveilForm a b) = unveil_of n a b
 action_of n (ForkForm new) = Ok (Fork new)
 action_of n ExitForm = Ok Exit
 action_of n (UsesForm a) = sets_in n a >>= λ sets. Ok (Uses sets)
+action_of n (HoldForm number call c) = ok_or (path_in c) (BadPath n) >>= λ path. Ok (Hold number call path)
+action_of n (CloseForm number) = Ok (Close number)
+action_of n (FchdirForm number) = Ok (Fchdir number)
+action_of n (TakeForm number from theirs) = Ok (Take number from theirs)
 
 -- the fields after the process's number: the call and its arguments, and what they ask for
 abbrev pub form_in : Rules → List (List ℕ) → Option Form
 form_in rules [] = None
 form_in rules (word ∷ arguments) = form_of rules word arguments
 
+abbrev pub action_by : ℕ → Option Form → Result Action ScriptFault
+action_by n form = ok_or form (BadCall n) >>= action_of n
+
 abbrev pub action_in : Rules → ℕ → List (List ℕ) → Result Action ScriptFault
-action_in rules n more = ok_or (form_in rules more) (BadCall n) >>= action_of n
+action_in rules n more = action_by n (form_in rules more)
 
 abbrev pub request_of_fields : Rules → ℕ → List (List ℕ) → Result Asked ScriptFault
 request_of_fields rules n [] = Err (BadLine n)

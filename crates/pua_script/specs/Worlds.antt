@@ -12,7 +12,7 @@ use Rattle.pua_script.specs.declared.answer.Answer.{Answer}
 use Rattle.pua_script.specs.declared.answer.Answer.TheVariants.{Okay}
 use Rattle.pua_script.specs.declared.fault.WorldFault.{WorldFault}
 use Rattle.pua_script.specs.declared.request.Action.{Action}
-use Rattle.pua_script.specs.declared.request.Action.TheVariants.{Fork}
+use Rattle.pua_script.specs.declared.request.Action.TheVariants.{Fork, Take}
 
 -- a tree, the table of calls, and all processes ever made with their numbers, in the order in which they were made
 pub record WorldState : Type 0 where
@@ -54,6 +54,17 @@ pub record AreNumbersOf (s : WorldState) (numbers : List ℕ) : Type 0 where
 abbrev pub is_fork : Action → Bool
 is_fork (Fork new) = true
 is_fork _ = false
+
+-- that asks what another one has
+abbrev pub is_take : Action → Bool
+is_take (Take number from theirs) = true
+is_take _ = false
+
+-- one of both
+abbrev pub is_of_two : Action → Bool
+is_of_two (Fork new) = true
+is_of_two (Take number from theirs) = true
+is_of_two _ = false
 
 abbrev pub is_copy : Effect → Bool
 is_copy (Copies new) = true

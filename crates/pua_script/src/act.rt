@@ -1,4 +1,5 @@
-//! What a process's request does, where it makes no process: it is judged, and then it is done.
+//! What a process's request does, where it is about no other process: it is judged, and then it is
+//! done.
 //!
 //! Each request with paths has a function of its own: a compiled function clears all its variables
 //! when it begins, and a name takes 256 bytes. What a path names stays lent until a name is to be
@@ -10,13 +11,14 @@ ghost use Rattle.pua_script.specs.Decide.{asker_of, change_by, decide, decide_ob
 ghost use Rattle.pua_script.specs.Openings.{opening_of, opening_seen};
 ghost use Rattle.pua_script.specs.Judged.{decision_for, is_edit};
 ghost use Rattle.pua_script.specs.Replay.{come_of};
-ghost use Rattle.pua_script.specs.Worlds.{Acts, Attempts, is_fork};
-ghost use Rattle.pua_script.specs.declared.request.Action.TheVariants.{Link, OnPath, Rename};
+ghost use Rattle.pua_script.specs.Worlds.{Acts, Attempts, is_of_two};
+ghost use Rattle.pua_script.specs.declared.request.Action.TheVariants.{Hold, Link, OnPath, Rename};
 ghost use Rattle.pua_script.specs.declared.request.Action.TheVariants.{Symlink, Unveil};
 
 use crate::answer::Answer;
 use crate::fault::WorldFault;
 use crate::granted::{Granted, NewNode, make};
+use crate::held::{decide_close, decide_fchdir, decide_hold};
 use crate::judged::{
     adding, editing, grant_unveil, judge_fit, judge_letters, judge_object, judge_target, looking,
     veil_named,
@@ -32,16 +34,16 @@ use pua_policy::judge::promised_for;
 use pua_policy::{Process, Refusal};
 use pua_tree::FileTree;
 
-/// Does what a process asks for, where it is no fork. All checks come first, in their order;
-/// what is granted then lends the names of what they found. Whether the tree has room is asked
-/// last.
+/// Does what a process asks for, where it is about no other process. All checks come first, in
+/// their order; what is granted then lends the names of what they found. Whether the tree has room
+/// is asked last.
 pub(crate) fn act<T: FileTree>(
     tree: &mut T,
     table: &CallTable,
     process: &mut Process,
     action: &Action,
 ) -> Result<Answer, WorldFault>
-    requires other { IsFalse (is_fork action.now) }
+    requires other { IsFalse (is_of_two action.now) }
     ensures exact { Acts table.now (T.content tree.old) process.old action.now result
         (T.content tree.new) process.new }
     ensures unchanged { OnErr result ((T.content tree.new ≡ T.content tree.old) ×
@@ -68,8 +70,19 @@ pub(crate) fn act<T: FileTree>(
             let granted = decide_uses(process, any.sets());
             answer(tree, process, &granted)
         }
+        Action::Hold { number, call, path } => {
+            hold(tree, table, process, *number, *call, path.bytes())
+        }
+        Action::Close(number) => {
+            let granted = decide_close(process, *number);
+            answer(tree, process, &granted)
+        }
+        Action::Fchdir(number) => {
+            let granted = decide_fchdir(process, *number);
+            answer(tree, process, &granted)
+        }
         Action::Comment => answer(tree, process, &Ok(Granted::NoChange)),
-        Action::Fork(_) => unreachable!(),
+        Action::Fork(_) | Action::Take { .. } => unreachable!(),
     }
 }
 
@@ -310,6 +323,24 @@ fn link<'p, T: FileTree>(
     let name = tie.name.name();
     let granted = naming(dir, &name, node);
     answer(tree, process, &Ok(granted))
+}
+
+/// Opens what a path names, and keeps it as the descriptor of this number.
+fn hold<T: FileTree>(
+    tree: &mut T,
+    table: &CallTable,
+    process: &mut Process,
+    number: u32,
+    call: Call,
+    path: &[u8],
+) -> Result<Answer, WorldFault>
+    ensures exact { Acts table.now (T.content tree.old) process.old (Hold number call path.now)
+        result (T.content tree.new) process.new }
+    ensures unchanged { OnErr result
+        ((T.content tree.new ≡ T.content tree.old) × (process.new ≡ process.old)) }
+{
+    let granted = decide_hold(tree, table, process, number, call, path);
+    answer(tree, process, &granted)
 }
 
 /// Puts a veil on what a path names.

@@ -1,10 +1,10 @@
 //! The names of texts beside those of paths that are known, as a kernel compares them: as text,
 //! before any look-up. It takes no memory.
 
-ghost use Rattle.std.specs.Prelude.{◌≡◌, ◌≤◌, ◌<◌, ◌+◌, ◌^◌, ◌==◌, length, option_map, slice_get};
+ghost use Rattle.std.specs.Prelude.{◌≡◌, ◌≤◌, ◌+◌, ◌==◌, option_map, slice_get};
 ghost use Rattle.std.specs.List.{slice_split};
 ghost use Rattle.pua_tree.specs.Names.{components};
-ghost use Rattle.pua_script.specs.Beside.{at_root, beside, beside_with, down, has_come, is_same, up};
+ghost use Rattle.pua_script.specs.Beside.{at_root, beside, has_come, is_same, up};
 ghost use Rattle.pua_script.specs.Canonical.{adds_none, canonical};
 ghost use Rattle.pua_script.specs.Openings.{are_names};
 
@@ -31,24 +31,18 @@ fn walk(path: &[u8], text: &[u8]) -> Beside
 {
     let mut at = Beside { come: 0, beyond: 0 };
     for piece in text.split(|byte| *byte == b'/') {
-        at = beside_with(path, at, piece);
+        if adds_none(piece) {
+            continue;
+        }
+        if piece == b"..".as_slice() {
+            at = up(at);
+        } else if at.beyond == 0 && is_same(name_at(path, at.come), piece) {
+            at.come += 1;
+        } else {
+            at.beyond += 1;
+        }
     }
     at
-}
-
-/// The same after one further piece.
-fn beside_with(path: &[u8], at: Beside, piece: &[u8]) -> Beside
-    requires room { at.come + at.beyond + 1 < 2 ^ 64 }
-    ensures at { result ≡ beside_with (components path.now) at piece.now }
-    ensures within { result.come + result.beyond ≤ at.come + at.beyond + 1 }
-{
-    if adds_none(piece) {
-        at
-    } else if piece == b"..".as_slice() {
-        up(at)
-    } else {
-        down(path, at, piece)
-    }
 }
 
 /// Whether a piece between slashes adds no name.
@@ -56,25 +50,6 @@ fn adds_none(piece: &[u8]) -> bool
     ensures { result ≡ adds_none piece.now }
 {
     piece.is_empty() || piece == b".".as_slice()
-}
-
-/// One name further down: the next of the path's, or another.
-fn down(path: &[u8], at: Beside, piece: &[u8]) -> Beside
-    requires room { at.come + at.beyond + 1 < 2 ^ 64 }
-    ensures at { result ≡ down (components path.now) at piece.now }
-    ensures within { result.come + result.beyond ≤ at.come + at.beyond + 1 }
-{
-    if at.beyond == 0 && is_same(name_at(path, at.come), piece) {
-        Beside {
-            come: at.come + 1,
-            beyond: at.beyond,
-        }
-    } else {
-        Beside {
-            come: at.come,
-            beyond: at.beyond + 1,
-        }
-    }
 }
 
 /// Up again.

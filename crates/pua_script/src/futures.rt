@@ -7,14 +7,15 @@ ghost use Rattle.pua_script.specs.Bytes.{ReplaysKeepTrees, RequestsKeepTrees, Sc
 ghost use Rattle.pua_script.specs.Confinement.{EachRequestSpares, FamiliesConfine, PromisesChange};
 ghost use Rattle.pua_script.specs.ErrorTables.{ErrorTables};
 ghost use Rattle.pua_script.specs.Futures.{ReadTablesNarrow, RulesNarrow};
+ghost use Rattle.pua_script.specs.Holding.{FamiliesHold};
 ghost use Rattle.pua_script.specs.OpeningLaws.{OkaysAreAccounted, OpeningsAreHeld, OpeningsNarrow};
 ghost use Rattle.pua_script.specs.OpeningLaws.{TmpTableAllows};
 ghost use Rattle.pua_script.specs.Tightening.{EachRequestNarrows, FamiliesNarrow, ForksCopy};
 ghost use Rattle.pua_script.specs.Tightening.{OthersLeave, OthersLeaveAlways};
 
 /// A request leaves the state of each process but the one that asks: its promises and execpromises,
-/// its veils and lock, its directory, and whether it has ended. A process that is forked begins
-/// with the state of the one that forked it.
+/// its veils and lock, its directory, its open files, and whether it has ended. A process that is
+/// forked begins with the state of the one that forked it.
 #[tactic(auto, using(crate::proofs::Others::others_leave, crate::proofs::Others::others_leave_always, crate::proofs::Others::forks_copy))]
 pub fn others_law()
     ensures one { OthersLeave }
@@ -25,7 +26,7 @@ pub fn others_law()
 /// A request, whoever makes it, leaves a process that can put no veil any more so: its unveils are
 /// the same, it has no further promise but `error`, and over each tree it may do no more than
 /// before. Two things are excepted: its own exec that succeeds, and on relative paths its own chdir
-/// that does.
+/// or fchdir that does.
 pub fn steps_law()
     ensures { EachRequestNarrows }
 {}
@@ -34,6 +35,13 @@ pub fn steps_law()
 /// succeeds. The family are the process and those that a member forks from then on.
 pub fn families_law()
     ensures { FamiliesNarrow }
+{}
+
+/// What such a process and its family have open later, the process has open now, or its promises
+/// and veils of now let it open over some tree, by a call that opens or by what a promise opens by
+/// itself: as long as no member's exec succeeds, and no member takes a descriptor from others.
+pub fn holding_law()
+    ensures { FamiliesHold }
 {}
 
 /// What promises open is by those that are held: a process that can put no veil any more has no

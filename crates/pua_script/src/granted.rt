@@ -14,8 +14,8 @@ use crate::answer::Answer;
 use crate::fault::WorldFault;
 use pua_calls::{ExecPromises, Perms, Promises, Rules};
 use pua_path::{Errno, Found, PathText};
-use pua_policy::{Place, Process, UnveilFault};
-use pua_tree::{FileTree, Kind, Name, NodeId, TreeFault};
+use pua_policy::{OpenFile, Place, Process, UnveilFault};
+use pua_tree::{FileTree, Kind, Name, NodeId, OutOfMemory, TreeFault};
 
 /// A node that is to be added. A link's target was read as a path, as a link's must be.
 #[derive(Clone, Copy)]
@@ -66,6 +66,10 @@ pub(crate) enum Granted<'a> {
     Enter(NodeId),
     /// The process ends.
     Exit,
+    /// The descriptor of this number stands for an open file.
+    Hold(u32, OpenFile),
+    /// The descriptor of this number is closed.
+    Close(u32),
 }
 
 /// Makes a change, and answers the request that was granted it: `Okay`, `ENOSPC` where the tree has
@@ -107,6 +111,14 @@ pub(crate) fn make<T: FileTree>(
         }
         Granted::Exit => {
             process.end();
+            Ok(Answer::Okay)
+        }
+        Granted::Hold(number, file) => match process.open_at(number, file) {
+            Ok(()) => Ok(Answer::Okay),
+            Err(OutOfMemory) => Err(WorldFault::OutOfMemory),
+        },
+        Granted::Close(number) => {
+            process.close(number);
             Ok(Answer::Okay)
         }
     }

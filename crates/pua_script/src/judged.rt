@@ -123,12 +123,29 @@ pub(crate) fn judge_fit<T: FileTree>(
         (past_promises false (asker_of process.now)) call path.now (λ object. Ok NoChange)
         ≡ if_named result (λ one. Ok NoChange) }
 {
+    judge_past(tree, table, process, call, path)?;
+    Ok(())
+}
+
+/// What the path of a call names, where it is of a kind that the call is for, the veils aside.
+pub(crate) fn judge_past<T: FileTree>(
+    tree: &T,
+    table: &CallTable,
+    process: &Process,
+    call: Call,
+    path: &[u8],
+) -> Result<Found, Errno>
+    ensures { (further : founds.Found → Decision) →
+        decide_object table.now (T.content tree.now)
+        (past_promises false (asker_of process.now)) call path.now further
+        ≡ if_named result further }
+{
     let mut probe = Counted::new(tree);
     let (dir, last) = (process.dir(), call.last());
     let found = named(&mut probe, table, dir, path, ending(call), last)?;
     match misfit(&mut probe, table.rules(), call, &found) {
         Some(wrong) => Err(wrong.errno()),
-        None => Ok(()),
+        None => Ok(found),
     }
 }
 

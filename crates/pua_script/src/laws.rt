@@ -3,21 +3,24 @@
 
 ghost use Rattle.std.specs.Prelude.{◌≡◌};
 ghost use Rattle.pua_script.specs.Examples.{ExecRows, LinkRows, PairRows, RenameRows, ReplayRows};
-ghost use Rattle.pua_script.specs.Examples.{CommentRows, OpeningRows, ScriptRows, SocketRows, UsesRows};
+ghost use Rattle.pua_script.specs.Examples.{CommentRows, FileRows, OpeningRows, ScriptRows};
+ghost use Rattle.pua_script.specs.Examples.{SocketRows, UsesRows};
 ghost use Rattle.pua_script.specs.Guards.{ChangesAreGranted, DecisionsAreGuarded};
-ghost use Rattle.pua_script.specs.Limits.{most_script_lines, most_number, most_processes};
+ghost use Rattle.pua_script.specs.Limits.{most_descriptor, most_number, most_processes};
+ghost use Rattle.pua_script.specs.Limits.{most_script_lines};
 ghost use Rattle.pua_script.specs.Laws.{ChangesLackRoom, DecisionsArePossible, RefusalsLackNoRoom};
 ghost use Rattle.pua_script.specs.Laws.{ReplayComposes, RequestsLackRoom};
 ghost use Rattle.pua_script.specs.ScriptGrammar.{ScriptsAreRead};
 ghost use Rattle.pua_calls.specs.declared.rules.Rules.{Rules};
 ghost use Rattle.pua_script.specs.Pasts.{KeepsPasts};
 
-use crate::limits::{MOST_NUMBER, MOST_PROCESSES, MOST_SCRIPT_LINES};
+use crate::limits::{MOST_DESCRIPTOR, MOST_NUMBER, MOST_PROCESSES, MOST_SCRIPT_LINES};
 
 /// The constants are the limits that the definitions speak of.
 pub fn limits_law()
     ensures lines { MOST_SCRIPT_LINES ≡ most_script_lines }
     ensures numbers { MOST_NUMBER ≡ most_number }
+    ensures descriptors { MOST_DESCRIPTOR ≡ most_descriptor }
     ensures processes { MOST_PROCESSES ≡ most_processes }
 {}
 
@@ -27,8 +30,8 @@ pub fn script_examples()
 {}
 
 /// Examples of scripts and their answers, of what a rename and a link check first, of these and of
-/// an exec by OpenBSD's rules, of what promises open by these, and of an exec by which a locked
-/// process reaches more.
+/// an exec by OpenBSD's rules, of descriptors and of what promises open by these, and of an exec by
+/// which a locked process reaches more.
 pub fn replay_examples()
     ensures replays { ReplayRows }
     ensures renames { RenameRows }
@@ -36,6 +39,7 @@ pub fn replay_examples()
     ensures pairs { PairRows }
     ensures sockets { SocketRows }
     ensures uses { UsesRows }
+    ensures files { FileRows }
     ensures comments { CommentRows }
     ensures openings { OpeningRows }
     ensures execs { ExecRows }

@@ -1,8 +1,11 @@
 //! One line of a script.
 
-ghost use Rattle.std.specs.Prelude.{◌≡◌, ◌∷◌, [], codes, map, ok_or};
+ghost use Rattle.std.specs.Prelude.{◌≡◌, ◌∷◌, [], codes, map, not, ok_or};
+ghost use Rattle.pua_tree.specs.Listing.{only_if};
 ghost use Rattle.pua_tree.specs.Names.{same_bytes};
+ghost use Rattle.pua_calls.specs.Neighbours.{call_asked_by};
 ghost use Rattle.pua_script.specs.Added.{IsActionAdded, IsRequestAdded};
+ghost use Rattle.pua_script.specs.Requests.{is_symlink};
 ghost use Rattle.pua_script.specs.Scripts.{IsReadAs};
 ghost use Rattle.pua_script.specs.Scripts.{is_dash, is_equals, has_empty_word, path_in};
 ghost use Rattle.pua_script.specs.Scripts.{given_in, perms_in, unveil_of, with_paths, action_in};
@@ -15,6 +18,7 @@ ghost use Rattle.pua_script.specs.declared.fault.ScriptFault.TheVariants.{BadPat
 
 use crate::any_of::{asks_promises, read_any_of};
 use crate::comment::{is_blank, text_in};
+use crate::descriptor::{read_one_file, read_three};
 use crate::fault::ScriptFault;
 use crate::limits::MOST_NUMBER;
 use crate::origin::Origin;
@@ -117,6 +121,10 @@ fn read_action(
         [word] => read_alone(rules, requests, origin, word),
         [word, a] => read_one(alloc, rules, requests, origin, word, a),
         [word, a, b] => read_two(alloc, rules, requests, origin, word, a, b),
+        [word, a, b, c] => match rules {
+            Rules::Standard => Err(ScriptFault::BadCall(origin.line)),
+            Rules::Openbsd => read_three(alloc, requests, origin, word, a, b, c),
+        },
         _ => Err(ScriptFault::BadCall(origin.line)),
     }
 }
@@ -159,12 +167,22 @@ fn read_one(
         let any = read_any_of(alloc, origin.line, a)?;
         return Request::add(requests, origin, Action::Uses(any));
     }
-    match Call::asked_by(rules, word) {
-        None | Some(Call::Symlink) => Err(ScriptFault::BadCall(origin.line)),
+    match call_on_path(rules, word) {
         Some(call) => {
             let path = read_path(alloc, origin.line, a)?;
             Request::add(requests, origin, Action::OnPath(call, path))
         }
+        None => read_one_file(rules, requests, origin, word, a),
+    }
+}
+
+/// The call with this name by these rules that is made on a path alone.
+fn call_on_path(rules: Rules, word: &[u8]) -> Option<Call>
+    ensures { result ≡ only_if (λ call. not (is_symlink call)) (call_asked_by rules word.now) }
+{
+    match Call::asked_by(rules, word) {
+        Some(Call::Symlink) => None,
+        call => call,
     }
 }
 
@@ -287,7 +305,7 @@ fn read_unveil(
 /// The bytes of a path or a target; `=` is the empty text. Plain bytes, as most fields have, spell
 /// themselves, and none is NUL.
 #[tactic(auto, using(crate::proofs::Reading::plain_path))]
-fn read_path(alloc: Global, number: u32, field: &[u8]) -> Result<PathBytes, ScriptFault>
+pub(crate) fn read_path(alloc: Global, number: u32, field: &[u8]) -> Result<PathBytes, ScriptFault>
     ensures { IsReadAs (ok_or (path_in field.now) (BadPath number)) result }
 {
     if is_equals(field) {

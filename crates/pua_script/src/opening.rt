@@ -1,9 +1,9 @@
 //! What promises open by themselves, by the rules of OpenBSD's kernel.
 
-ghost use Rattle.std.specs.Prelude.{◌≡◌, find, map, option_map};
+ghost use Rattle.std.specs.Prelude.{◌≡◌, ◌&&◌, find, map, option_map};
 ghost use Rattle.pua_path.specs.Paths.{is_absolute};
-ghost use Rattle.pua_calls.specs.Promises.{promises_of};
-ghost use Rattle.pua_script.specs.Openings.{has_call, holds_named, is_opened, is_opening};
+ghost use Rattle.pua_calls.specs.Promises.{holds};
+ghost use Rattle.pua_script.specs.Openings.{has_call, is_opened, is_opening};
 ghost use Rattle.pua_script.specs.Openings.{opening_of, opening_seen, openings, opens_call};
 
 use crate::canonical::are_names;
@@ -16,6 +16,8 @@ use pua_policy::Process;
 pub struct Opening {
     /// The keyword of the promise.
     pub promise: &'static str,
+    /// The promise alone, as [`Promises::bits`] has it, so that no request reads the keyword.
+    pub(crate) bits: u64,
     /// The path; with a slash at its end it is each path below.
     pub path: &'static str,
     /// The calls.
@@ -24,88 +26,113 @@ pub struct Opening {
     pub asks_veils: bool,
 }
 
+// The bits of the promises that open something.
+const DNS: u64 = 1 << 5;
+
+const GETPW: u64 = 1 << 12;
+
+const STDIO: u64 = 1 << 25;
+
+const TMPPATH: u64 = 1 << 27;
+
+const TTY: u64 = 1 << 28;
+
 /// In the order of the promises.
 static OPENINGS: [Opening; 14] = [
     Opening {
         promise: "dns",
+        bits: DNS,
         path: "/etc/resolv.conf",
         calls: &[Call::Stat, Call::OpenRead],
         asks_veils: false,
     },
     Opening {
         promise: "dns",
+        bits: DNS,
         path: "/etc/hosts",
         calls: &[Call::OpenRead],
         asks_veils: false,
     },
     Opening {
         promise: "dns",
+        bits: DNS,
         path: "/etc/services",
         calls: &[Call::OpenRead],
         asks_veils: false,
     },
     Opening {
         promise: "dns",
+        bits: DNS,
         path: "/etc/protocols",
         calls: &[Call::OpenRead],
         asks_veils: false,
     },
     Opening {
         promise: "getpw",
+        bits: GETPW,
         path: "/etc/pwd.db",
         calls: &[Call::OpenRead],
         asks_veils: false,
     },
     Opening {
         promise: "getpw",
+        bits: GETPW,
         path: "/etc/group",
         calls: &[Call::OpenRead],
         asks_veils: false,
     },
     Opening {
         promise: "getpw",
+        bits: GETPW,
         path: "/etc/netid",
         calls: &[Call::OpenRead],
         asks_veils: false,
     },
     Opening {
         promise: "getpw",
+        bits: GETPW,
         path: "/var/run/ypbind.lock",
         calls: &[Call::Stat, Call::OpenRead],
         asks_veils: false,
     },
     Opening {
         promise: "getpw",
+        bits: GETPW,
         path: "/var/yp/binding/",
         calls: &[Call::OpenRead],
         asks_veils: false,
     },
     Opening {
         promise: "stdio",
+        bits: STDIO,
         path: "/dev/null",
         calls: &[Call::OpenRead, Call::OpenWrite, Call::OpenBoth],
         asks_veils: false,
     },
     Opening {
         promise: "stdio",
+        bits: STDIO,
         path: "/etc/localtime",
         calls: &[Call::Stat, Call::OpenRead],
         asks_veils: false,
     },
     Opening {
         promise: "stdio",
+        bits: STDIO,
         path: "/usr/share/zoneinfo/",
         calls: &[Call::OpenRead],
         asks_veils: false,
     },
     Opening {
         promise: "tmppath",
+        bits: TMPPATH,
         path: "/tmp/",
         calls: &[Call::Create, Call::Unlink, Call::CreateBoth],
         asks_veils: true,
     },
     Opening {
         promise: "tty",
+        bits: TTY,
         path: "/dev/tty",
         calls: &[Call::OpenRead, Call::OpenWrite, Call::OpenBoth],
         asks_veils: true,
@@ -134,16 +161,6 @@ fn is_absolute(text: &[u8]) -> bool
     matches!(text, [b'/', ..])
 }
 
-/// Whether the promise with this keyword is one of these.
-fn holds_named(promises: Promises, keyword: &str) -> bool
-    ensures { result ≡ holds_named promises (promises_of keyword.now) }
-{
-    match Promises::read(keyword.as_bytes()) {
-        Ok(wanted) => promises.contains(wanted),
-        Err(_) => false,
-    }
-}
-
 /// Whether a call is one of these.
 fn has_call(calls: &[Call], call: Call) -> bool
     ensures { result ≡ has_call call calls.now }
@@ -158,25 +175,24 @@ fn opens_call(call: Call, text: &[u8], row: &Opening) -> bool
     has_call(row.calls, call) && is_opened(row.path.as_bytes(), text)
 }
 
-/// Whether an opening has this call, its path is this text, and its promise is one of these.
+/// Whether an opening's promise is one of these, it has this call, and its path is this text. The
+/// promise costs least, and is asked first.
 fn is_opening(promises: Promises, call: Call, text: &[u8], row: &Opening) -> bool
-    ensures { result ≡ is_opening promises call text.now (opening_seen row.now) }
+    ensures { result
+        ≡ (holds promises row.now.bits && opens_call call text.now (opening_seen row.now)) }
 {
-    opens_call(call, text, row) && holds_named(promises, row.promise)
+    promises.bits() & row.bits == row.bits && opens_call(call, text, row)
 }
 
-/// The first of some openings that has this call, whose path is this text, and whose promise is one
-/// of these.
-fn opening_in<'r>(
-    rows: &'r [Opening],
-    promises: Promises,
-    call: Call,
-    text: &[u8],
-) -> Option<&'r Opening>
+/// The first opening that has this call, whose path is this text, and whose promise is one of
+/// these.
+fn opening_in(promises: Promises, call: Call, text: &[u8]) -> Option<&'static Opening>
     ensures { option_map (λ row. opening_seen row.now) result
-        ≡ find (is_opening promises call text.now) (map opening_seen rows.now) }
+        ≡ find (is_opening promises call text.now) openings }
 {
-    rows.iter()
+    OPENINGS
+        .as_slice()
+        .iter()
         .find(|row| is_opening(promises, call, text, row))
 }
 
@@ -193,7 +209,7 @@ pub fn opening_of(
 {
     if table.rules().has_openings() && !process.ended() {
         let promises = process.promises().unwrap_or(Promises::NONE);
-        opening_in(openings(), promises, call, text)
+        opening_in(promises, call, text)
     } else {
         None
     }

@@ -57,6 +57,22 @@ pub enum Action {
     Fork(u32),
     /// The end of the process.
     Exit,
+    /// An open of a path, whose file is kept as the descriptor of this number.
+    Hold {
+        number: u32,
+        call: Call,
+        path: PathBytes,
+    },
+    /// The number of the descriptor that is closed.
+    Close(u32),
+    /// The number of the descriptor of a directory, which becomes the working directory.
+    Fchdir(u32),
+    /// The descriptor of this number is to be what another process has as one of its own.
+    Take {
+        number: u32,
+        from: u32,
+        theirs: u32,
+    },
     /// A call without a path that asks for one of these promises.
     Uses(AnyOf),
     /// Nothing: a line that is blank or has no more than a comment.
@@ -64,8 +80,9 @@ pub enum Action {
 }
 
 /// A process's number, and what it asks for. `read_script` alone makes one, so its paths and its
-/// target hold no NUL, its numbers lie from 1 to 999,999, and a symlink has its own action. A line
-/// without a request is one of process 0, which there never is, with `Action::Comment`.
+/// target hold no NUL, its numbers lie from 1 to 999,999, those of descriptors from 0 to 1,023, a
+/// hold opens, and a symlink has its own action. A line without a request is one of process 0,
+/// which there never is, with `Action::Comment`.
 #[derive(Drop)]
 pub struct Request {
     process: u32,

@@ -6,6 +6,7 @@ use crate::fault::WorldFault;
 use crate::fork::fork;
 use crate::request::{Action, Request};
 use crate::script::Script;
+use crate::take::{Taking, take};
 use indexmap::IndexMap;
 use pua_calls::CallTable;
 use pua_policy::Process;
@@ -44,7 +45,7 @@ ghost use Rattle.pua_script.specs.Futures.{IsNarrowing, IsSparing};
 ghost use Rattle.std.specs.Prelude.{[], ◌∷◌};
 ghost use Rattle.pua_policy.specs.States.{new_process};
 ghost use Rattle.pua_script.specs.Replay.{apply, new_world};
-ghost use Rattle.pua_script.specs.Worlds.{AreNumbersOf, apply_to, run_to, is_fork, process_at, with_table};
+ghost use Rattle.pua_script.specs.Worlds.{AreNumbersOf, apply_to, run_to, is_of_two, process_at, with_table};
 ghost use Rattle.pua_script.specs.declared.answer.Answer.TheVariants.{Okay};
 
 impl<T: FileTree> World<T> {
@@ -109,10 +110,10 @@ impl<T: FileTree> World<T> {
     /// can meet that would be answered `Okay`; the world is then as it was.
     ///
     /// A process that is locked or doesn't hold `unveil` may over each tree do no more afterwards,
-    /// whoever asks, on absolute paths, and on relative ones but for its own chdir that succeeds:
-    /// its veils stay, and it is given no promise but `error`, except by its own exec. A row that
-    /// the one that asks can't touch with `c` stays, with its node and, by the state that was,
-    /// its cover, if the table asks for `c` where a name is taken away.
+    /// whoever asks, on absolute paths, and on relative ones but for its own chdir or fchdir that
+    /// succeeds: its veils stay, and it is given no promise but `error`, except by its own exec. A
+    /// row that the one that asks can't touch with `c` stays, with its node and, by the state that
+    /// was, its cover, if the table asks for `c` where a name is taken away.
     pub fn apply(&mut self, request: &Request) -> Result<Answer, WorldFault>
         ensures served { IfOk result (λ answer. (answer, self.new) ≡ apply_to self.old request.now) }
         ensures memory { OnErr result ((apply_to self.old request.now).0 ≡ Okay) }
@@ -139,6 +140,18 @@ impl<T: FileTree> World<T> {
         let action = request.action();
         match action {
             Action::Fork(new) => fork(self.alloc, &mut self.processes, number, *new),
+            Action::Take {
+                number: descriptor,
+                from,
+                theirs,
+            } => {
+                let taking = Taking {
+                    number: *descriptor,
+                    from: *from,
+                    theirs: *theirs,
+                };
+                take(&mut self.processes, number, taking)
+            }
             _ => serve(
                 &mut self.tree,
                 &self.table,
@@ -156,8 +169,8 @@ impl<T: FileTree> World<T> {
     /// What is true of a single request (see [`World::apply`]) is true of those that were served
     /// together, for a process and its family: itself, and those that a member forks from then on.
     /// As long as no member's exec succeeds, each member may over each tree do no more than the
-    /// process might, on absolute paths, and on relative ones as long as no member's chdir
-    /// succeeds; and where members alone ask, each row that the process couldn't touch with `c`
+    /// process might, on absolute paths, and on relative ones as long as no member's chdir or
+    /// fchdir succeeds; and where members alone ask, each row that the process couldn't touch with `c`
     /// stays, if the table asks for `c` where a name is taken away.
     pub fn run(&mut self, alloc: Global, script: &Script) -> Result<Vec<Answer>, WorldFault>
         ensures served { IfOk result (λ answers. (answers.items, self.new) ≡ run_to self.old script.now) }
@@ -229,7 +242,7 @@ fn sorted_keys(alloc: Global, processes: &IndexMap<u32, Process>) -> Result<Vec<
     Ok(numbers)
 }
 
-/// Serves a request that makes no process.
+/// Serves a request that is about no other process.
 fn serve<T: FileTree>(
     tree: &mut T,
     table: &CallTable,
@@ -237,7 +250,7 @@ fn serve<T: FileTree>(
     number: u32,
     action: &Action,
 ) -> Result<Answer, WorldFault>
-    requires { IsFalse (is_fork action.now) }
+    requires { IsFalse (is_of_two action.now) }
     ensures served { IfOk result
         (λ answer. (answer, record { tree = T.content tree.new; processes = processes.new.entries })
         ≡ apply table.now (record { tree = T.content tree.old; processes = processes.old.entries })

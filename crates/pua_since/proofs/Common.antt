@@ -31,7 +31,8 @@ pub use Rattle.pua_script.specs.Worlds.{apply_to, state_after_all, world_of, Wor
 pub use Rattle.pua_script.specs.declared.answer.Answer.{Answer}
 pub use Rattle.pua_script.specs.declared.answer.Answer.TheVariants.{Failed, Gone, Killed, Okay}
 pub use Rattle.pua_script.specs.declared.request.Action.{Action}
-pub use Rattle.pua_script.specs.declared.request.Action.TheVariants.{Exit, Fork, Link, Lock, OnPath, Pledge, Rename, Symlink, Unveil, Uses, Comment}
+pub use Rattle.pua_script.specs.declared.request.Action.TheVariants.{Close, Exit, Fchdir, Fork, Hold, Link, Lock, OnPath, Pledge, Rename}
+pub use Rattle.pua_script.specs.declared.request.Action.TheVariants.{Symlink, Take, Unveil, Uses, Comment}
 pub use Rattle.pua_tree.specs.Names.{same_bytes}
 pub use Rattle.pua_tree.specs.Tree.{Spot, Tree}
 pub use Rattle.pua_why.specs.Facts.{Fact, facts_of}

@@ -12,6 +12,7 @@ use Rattle.pua_why.specs.Checked.{reason_checked, granted_by, told_by}
 use Rattle.pua_why.specs.Keys.{reason_key}
 use Rattle.pua_why.specs.Reasons.{Ends, LacksPromises, BadTarget, BadPath, Uncovered, LacksLetters, Unfit, Inside, UnknownPromise}
 use Rattle.pua_why.specs.Reasons.{AsksPromises, IsLocked, UnknownLetter, AsksLetters, NoPlaceLeft, NumberTaken, NoProcessLeft, NoRoom}
+use Rattle.pua_why.specs.Reasons.{WrongFile}
 use Rattle.pua_why.specs.Reasons.{Reason, NeverMade, Refused, Granted, reason_by}
 use Rattle.pua_why.specs.Texts.{has_key}
 use Rattle.pua_why.proofs.ForCallers.{checks_tell}
@@ -45,6 +46,7 @@ IsDated (Refused (AsksLetters place given lacks)) = Unit {0}
 IsDated (Refused NoPlaceLeft) = Unit {0}
 IsDated (Refused (NumberTaken n)) = Unit {0}
 IsDated (Refused NoProcessLeft) = Unit {0}
+IsDated (Refused (WrongFile fault)) = Unit {0}
 IsDated _ = ⊥
 
 -- only of these is the line told

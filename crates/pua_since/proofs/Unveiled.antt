@@ -2,14 +2,15 @@
 use Rattle.pua_since.proofs.Common.{◌≡◌, ℕ, Bool, true, false, List, [], ◌∷◌, ◌++◌, length, map, refl, sym, ap, subst, ◌∙◌, Option, Some}
 use Rattle.pua_since.proofs.Common.{None, Result, Ok, Err, if◌then◌else◌, option_map_or, Tree, Spot, Ending, Found, PathFault, PathTrace}
 use Rattle.pua_since.proofs.Common.{trace_of_text, CallTable, ProcessState, perms_kept, working_dir, Call, Asked, World, kept_at, world_after}
-use Rattle.pua_since.proofs.Common.{Action, OnPath, Symlink, Rename, Link, Pledge, Unveil, Lock, Fork, Exit, Uses, Comment, Fact, facts_of}
+use Rattle.pua_since.proofs.Common.{Action, OnPath, Symlink, Rename, Link, Pledge, Unveil, Lock, Fork, Exit, Uses, Hold, Close, Fchdir}
+use Rattle.pua_since.proofs.Common.{Take, Comment, Fact, facts_of}
 use Rattle.pua_since.proofs.Common.{Fault}
 use Rattle.pua_since.proofs.Common.{AreFactsAt, IsFactAt, fact_line, veil_told, AreWatched, kept_in, Watches}
 use Rattle.std.specs.Prelude.{⊤}
 use Rattle.std.specs.List.{AllByRecursion}
 use Rattle.pua_path.specs.declared.text.Ending.TheVariants as ending
 use Rattle.pua_path.specs.declared.found.Last.TheVariants.{Followed}
-use Rattle.pua_calls.specs.Promises.{proc, unveil}
+use Rattle.pua_calls.specs.Promises.{proc, recvfd, unveil}
 use Rattle.pua_calls.specs.Calls.{PairRule, rule_of}
 use Rattle.pua_policy.specs.States.{is_locked}
 use Rattle.pua_policy.specs.Reasons.{Promising, Holds, HasEnded, Lacks, promising, covering}
@@ -131,6 +132,10 @@ module _ (h : ProcessState) where
   facts_kept table t (Fork new) = promised_kept (promising h (proc ∷ [])) [] tt
   facts_kept table t Exit = tt
   facts_kept table t (Uses sets) = promised_kept (promising h sets) [] tt
+  facts_kept table t (Hold number call path) = asked_kept table t call path (opening_of table h call path)
+  facts_kept table t (Close number) = tt
+  facts_kept table t (Fchdir number) = tt
+  facts_kept table t (Take number from theirs) = promised_kept (promising h (recvfd ∷ [])) [] tt
   facts_kept table t Comment = tt
 
 module _ (table : CallTable) (w : World) (done : List Asked) (s : Watches) (watched : AreWatched table w done [] s) (ask : Asked)

@@ -134,7 +134,7 @@ module _ (table : CallTable) (w : World) (done : List Asked) (ask : Asked) (left
       flat = (λ i. not (Tells Before (itself (Who watch.process) i)) && same.test i) ∙ not_true (Tells Before (Who watch.process))
 
   -- where it was asked again
-  asked_again : (touched : Touched) (old new : Watch) (line : ℕ) → line ≡ length done + 1 → is_concerned touched (Who old.process) ≡ true →
+  asked_again : (touched : Touched) (old new : Watch) (line : ℕ) → line ≡ length done + 1 → is_concerned touched (Who old.process) old.question ≡ true →
       IsWatched table w done (ask ∷ left) old → IsAskedOnce table Next (Who old.process) touched line old new →
       IsWatched table w (done ++ ask ∷ []) left new
   asked_again touched old new line number concerned h a = subst (IsWatched table w (done ++ ask ∷ []) left) (sym same)
@@ -179,13 +179,13 @@ module _ (table : CallTable) (w : World) (done : List Asked) (ask : Asked) (left
   pub asked_or_spared : (touched : Touched) → TouchesOnly table Before ask touched → (old new : Watch) (line : ℕ) → line ≡ length done + 1 →
       IsWatched table w done (ask ∷ left) old → IsAskedOnce table Next (Who old.process) touched line old new →
       IsWatched table w (done ++ ask ∷ []) left new
-  asked_or_spared touched only old new line number h a = by (is_concerned touched (Who old.process)) refl
+  asked_or_spared touched only old new line number h a = by (is_concerned touched (Who old.process) old.question) refl
     where
-      by : (b : Bool) → is_concerned touched (Who old.process) ≡ b → IsWatched table w (done ++ ask ∷ []) left new
+      by : (b : Bool) → is_concerned touched (Who old.process) old.question ≡ b → IsWatched table w (done ++ ask ∷ []) left new
       by true concerned = asked_again touched old new line number concerned h a
       by false free =
           subst (IsWatched table w (done ++ ask ∷ []) left) (sym (a.spared free))
-          (stays_spared old (itself_by touched table Before ask (Who old.process) only.makes_none free)
+          (stays_spared old (itself_by touched table Before ask (Who old.process) old.question only.makes_none free)
           (spared table Before Next (Who old.process) old.question old.told touched only.changes free) h)
 
 -- a question that is asked from the start

@@ -1,5 +1,5 @@
 -- What a request that was served touches of a world, and which questions that concerns.
-use Rattle.std.specs.Prelude.{◌≡◌, ⊤, ℕ, Bool, true, false, not, ◌==◌, if◌then◌else◌, length, is_some}
+use Rattle.std.specs.Prelude.{◌≡◌, ⊤, ℕ, Bool, true, false, not, ◌==◌, ◌||◌, if◌then◌else◌, length, is_some}
 use Rattle.pua_calls.specs.Calls.{CallTable, effect_of}
 use Rattle.pua_calls.specs.Effects.{edits}
 use Rattle.pua_calls.specs.declared.call.Call.{Call}
@@ -9,9 +9,12 @@ use Rattle.pua_script.specs.declared.answer.Answer.{Answer}
 use Rattle.pua_script.specs.declared.answer.Answer.TheVariants.{Okay}
 use Rattle.pua_script.specs.declared.request.Action.{Action}
 use Rattle.pua_script.specs.declared.request.Action.TheVariants.{OnPath, Symlink, Rename, Link, Fork}
+use Rattle.pua_script.specs.Worlds.{is_take}
 use Rattle.pua_why.specs.Since.{came_from}
 use Rattle.pua_since.specs.declared.touched.Touched.{Touched}
 use Rattle.pua_since.specs.declared.touched.Touched.TheVariants.{Process, Anything}
+use Rattle.pua_since.specs.declared.watch.Question.{Question}
+use Rattle.pua_since.specs.declared.watch.Question.TheVariants as asks
 
 -- a call that changes no more than the process that asks: it makes no name, and takes none away
 abbrev pub call_is_own : Call → Bool
@@ -56,7 +59,12 @@ pub record TouchesOnly (table : CallTable) (w : World) (ask : Asked) (touched : 
   pub changes : ChangesOnly touched w (apply table w ask).1
   pub makes_none : MakesNone touched table w ask
 
+-- whether a question is about what another process has
+abbrev pub asks_other : Question → Bool
+asks_other (asks.Request action) = is_take action.now
+asks_other (asks.Veil place) = false
+
 -- whether a touch may concern a question of this process
-abbrev pub is_concerned : Touched → ℕ → Bool
-is_concerned (Process process) asker = asker == process
-is_concerned Anything asker = true
+abbrev pub is_concerned : Touched → ℕ → Question → Bool
+is_concerned (Process process) asker question = asker == process || asks_other question
+is_concerned Anything asker question = true

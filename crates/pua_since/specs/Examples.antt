@@ -23,7 +23,7 @@ use Rattle.pua_script.specs.declared.fault.ScriptFault.{ScriptFault}
 use Rattle.pua_script.specs.declared.answer.Answer.{Answer}
 use Rattle.pua_script.specs.declared.answer.Answer.TheVariants.{Okay, Failed, Killed}
 use Rattle.pua_script.specs.declared.request.Action.{Action}
-use Rattle.pua_script.specs.declared.request.Action.TheVariants.{OnPath, Fork}
+use Rattle.pua_script.specs.declared.request.Action.TheVariants.{OnPath, Fork, Hold, Take}
 use Rattle.pua_why.specs.Examples.{why_of}
 use Rattle.pua_why.specs.Facts.{Under}
 use Rattle.pua_why.specs.Reasons.{NeverMade, Ended}
@@ -76,9 +76,20 @@ pub record TouchRows : Type 0 where
   pub moved : touched (OnPath call.Chdir (codes "/tmp")) Okay ≡ Process 1
   pub killed : touched (mkdir (codes "/d")) Killed ≡ Process 1
   pub failed : touched (mkdir (codes "/etc")) (Failed EEXIST) ≡ Process 1
+  pub held : touched (Hold 3 call.OpenRead (codes "/etc/passwd")) Okay ≡ Process 1
+  pub taken : touched (Take 3 2 4) Okay ≡ Process 1
 
 pub touch_rows : TouchRows
-touch_rows = record { file_made = refl; dir_made = refl; forked = refl; moved = refl; killed = refl; failed = refl }
+touch_rows = record {
+  file_made = refl;
+  dir_made = refl;
+  forked = refl;
+  moved = refl;
+  killed = refl;
+  failed = refl;
+  held = refl;
+  taken = refl;
+}
 
 -- since which lines of a script veils have their letters, each with the number of its process
 abbrev pub dates_over : Result Tree ListingFault → Result (List Asked) ScriptFault → List (ℕ × Place) → List (Option ℕ)

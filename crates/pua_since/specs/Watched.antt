@@ -72,9 +72,9 @@ pub record IsAskedOnce (table : CallTable) (w : World) (asker : ℕ) (touched : 
   pub process_kept : new.process ≡ old.process
   pub question_kept : new.question ≡ old.question
   pub last_kept : new.last ≡ old.last
-  pub spared : is_concerned touched asker ≡ false → new ≡ old
-  pub told : line ≤ old.last → is_concerned touched asker ≡ true → IsToldOf table w asker old.question new.told
-  pub turned : line ≤ old.last → is_concerned touched asker ≡ true →
+  pub spared : is_concerned touched asker old.question ≡ false → new ≡ old
+  pub told : line ≤ old.last → is_concerned touched asker old.question ≡ true → IsToldOf table w asker old.question new.told
+  pub turned : line ≤ old.last → is_concerned touched asker old.question ≡ true →
       new.line ≡ (if is_same_told new.told old.told then old.line else Some line)
 
 -- a question, where some requests were served and others are not yet: while its answer is wanted, what is told, and since when

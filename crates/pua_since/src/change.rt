@@ -8,7 +8,7 @@ use pua_calls::{Call, Effect};
 use pua_script::{Action, Answer};
 
 /// Whether a request that was answered so may have changed anything. One that failed changed
-/// nothing, nor did a look at what stands, nor a call without a path.
+/// nothing, nor did a look at what stands, nor a call that asks for promises alone.
 pub(crate) fn has_changed(action: &Action, answer: Answer) -> bool
     ensures exact { result ≡ has_changed action.now answer }
     ensures stays { IsFalse result → LeavesAsIs action.now answer }

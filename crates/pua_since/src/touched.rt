@@ -9,7 +9,7 @@ use pua_script::{Action, Answer, Request};
 /// What a request that was served may have changed.
 #[derive(Clone, Copy)]
 pub(crate) enum Touched {
-    /// What this process may do, and nothing else.
+    /// What this process may do and has open, and nothing else.
     Process(u32),
     /// Anything.
     Anything,
@@ -33,7 +33,8 @@ fn is_own(action: &Action) -> bool
         Action::OnPath(call, _) => call_is_own(*call),
         Action::Symlink(..) | Action::Rename(..) | Action::Link(..) | Action::Fork(_) => false,
         Action::Pledge(..) | Action::Unveil(..) | Action::Lock | Action::Exit => true,
-        Action::Uses(_) | Action::Comment => true,
+        Action::Hold { .. } | Action::Close(_) | Action::Fchdir(_) => true,
+        Action::Take { .. } | Action::Uses(_) | Action::Comment => true,
     }
 }
 

@@ -2,7 +2,7 @@
 
 ghost use Rattle.std.specs.Prelude.{◌≡◌, IfOk, OnOk, max};
 ghost use Rattle.pua_script.specs.Worlds.{world_of};
-ghost use Rattle.pua_since.specs.Concerns.{is_concerned};
+ghost use Rattle.pua_since.specs.Concerns.{asks_other, is_concerned};
 ghost use Rattle.pua_since.specs.Watched.{IsAbout, IsAskedOnce, IsBegunIn};
 ghost use Rattle.pua_since.specs.Watched.{IsSameTopic, IsToldOf, is_same_told, kept_in};
 
@@ -109,7 +109,7 @@ impl<'a> Watch<'a> {
         if self.last < line {
             return Ok(());
         }
-        if !is_concerned(touched, asker) {
+        if !is_concerned(touched, asker, self.question) {
             return Ok(());
         }
         let told = told_of(alloc, world, asker, self.question)?;
@@ -122,12 +122,22 @@ impl<'a> Watch<'a> {
 }
 
 /// Whether what was touched may change the answer to a question that this process asks.
-fn is_concerned(touched: Touched, asker: u32) -> bool
-    ensures { result ≡ is_concerned touched asker }
+fn is_concerned(touched: Touched, asker: u32, question: Question<'_>) -> bool
+    ensures { result ≡ is_concerned touched asker question.entry }
 {
     match touched {
-        Touched::Process(process) => asker == process,
+        Touched::Process(process) => asker == process || asks_other(question),
         Touched::Anything => true,
+    }
+}
+
+/// Whether a question is about what another process has.
+fn asks_other(question: Question<'_>) -> bool
+    ensures { result ≡ asks_other question.entry }
+{
+    match question {
+        Question::Request(action) => matches!(action, Action::Take { .. }),
+        Question::Veil(_) => false,
     }
 }
 

@@ -18,6 +18,7 @@ pub mod OpeningLines
 pub mod States
 pub mod StateLaw
 pub mod OpeningsPrinted
+pub mod FileLines
 pub mod Climbing
 pub mod VeilDates
 pub mod WhyColumns

@@ -1,6 +1,7 @@
 -- The lines of a list, step by step.
 use Rattle.pua_texts.proofs.Common.{◌≡◌, ℕ, suc, List, [], ◌∷◌, ◌++◌, ◌<◌, ◌≤◌, ◌∙◌, refl, sym, ap, map, take}
-use Rattle.pua_texts.proofs.Common.{length, get_or, append_assoc, append-nil, arith, Call, Word, calls_in, call_name, with_commas, Option, None, Some, take_all}
+use Rattle.pua_texts.proofs.Common.{length, get_or, append_assoc, append-nil, arith, Call, Word, calls_in, call_name, with_commas, Option}
+use Rattle.pua_texts.proofs.Common.{None, ProcessState, Some, take_all, Tree}
 use Rattle.std.proofs.Common.{◌≢◌, zero, length-append}
 use Rattle.std.proofs.lemmas.List.{get_or_append_left}
 use Rattle.std.proofs.Math.Seq.{take-append_seam}
@@ -9,8 +10,18 @@ use Rattle.pua_objects.specs.Lines.{kind_word}
 use Rattle.pua_texts.specs.EndingsState.{EndingsState, veil_column}
 use Rattle.pua_texts.specs.EverLines.{kind_of, path_or_new}
 use Rattle.pua_objects.specs.ListItems.{with_name}
-use Rattle.pua_texts.specs.ListLines.{NamedState, last_word, lines_text, text_at, unless_none, word_after}
+use Rattle.pua_texts.specs.ListLines.{ListState, NamedState, head_text, last_word, lines_text, list_text, text_at, unless_none, word_after}
+use Rattle.pua_texts.specs.Lists.{HeadState, head_of}
+use Rattle.pua_texts.specs.States.{head_lines}
+use Rattle.pua_texts.specs.declared.state.Heading.{Heading}
 use Rattle.pua_texts.specs.declared.list_line.ListLine.{ListLine}
+
+-- a list of a process is its head and its lines
+pub list_headed : (t : Tree) (list : ListState) (head : HeadState) (lines : List ListLine) (columns : EndingsState) (heading : Heading)
+    (h : ProcessState) → list ≡ record { head = head; lines = lines; columns = columns } → head ≡ head_of t heading h →
+    list_text t list ≡ head_lines t heading h ++ lines_text columns [] lines
+list_headed t list head lines columns heading h is headed =
+    ap (list_text t) is ∙ ap (λ (head : HeadState). head_text t head ++ lines_text columns [] lines) headed
 
 -- the line that comes next stands before the others
 pub line_next : (columns : EndingsState) (old new : NamedState) (line : ListLine) → old.left ≡ line ∷ new.left →

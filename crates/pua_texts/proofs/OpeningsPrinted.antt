@@ -24,14 +24,14 @@ use Rattle.pua_script.specs.Openings.{Opening, holds_named, is_opening, opening_
 use Rattle.pua_texts.specs.Openings.{line_if, opened_by, opening_line, opening_lines}
 use Rattle.pua_texts.specs.Lines.{with_end}
 use Rattle.pua_texts.specs.States.{HasOpening, OpeningsArePrinted, execs_told, held_lines, living_lines, opening_set, openings_told}
-use Rattle.pua_texts.specs.States.{own_lines, unveiled_line}
+use Rattle.pua_texts.specs.States.{own_lines, receives_told, unveiled_line}
 use Rattle.pua_texts.specs.declared.state.Heading.{Heading}
 use Rattle.pua_texts.specs.declared.state.Time.{Time}
 use Rattle.pua_texts.specs.declared.state.Time.TheVariants.{Now, Ever}
 use Rattle.pua_texts.proofs.StateLaw.{passing}
 
 -- a piece among the pieces of a text
-in_pieces : {A : Type 0} (f : A → List ℕ) (xs : List A) (x : A) → Contains xs x →
+pub in_pieces : {A : Type 0} (f : A → List ℕ) (xs : List A) (x : A) → Contains xs x →
     (before : List ℕ) × (after : List ℕ) × (flat_map f xs ≡ before ++ f x ++ after)
 in_pieces f [] x (k, low, is) = absurd (omega (arith, low))
 in_pieces f (y ∷ xs) x (zero, low, is) = ([], flat_map f xs, ap (λ u. f u ++ flat_map f xs) is)
@@ -126,16 +126,17 @@ in_own : (head : Heading) (h : ProcessState) (o : Opening) → is_ended h ≡ fa
 in_own head h o lives has =
     let alive = with_end (codes "process alive") in
     let held = held_lines head.rules h in
-    let execs = execs_told head.time in (
-      alive ++ held ++ execs ++ has.0,
+    let execs = execs_told head.time in
+    let receives = receives_told head.rules head.time h in (
+      alive ++ held ++ execs ++ receives ++ has.0,
       has.1 ++ unveiled_line h,
       ap (λ (ended : Bool). if ended then with_end (codes "process ended") else living_lines head h) lives
-          ∙ ap (λ told. alive ++ held ++ (execs ++ told ++ unveiled_line h)) has.2
-          ∙ parts alive held execs has.0 (opening_line o) has.1 (unveiled_line h),
+          ∙ ap (λ told. alive ++ held ++ (execs ++ receives ++ told ++ unveiled_line h)) has.2
+          ∙ parts alive held execs receives has.0 (opening_line o) has.1 (unveiled_line h),
     )
   where
-    parts : (a p e b line c u : List ℕ) → a ++ p ++ (e ++ (b ++ line ++ c) ++ u) ≡ (a ++ p ++ e ++ b) ++ line ++ (c ++ u)
-    parts a p e b line c u = search (append_assoc)
+    parts : (a p e f b line c u : List ℕ) → a ++ p ++ (e ++ f ++ (b ++ line ++ c) ++ u) ≡ (a ++ p ++ e ++ f ++ b) ++ line ++ (c ++ u)
+    parts a p e f b line c u = search (append_assoc)
 
 told : (rules : Rules) (time : Time) (h : ProcessState) (o : Opening) → (about_rules rules).has_openings ≡ true →
     Contains openings o → holds_named (opening_set time h) (promises_of o.promise) ≡ true → HasOpening (openings_told rules time h) o

@@ -6,7 +6,7 @@ use Rattle.std.specs.List.{Contains}
 use Rattle.pua_calls.specs.Promises.{holds, keyword_rows}
 use Rattle.pua_policy.specs.States.{held_for_exec, pledged_set, veils}
 use Rattle.pua_texts.specs.States.{StateIsPrinted, TellsPromises, VeilsArePrinted, living_lines, pledged_text, unveil_word, veil_line}
-use Rattle.pua_texts.specs.States.{execs_told, openings_told, rules_line, unveiled_line, veil_lines}
+use Rattle.pua_texts.specs.States.{execs_told, openings_told, receives_told, rules_line, unveiled_line, veil_lines}
 use Rattle.pua_texts.proofs.States.{confined_is_printed}
 use Rattle.pua_texts.specs.Lines.{with_end}
 use Rattle.std.specs.Prelude.{codes}
@@ -49,8 +49,8 @@ tells (Some set) = (
 )
 
 -- the lines of what is held and those of what bounds it, one by one
-one_by_one : (a r p e u x o n : List ℕ) → a ++ (r ++ p ++ e ++ u) ++ (x ++ o ++ n) ≡ a ++ r ++ p ++ e ++ u ++ x ++ o ++ n
-one_by_one a r p e u x o n = search (append_assoc)
+one_by_one : (a r p e u x f o n : List ℕ) → a ++ (r ++ p ++ e ++ u) ++ (x ++ f ++ o ++ n) ≡ a ++ r ++ p ++ e ++ u ++ x ++ f ++ o ++ n
+one_by_one a r p e u x f o n = search (append_assoc)
 
 pub state_is_printed : StateIsPrinted
 state_is_printed head h living = record {
@@ -58,8 +58,8 @@ state_is_printed head h living = record {
   for_exec = pledged_text (held_for_exec h);
   unveils = unveil_word h;
   lines = ap (λ ended. if ended then with_end (codes "process ended") else living_lines head h) living ∙
-      one_by_one (with_end (codes "process alive")) (rules_line head.rules) _ _ _ (execs_told head.time) (openings_told head.rules head.time h)
-      (unveiled_line h);
+      one_by_one (with_end (codes "process alive")) (rules_line head.rules) _ _ _ (execs_told head.time)
+      (receives_told head.rules head.time h) (openings_told head.rules head.time h) (unveiled_line h);
   held = tells (pledged_set h);
   held_for_exec = tells (held_for_exec h);
   confined = confined_is_printed h;

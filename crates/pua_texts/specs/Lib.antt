@@ -1,6 +1,7 @@
 -- The claim, in reading order: what a reader has to believe of the lines of texts, and of the lists that they make.
 pub mod Lines
 pub mod Openings
+pub mod FileLines
 pub mod States
 pub mod ObjectLines
 pub mod EverLines

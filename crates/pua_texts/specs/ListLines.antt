@@ -54,7 +54,7 @@ pub record ListState : Type 0 where
   pub columns : EndingsState
 
 abbrev pub head_text : Tree → HeadState → List ℕ
-head_text t head = head.text ++ veil_lines t head.veils
+head_text t head = head.text ++ (veil_lines t head.veils ++ head.files)
 
 abbrev pub list_text : Tree → ListState → List ℕ
 list_text t list = head_text t list.head ++ lines_text list.columns [] list.lines

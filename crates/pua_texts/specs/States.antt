@@ -1,11 +1,12 @@
--- What a list says of the state of a process: by which rules, its promises, whether it may put veils, what promises open by
--- themselves, and its veils with where their places stand.
+-- What a list says of the state of a process: by which rules, its promises, whether it may put veils, whether it may still receive what
+-- others have open, what promises open by themselves, its veils with where their places stand, and what it has open.
 use Rattle.std.specs.Prelude.{◌↔◌, ◌⊎◌, ◌≡◌, ℕ, Bool, true, false, map, if◌then◌else◌, List, [], ◌∷◌, ◌++◌, flat_map, reverse, Option}
 use Rattle.std.specs.Prelude.{Some, None, codes, decimal, unwrap_or, bit_or}
 use Rattle.std.specs.List.{Contains}
 use Rattle.pua_tree.specs.Tree.{Tree, is_dir}
-use Rattle.pua_calls.specs.Promises.{holds, unveil, keyword_rows, keywords_of, no_promises, perm_letters, promises_of}
+use Rattle.pua_calls.specs.Promises.{holds, unveil, keyword_rows, keywords_of, no_promises, perm_letters, promises_of, recvfd}
 use Rattle.pua_calls.specs.declared.rules.Rules.{Rules}
+use Rattle.pua_calls.specs.declared.rules.Rules.TheVariants.{Standard, Openbsd}
 use Rattle.pua_calls.specs.Calls.{CallTable, about_rules}
 use Rattle.pua_calls.specs.declared.call.Call.{Call}
 use Rattle.pua_policy.specs.States.{ProcessState, has_veil, held_set, held_for_exec, is_ended, is_locked, pledged_set, veils}
@@ -20,6 +21,7 @@ use Rattle.pua_objects.specs.Objects.{with_commas}
 use Rattle.pua_ever.specs.declared.lasting_list.ExecBound.{ExecBound}
 use Rattle.pua_ever.specs.declared.lasting_list.ExecBound.TheVariants.{Never, Bounded, Open}
 use Rattle.pua_why.specs.Texts.{dir_names}
+use Rattle.pua_texts.specs.FileLines.{files_lines}
 use Rattle.pua_texts.specs.Lines.{with_end}
 use Rattle.pua_texts.specs.Openings.{opening_line, opening_lines}
 use Rattle.pua_texts.specs.declared.state.Heading.{Heading}
@@ -61,6 +63,16 @@ opening_set (Ever Never) h = held_set h
 opening_set (Ever Bounded) h = bit_or (held_set h) (unwrap_or (held_for_exec h) no_promises)
 opening_set (Ever Open) h = held_set h
 
+-- that files can still be received, by promises that a list for ever counts; scripts by the standard rules know of no open file
+abbrev pub receive_line : Rules → ℕ → List ℕ
+receive_line Standard promises = []
+receive_line Openbsd promises = if holds promises recvfd then with_end (codes "receive open") else []
+
+abbrev pub receives_told : Rules → Time → ProcessState → List ℕ
+receives_told rules Now h = []
+receives_told rules (Before line) h = []
+receives_told rules (Ever execs) h = receive_line rules (opening_set (Ever execs) h)
+
 -- what promises open by themselves, which the standard rules know nothing of
 abbrev pub openings_told : Rules → Time → ProcessState → List ℕ
 openings_told rules time h = if (about_rules rules).has_openings then opening_lines (keywords_of (opening_set time h)) else []
@@ -74,9 +86,10 @@ abbrev pub held_lines : Rules → ProcessState → List ℕ
 held_lines rules h = rules_line rules ++ with_end (codes "promises " ++ pledged_text (pledged_set h))
     ++ with_end (codes "execpromises " ++ pledged_text (held_for_exec h)) ++ with_end (codes "unveil " ++ unveil_word h)
 
--- what becomes of a list for ever at an exec, what promises open by themselves, and that there is no veil
+-- what becomes of a list for ever at an exec, that files can still be received, what promises open by themselves, and that there is no
+-- veil
 abbrev pub bound_lines : Rules → Time → ProcessState → List ℕ
-bound_lines rules time h = execs_told time ++ openings_told rules time h ++ unveiled_line h
+bound_lines rules time h = execs_told time ++ receives_told rules time h ++ openings_told rules time h ++ unveiled_line h
 
 -- the lines of a living process before those of its veils
 abbrev pub living_lines : Heading → ProcessState → List ℕ
@@ -135,9 +148,13 @@ veil_line t veil = with_end (codes "veil " ++ veil_place_text t veil.0 ++ 32 ∷
 abbrev pub veil_lines : Tree → List (Place × ℕ) → List ℕ
 veil_lines t vs = flat_map (veil_line t) vs
 
+-- the veils of a process, and what it has open
+abbrev pub kept_lines : Tree → ProcessState → List ℕ
+kept_lines t h = veil_lines t (living_veils h) ++ files_lines t h
+
 -- what stands before the lines of a list: its heading, and the state of its process
 abbrev pub head_lines : Tree → Heading → ProcessState → List ℕ
-head_lines t head h = (heading_line head ++ own_lines head h) ++ veil_lines t (living_veils h)
+head_lines t head h = (heading_line head ++ own_lines head h) ++ kept_lines t h
 
 -- the laws: a process that can put no veil any more prints `locked` or `given-up`, and only such a one does
 abbrev pub ConfinedIsPrinted : Type 0
@@ -157,7 +174,7 @@ pub record TellsState (head : Heading) (h : ProcessState) (text : List ℕ) : Ty
   pub unveils : List ℕ
   pub lines : text ≡ with_end (codes "process alive") ++ rules_line head.rules ++ with_end (codes "promises " ++ promises)
       ++ with_end (codes "execpromises " ++ for_exec) ++ with_end (codes "unveil " ++ unveils)
-      ++ execs_told head.time ++ openings_told head.rules head.time h ++ unveiled_line h
+      ++ execs_told head.time ++ receives_told head.rules head.time h ++ openings_told head.rules head.time h ++ unveiled_line h
   pub held : TellsPromises (pledged_set h) promises
   pub held_for_exec : TellsPromises (held_for_exec h) for_exec
   pub confined : IsConfined h ↔ ((unveils ≡ codes "locked") ⊎ (unveils ≡ codes "given-up"))

@@ -8,6 +8,7 @@ use Rattle.pua_objects.specs.Objects.{with_commas}
 use Rattle.pua_ever.specs.Through.{ever_lasting, execs_of}
 use Rattle.pua_ever.specs.Together.{joined}
 use Rattle.pua_texts.specs.EverLines.{ever_lines}
+use Rattle.pua_texts.specs.FileLines.{files_lines}
 use Rattle.pua_texts.specs.Lines.{with_end}
 use Rattle.pua_texts.specs.States.{bound_lines, held_lines, veil_lines}
 use Rattle.pua_texts.specs.declared.state.Time.TheVariants.{Ever}
@@ -16,11 +17,12 @@ use Rattle.pua_texts.specs.declared.state.Time.TheVariants.{Ever}
 abbrev pub together_heading : List (ℕ × ProcessState) → List ℕ
 together_heading members = with_end (codes "ever " ++ with_commas (map (λ member. decimal member.0) members))
 
--- the state of a process as of one alone, down to whether it may put veils, but with its number; an ended one has one line
-abbrev pub member_lines : Rules → ℕ × ProcessState → List ℕ
-member_lines rules member =
+-- the state of a process as of one alone, down to whether it may put veils, but with its number, and what it has open; an ended one has
+-- one line
+abbrev pub member_lines : Rules → Tree → ℕ × ProcessState → List ℕ
+member_lines rules t member =
     if is_ended member.1 then with_end (codes "process " ++ decimal member.0 ++ codes " ended")
-    else with_end (codes "process " ++ decimal member.0 ++ codes " alive") ++ held_lines rules member.1
+    else with_end (codes "process " ++ decimal member.0 ++ codes " alive") ++ held_lines rules member.1 ++ files_lines t member.1
 
 -- those that live
 abbrev pub living : List (ℕ × ProcessState) → List (ℕ × ProcessState)
@@ -35,8 +37,8 @@ one_for table (first ∷ more) = Some (joined table first.1 (map (λ member. mem
 abbrev pub one_of : CallTable → List (ℕ × ProcessState) → Option ProcessState
 one_of table members = one_for table (living members)
 
--- what is told once of all: what becomes of the list at an exec, what promises open by themselves, and the veils; and then a
--- line for each thing that they and what they fork can ever touch together
+-- what is told once of all: what becomes of the list at an exec, that files can still be received, what promises open by themselves,
+-- and the veils; and then a line for each thing that they and what they fork can ever touch together
 abbrev pub joint_list : Rules → CallTable → Tree → Option ProcessState → List ℕ
 joint_list rules table t None = []
 joint_list rules table t (Some one) =
@@ -46,4 +48,4 @@ joint_list rules table t (Some one) =
 -- that stands for those that live; where none lives, the states are all
 abbrev pub together_list : Rules → CallTable → Tree → List (ℕ × ProcessState) → List ℕ
 together_list rules table t members =
-    (together_heading members ++ flat_map (member_lines rules) members) ++ joint_list rules table t (one_of table members)
+    (together_heading members ++ flat_map (member_lines rules t) members) ++ joint_list rules table t (one_of table members)

@@ -2,7 +2,6 @@
 //! ever touch.
 
 ghost use Rattle.std.specs.Prelude.{◌≡◌, ◌++◌, [], List, IfOk, OnOk, string_bytes};
-ghost use Rattle.pua_tree.specs.Tree.{Tree};
 ghost use Rattle.pua_ever.specs.Ever.{EverLine as Told};
 ghost use Rattle.pua_ever.specs.EverList.{AreEverTold};
 ghost use Rattle.pua_texts.specs.BesideLines.{beside_bounds, beside_heading, beside_list};
@@ -14,30 +13,34 @@ use crate::endings::Endings;
 use crate::ever_list::ever_lines;
 use crate::member_states::push_numbers;
 use crate::members::{Helped, Member};
-use crate::process_head::{ProcessHead, veils_of_living};
+use crate::process_head::{ProcessHead, files_text, veils_of_living};
 use crate::process_list::ProcessList;
-use crate::state::{Time, push_execs, push_held, push_line, push_opened, push_unveiled};
+use crate::state::{
+    Time, push_execs, push_held, push_line, push_opened, push_receives, push_unveiled,
+};
 use pua_calls::Rules;
 use pua_ever::EverRow;
-use pua_tree::OutOfMemory;
+use pua_tree::{FileTree, OutOfMemory};
 use std::alloc::{AllocError, Global};
 use std::fmt::Write;
 
-/// The list of these rows, which is that of a process with the help of others; its state says whose
-/// rules the table of calls is by. The only error is that a growth was refused.
-pub fn begin_beside<'t>(
+/// The list of these rows, which is that of a process with the help of others over a tree; its state
+/// says whose rules the table of calls is by. The only error is that a growth was refused.
+pub fn begin_beside<'t, T: FileTree>(
     alloc: Global,
+    tree: &T,
     rules: Rules,
     helped: &Helped<'t, '_>,
     rows: &[EverRow<'t>],
 ) -> Result<ProcessList<'t>, OutOfMemory>
-    ensures { IfOk result (λ list. (t : Tree) (told : List Told) →
-        AreEverTold t [] rows.now told [] →
-        list_text t list ≡ beside_list rules t (beside_of helped.now) told) }
+    ensures { IfOk result (λ list. (told : List Told) →
+        AreEverTold (T.content tree.now) [] rows.now told [] → list_text (T.content tree.now) list
+        ≡ beside_list rules (T.content tree.now) (beside_of helped.now) told) }
 {
     let text = head_text(alloc, rules, helped)?;
     let veils = veils_of_living(alloc, helped.member.process)?;
-    let head = ProcessHead::of(text, veils);
+    let files = files_text(alloc, tree, helped.member.process)?;
+    let head = ProcessHead::of(text, veils, files);
     let lines = ever_lines(alloc, rows)?;
     ProcessList::new(alloc, head, lines, Endings::plain(alloc))
 }
@@ -106,8 +109,9 @@ fn push_living(
     push_bounds(alloc, text, rules, helped)
 }
 
-/// Adds what becomes of the list at an exec of one of them, what promises open by themselves, and
-/// that there is no veil. The only error is that a growth was refused.
+/// Adds what becomes of the list at an exec of one of them, that the process can still receive
+/// files, what promises open by themselves, and that there is no veil. The only error is that a
+/// growth was refused.
 fn push_bounds(
     alloc: Global,
     text: &mut String,
@@ -119,6 +123,7 @@ fn push_bounds(
 {
     let process = helped.member.process;
     push_execs(text, Time::Ever(helped.execs))?;
+    push_receives(text, rules, Time::Ever(helped.own), process)?;
     push_opened(alloc, text, rules, Time::Ever(helped.own), process)?;
     push_unveiled(text, process)
 }

@@ -23,52 +23,57 @@ use crate::state::{Heading, Time};
 use pua_calls::Rules;
 use pua_ever::{EverRow, LastingList};
 use pua_policy::Process;
-use pua_tree::OutOfMemory;
+use pua_tree::{FileTree, OutOfMemory};
 use std::alloc::Global;
 use std::collections::VecDeque;
 
-/// This list, which is that of the process with this number, alone; its state says whose rules the
-/// table of calls is by. The only error is that a growth was refused.
-pub fn begin_ever<'t>(
+/// This list, which is that of the process with this number over a tree, alone; its state says whose
+/// rules the table of calls is by. The only error is that a growth was refused.
+pub fn begin_ever<'t, T: FileTree>(
     alloc: Global,
+    tree: &T,
     rules: Rules,
     number: u32,
     process: &'t Process,
     list: &LastingList<'t>,
 ) -> Result<VecDeque<ProcessList<'t>>, OutOfMemory>
-    ensures { IfOk result (λ lists. (t : Tree) (table : CallTable) →
-        IsLasting t table process.now list.now →
-        lists_text t lists.items ≡ ever_list rules table t number process.now) }
+    ensures { IfOk result (λ lists. (table : CallTable) →
+        IsLasting (T.content tree.now) table process.now list.now →
+        lists_text (T.content tree.now) lists.items
+        ≡ ever_list rules table (T.content tree.now) number process.now) }
 {
     let lines = ever_lines(alloc, list.rows.as_slice())?;
     let columns = Endings::plain(alloc);
-    list_with(alloc, rules, number, process, list, lines, columns)
+    list_with(alloc, tree, rules, number, process, list, lines, columns)
 }
 
 /// The same list with a text after the calls of each row, which ends the line. The only error is
 /// that a growth was refused.
-pub fn begin_ever_with<'t>(
+pub fn begin_ever_with<'t, T: FileTree>(
     alloc: Global,
+    tree: &T,
     rules: Rules,
     number: u32,
     process: &'t Process,
     list: &LastingList<'t>,
     texts: Vec<String>,
 ) -> Result<VecDeque<ProcessList<'t>>, OutOfMemory>
-    ensures { IfOk result (λ lists. (t : Tree) (table : CallTable) (lines : List (Told × List ℕ)) →
-        list.now.execs ≡ execs_of t table process.now →
-        AreToldWith t [] list.now.rows.items (map string_bytes texts.items) lines →
-        lists_text t lists.items ≡ ever_list_with rules table t number process.now lines) }
+    ensures { IfOk result (λ lists. (table : CallTable) (lines : List (Told × List ℕ)) →
+        list.now.execs ≡ execs_of (T.content tree.now) table process.now →
+        AreToldWith (T.content tree.now) [] list.now.rows.items (map string_bytes texts.items)
+        lines → lists_text (T.content tree.now) lists.items
+        ≡ ever_list_with rules table (T.content tree.now) number process.now lines) }
 {
     let lines = numbered_lines(alloc, list.rows.as_slice())?;
     let columns = Endings::of_lines(alloc, texts);
-    list_with(alloc, rules, number, process, list, lines, columns)
+    list_with(alloc, tree, rules, number, process, list, lines, columns)
 }
 
 /// The list of a process with these lines and columns, alone. The only error is that a growth was
 /// refused.
-fn list_with<'t>(
+fn list_with<'t, T: FileTree>(
     alloc: Global,
+    tree: &T,
     rules: Rules,
     number: u32,
     process: &'t Process,
@@ -76,8 +81,8 @@ fn list_with<'t>(
     lines: Vec<ListLine<'t>>,
     columns: Endings,
 ) -> Result<VecDeque<ProcessList<'t>>, OutOfMemory>
-    ensures { IfOk result (λ lists. (t : Tree) → lists_text t lists.items
-        ≡ head_lines t (heading_ever rules list.now.execs number) process.now
+    ensures { IfOk result (λ lists. lists_text (T.content tree.now) lists.items
+        ≡ head_lines (T.content tree.now) (heading_ever rules list.now.execs number) process.now
         ++ lines_text columns [] lines.entry.items) }
 {
     let heading = Heading {
@@ -85,7 +90,7 @@ fn list_with<'t>(
         rules,
         number,
     };
-    let head = ProcessHead::begin(alloc, heading, process)?;
+    let head = ProcessHead::begin(alloc, tree, heading, process)?;
     alone(alloc, ProcessList::new(alloc, head, lines, columns)?)
 }
 

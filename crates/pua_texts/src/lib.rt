@@ -13,6 +13,7 @@ mod copies;
 mod endings;
 mod ever_list;
 mod fault;
+mod file_lines;
 mod kept_path;
 mod laws;
 mod line;

@@ -82,7 +82,7 @@ fn begin_list<'t, T: FileTree>(
     ensures { IfOk result (λ list. list_text (T.content tree.now) list
         ≡ process_list heading table.now (T.content tree.now) process.now) }
 {
-    let head = ProcessHead::begin(alloc, heading, process)?;
+    let head = ProcessHead::begin(alloc, tree, heading, process)?;
     let items = list_items(alloc, tree, process)?;
     let lines = object_lines(alloc, process, table, items.as_slice())?;
     ProcessList::new(alloc, head, lines, Endings::plain(alloc))

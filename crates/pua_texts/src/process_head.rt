@@ -1,12 +1,14 @@
 //! What stands before the lines of a list: its heading, and the state of its process.
 
 ghost use Rattle.std.specs.Prelude.{◌≡◌, IfOk, map, string_bytes};
+ghost use Rattle.pua_texts.specs.FileLines.{files_lines};
 ghost use Rattle.pua_texts.specs.Blocks.{PassesOn};
 ghost use Rattle.pua_texts.specs.ListLines.{head_text};
 ghost use Rattle.pua_texts.specs.Lists.{head_of};
 ghost use Rattle.pua_texts.specs.States.{living_veils};
 
 use crate::block::Block;
+use crate::file_lines::push_files;
 use crate::places::VeilPaths;
 use crate::state::{Heading, state_text};
 use crate::veil_line::add_veils;
@@ -22,6 +24,7 @@ use std::marker::Model;
 pub(crate) struct ProcessHead<'t> {
     text: String,
     veils: Vec<(&'t Place, &'t Perms)>,
+    files: String,
 }
 
 impl<'t> Model for ProcessHead<'t> {
@@ -33,34 +36,43 @@ impl<'t> Model for ProcessHead<'t> {
     ghost view = { λ a. record {
       text = string_bytes a.text;
       veils = map (λ veil. (veil.0.now, veil.1.now)) a.veils.items;
+      files = string_bytes a.files;
     } };
 }
 
 impl<'t> ProcessHead<'t> {
     /// What stands before the lines of a list with this heading, of this process. The only error is
     /// that a growth was refused.
-    pub(crate) fn begin(
+    pub(crate) fn begin<T: FileTree>(
         alloc: Global,
+        tree: &T,
         heading: Heading,
         process: &'t Process,
     ) -> Result<ProcessHead<'t>, OutOfMemory>
-        ensures { IfOk result (λ head. head ≡ head_of heading process.now) }
+        ensures { IfOk result (λ head.
+            head ≡ head_of (T.content tree.now) heading process.now) }
     {
         let Ok(text) = state_text(alloc, heading, process) else {
             return Err(OutOfMemory);
         };
         let veils = veils_of_living(alloc, process)?;
-        Ok(ProcessHead { text, veils })
+        let files = files_text(alloc, tree, process)?;
+        Ok(ProcessHead { text, veils, files })
     }
 
-    /// This text, and these veils.
-    pub(crate) fn of(text: String, veils: Vec<(&'t Place, &'t Perms)>) -> ProcessHead<'t>
+    /// This text, these veils, and these lines of what is open.
+    pub(crate) fn of(
+        text: String,
+        veils: Vec<(&'t Place, &'t Perms)>,
+        files: String,
+    ) -> ProcessHead<'t>
         ensures { result ≡ record {
           text = string_bytes text;
           veils = map (λ veil. (veil.0.now, veil.1.now)) veils.entry.items;
+          files = string_bytes files;
         } }
     {
-        ProcessHead { text, veils }
+        ProcessHead { text, veils, files }
     }
 
     /// Adds the heading and the state to a block.
@@ -75,8 +87,33 @@ impl<'t> ProcessHead<'t> {
         ensures tree { places.new.tree ≡ places.old.tree }
     {
         block.add_text(self.text.as_bytes(), sink)?;
-        add_veils(block, self.veils.as_slice(), places, sink)
+        add_veils(block, self.veils.as_slice(), places, sink)?;
+        add_files(block, self.files.as_bytes(), sink)
     }
+}
+
+/// Adds the lines of what is open, if there are some. The block is put before them.
+fn add_files<S: Sink>(block: &mut Block, lines: &[u8], sink: &mut S) -> Result<(), PutFault>
+    ensures { PassesOn S.written S.failed lines.now result block.old block.new sink.old sink.new }
+{
+    if lines.is_empty() {
+        return Ok(());
+    }
+    block.add_text(lines, sink)
+}
+
+/// The lines of what a process has open, if it lives. The only error is that a growth was refused.
+pub(crate) fn files_text<T: FileTree>(
+    alloc: Global,
+    tree: &T,
+    process: &Process,
+) -> Result<String, OutOfMemory>
+    ensures { IfOk result (λ text.
+        string_bytes text ≡ files_lines (T.content tree.now) process.now) }
+{
+    let mut text = String::new(alloc);
+    push_files(alloc, &mut text, tree, process)?;
+    Ok(text)
 }
 
 /// The veils of a process that has not ended.

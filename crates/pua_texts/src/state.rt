@@ -3,8 +3,9 @@
 ghost use Rattle.std.specs.Prelude.{◌≡◌, ◌++◌, IfOk, OnOk, string_bytes};
 ghost use Rattle.pua_texts.specs.States.{bound_lines, execs_told, heading_line, held_lines};
 ghost use Rattle.pua_texts.specs.States.{living_lines, moment_text, opening_set};
-ghost use Rattle.pua_texts.specs.States.{openings_told, own_lines, pledged_text, rules_line, title_of};
-ghost use Rattle.pua_texts.specs.States.{unveil_word, unveiled_line};
+ghost use Rattle.pua_texts.specs.States.{openings_told, own_lines, pledged_text, receive_line};
+ghost use Rattle.pua_texts.specs.States.{receives_told, rules_line, title_of, unveil_word};
+ghost use Rattle.pua_texts.specs.States.{unveiled_line};
 ghost use Rattle.pua_texts.specs.Lines.{with_end};
 
 use crate::openings::push_openings;
@@ -131,8 +132,8 @@ pub(crate) fn push_held(
     push_line(text, "unveil ", unveil_state(process))
 }
 
-/// Adds what becomes of a list for ever at an exec, what promises open by themselves, and that
-/// there is no veil. The only error is that a growth was refused.
+/// Adds what becomes of a list for ever at an exec, that files can still be received, what promises
+/// open by themselves, and that there is no veil. The only error is that a growth was refused.
 pub(crate) fn push_bounds(
     alloc: Global,
     text: &mut String,
@@ -144,6 +145,7 @@ pub(crate) fn push_bounds(
         ≡ string_bytes text.old ++ bound_lines rules time process.now) }
 {
     push_execs(text, time)?;
+    push_receives(text, rules, time, process)?;
     push_opened(alloc, text, rules, time, process)?;
     push_unveiled(text, process)
 }
@@ -168,6 +170,35 @@ pub(crate) fn push_execs(text: &mut String, time: Time) -> Result<(), AllocError
         Time::Ever(ExecBound::Bounded) => push_line(text, "exec ", "bounded"),
         Time::Ever(ExecBound::Open) => push_line(text, "exec ", "open"),
     }
+}
+
+/// Adds to a list for ever that files can still be received, where they can.
+pub(crate) fn push_receives(
+    text: &mut String,
+    rules: Rules,
+    time: Time,
+    process: &Process,
+) -> Result<(), AllocError>
+    ensures { OnOk result (string_bytes text.new
+        ≡ string_bytes text.old ++ receives_told rules time process.now) }
+{
+    match time {
+        Time::Now | Time::Before(_) => Ok(()),
+        Time::Ever(_) => push_receive(text, rules, opening_promises(time, process)),
+    }
+}
+
+/// Adds that files can still be received, if one of these promises lets them. Scripts by the
+/// standard rules know of no open file.
+fn push_receive(text: &mut String, rules: Rules, promises: Promises) -> Result<(), AllocError>
+    ensures { OnOk result (string_bytes text.new
+        ≡ string_bytes text.old ++ receive_line rules promises) }
+{
+    let receives = rules == Rules::Openbsd && promises.contains(Promises::RECVFD);
+    if receives {
+        return push_line(text, "receive ", "open");
+    }
+    Ok(())
 }
 
 /// Adds what promises open by themselves, of which the standard rules know nothing.

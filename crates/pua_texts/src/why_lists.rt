@@ -86,7 +86,7 @@ fn begin_list<'t, T: FileTree>(
         lines.now ≡ veil_dates p heading.number process.now.veils →
         list_text (world_left p).tree list ≡ why_list heading p process.now) }
 {
-    let head = ProcessHead::begin(alloc, heading, process)?;
+    let head = ProcessHead::begin(alloc, tree, heading, process)?;
     let items = list_items(alloc, tree, process)?;
     let mut columns = veil_columns(alloc, tree, process, lines)?;
     let lines = why_lines(alloc, process, table, items.as_slice(), &mut columns)?;

@@ -1,27 +1,28 @@
 -- What is granted to one that asks is granted to one that is refused less, and is the same change.
 use Rattle.std.proofs.Common.{◌≡◌, ℕ, List, [], ◌∷◌, refl, sym, ap, ◌∙◌, Bool, true, false, cond, ◌||◌, ◌&&◌, subst, length}
-use Rattle.std.specs.Prelude.{Option, Some, None, Result, Ok, Err, option_map, nat_le, IsTrue}
+use Rattle.std.specs.Prelude.{Option, Some, None, Result, Ok, Err, ok_or, option_map, nat_le, IsTrue}
 use Rattle.pua_tree.specs.Tree.{Tree}
 use Rattle.pua_path.specs.Paths.{path_fault}
 use Rattle.pua_calls.specs.declared.rules.Rules.{Rules}
 use Rattle.pua_path.specs.Fits.{node_named}
 use Rattle.pua_path.specs.declared.errno.Errno.{Errno}
-use Rattle.pua_path.specs.declared.errno.Errno.TheVariants.{EPERM}
+use Rattle.pua_path.specs.declared.errno.Errno.TheVariants.{EBADF, EPERM}
 use Rattle.pua_path.specs.declared.found.Found.{Found}
 use Rattle.pua_path.specs.declared.found.Last.{Last}
 use Rattle.pua_path.specs.declared.found.Last.TheVariants.{Followed}
 use Rattle.pua_path.specs.declared.text.Ending.{Ending}
 use Rattle.pua_path.specs.declared.text.Ending.TheVariants as ending
 use Rattle.pua_calls.specs.Calls.{CallTable, PairRule, rule_of, last_of, ending_of}
-use Rattle.pua_calls.specs.Promises.{holds, proc, unveil, error}
+use Rattle.pua_calls.specs.Promises.{holds, proc, recvfd, unveil, error}
 use Rattle.pua_calls.specs.declared.call.Call.{Call}
 use Rattle.pua_calls.specs.declared.call.Call.TheVariants as call
 use Rattle.pua_calls.specs.declared.rules.Rules.{Rules}
 use Rattle.pua_calls.specs.declared.rules.Rules.TheVariants.{Standard, Openbsd}
-use Rattle.pua_policy.specs.States.{ProcessState, Unveiled, Pledged, working_dir, may_any, place_fault, error_frees_exec, has_error, veil_at}
+use Rattle.pua_policy.specs.States.{ProcessState, Unveiled, Pledged, file_at, working_dir, may_any, place_fault, error_frees_exec, has_error, veil_at}
 use Rattle.pua_policy.specs.States.{is_within, unveil_fault, most_places, held_set}
 use Rattle.pua_policy.specs.Misfits.{misfit}
 use Rattle.pua_policy.specs.Verdict.{or_fault, object_of, place_of, refusal_of}
+use Rattle.pua_policy.specs.declared.open_file.OpenFile.{OpenFile}
 use Rattle.pua_policy.specs.declared.place.Place.{Place}
 use Rattle.pua_policy.specs.declared.answer.May.{May}
 use Rattle.pua_policy.specs.declared.answer.May.TheVariants as may
@@ -29,12 +30,13 @@ use Rattle.pua_policy.specs.declared.answer.Refusal.{Refusal}
 use Rattle.pua_policy.specs.declared.answer.UnveilFault.TheVariants.{NotPermitted, TooManyPlaces}
 use Rattle.pua_script.specs.Decide.{Change, AddEvent, Decision, Requester, Side, Sole, Old, New, refusals, asker_of, decide, decide_by, call_by}
 use Rattle.pua_script.specs.Decide.{object_by, symlink_by, pair_by, objects_by, covers_by, rename_by, asks_directory, link_by, veil_by, veiling_by}
-use Rattle.pua_script.specs.Decide.{pledge_by, pledging_by, unless_refused, unless_failed, on_named, change_by, adding, link_node, fault_if}
+use Rattle.pua_script.specs.Decide.{pledge_by, pledging_by, unless_refused, unless_failed, on_named, change_by, adding, holding, link_node, fault_if}
 use Rattle.pua_script.specs.Decide.{is_unknown, given_set, unveil_errno, path_named, asker_for, asker_past, past_promises, cover_past}
 use Rattle.pua_script.specs.Openings.{Opening, opening_of}
 use Rattle.pua_script.specs.declared.request.Given.{Given}
 use Rattle.pua_script.specs.declared.request.Action.{Action}
 use Rattle.pua_script.specs.declared.request.Action.TheVariants.{OnPath, Symlink, Rename, Link, Pledge, Unveil, Lock, Fork, Exit, Uses, Comment}
+use Rattle.pua_script.specs.declared.request.Action.TheVariants.{Hold, Close, Fchdir, Take}
 use Rattle.pua_tight.specs.Narrower.{SetWithin, unset, within, StateWithin, GivenWithin, given_none, given_less, given_unknown}
 use Rattle.pua_tight.specs.Narrower.{ActionWithin, as_given, less_pledged, less_unveiled}
 use Rattle.pua_policy.proofs.ForCallers.{holds_through}
@@ -51,6 +53,7 @@ pub record Easier (a b : Requester) : Type 0 where
   pub beyond : (whose : Rules) (p e : Option ℕ) → a.beyond whose p e ≡ None → b.beyond whose p e ≡ None
   pub locked : a.locked ≡ None → b.locked ≡ None
   pub place : (place : Place) (perms : ℕ) → a.place place perms ≡ None → b.place place perms ≡ None
+  pub file : (number : ℕ) → a.file number ≡ b.file number
 
 pub or_less : (a b m : Option Errno) → (a ≡ None → b ≡ None) → or_fault a m ≡ None → or_fault b m ≡ None
 or_less None b m less e = ap (λ x. or_fault x m) (less refl) ∙ e
@@ -71,7 +74,7 @@ module _ (c : Change) where
   past_failed None p f g less further e = ap (λ x. unless_failed refusals.failed x g) (less refl) ∙ further e
   past_failed (Some r) p f g less further e = cc
 
-  past_named : (r s : Result Found Errno) (f g : Found → Decision) → r ≡ s → ((x : Found) → f x ≡ Ok c → g x ≡ Ok c) →
+  past_named : {X : Type 0} (r s : Result X Errno) (f g : X → Decision) → r ≡ s → ((x : X) → f x ≡ Ok c → g x ≡ Ok c) →
       on_named refusals.failed r f ≡ Ok c → on_named refusals.failed s g ≡ Ok c
   past_named (Ok x) s f g same further e = ap (λ s. on_named refusals.failed s g) (sym same) ∙ further x e
   past_named (Err errno) s f g same further e = cc
@@ -161,44 +164,58 @@ module _ (table : CallTable) (t : Tree) (a b : Requester) (easier : Easier a b) 
   granted_more (Fork new) = past_refused c (a.promises (proc ∷ [])) (b.promises (proc ∷ [])) _ _ (easier.promises (proc ∷ [])) (λ e. e)
   granted_more Exit = λ e. e
   granted_more (Uses sets) = past_refused c (a.promises sets) (b.promises sets) _ _ (easier.promises sets) (λ e. e)
+  granted_more (Hold number call path) = past_refused c (a.promises (rule_of table call).alternatives) (b.promises (rule_of table call).alternatives)
+      (object_by refusals table t a call path (λ object. Ok (holding t number call object)))
+      (object_by refusals table t b call path (λ object. Ok (holding t number call object)))
+      (easier.promises (rule_of table call).alternatives) (object_more call path (λ object. Ok (holding t number call object)))
+  granted_more (Close number) = past_named c (a.file number) (b.file number) _ _ (easier.file number) (λ file e. e)
+  granted_more (Fchdir number) = past_named c (a.file number) (b.file number) _ _ (easier.file number) (λ file e. e)
+  granted_more (Take number from theirs) =
+      past_refused c (a.promises (recvfd ∷ [])) (b.promises (recvfd ∷ [])) _ _ (easier.promises (recvfd ∷ [])) (λ e. e)
   granted_more Comment = λ e. e
 
--- one that passes every check, in a directory
-abbrev pub free : ℕ → Requester
-free dir = record {
+-- one that passes every check, in a directory, with open files
+abbrev pub free : ℕ → List (ℕ × OpenFile) → Requester
+free dir files = record {
   promises = λ sets. None;
   path = λ whose side t end text last. path_named whose t dir end text last;
   cover = λ side t object perms. None;
   beyond = λ whose p e. None;
   locked = None;
   place = λ place perms. None;
+  file = λ number. ok_or (file_at files number) EBADF;
 }
 
 -- whatever one checks whose paths name what they name there
-freer : (a : Requester) (dir : ℕ) → ((whose : Rules) (side : Side) (t : Tree) (end : Ending) (text : List ℕ) (last : Last) →
-    a.path whose side t end text last ≡ path_named whose t dir end text last) → Easier a (free dir)
-freer a dir paths = record {
+freer : (a : Requester) (dir : ℕ) (files : List (ℕ × OpenFile)) →
+    ((whose : Rules) (side : Side) (t : Tree) (end : Ending) (text : List ℕ) (last : Last) →
+    a.path whose side t end text last ≡ path_named whose t dir end text last) →
+    ((number : ℕ) → a.file number ≡ ok_or (file_at files number) EBADF) → Easier a (free dir files)
+freer a dir files paths opens = record {
   promises = λ sets e. refl;
   path = paths;
   cover = λ side t object perms e. refl;
   beyond = λ whose p e is. refl;
   locked = λ e. refl;
   place = λ place perms e. refl;
+  file = opens;
 }
 
-freer_past : (h : ProcessState) (o : Option Opening) → Easier (asker_past o (asker_of h)) (free (working_dir h))
-freer_past h None = freer (asker_of h) (working_dir h) (λ whose side t end text last. refl)
-freer_past h (Some o) = freer (past_promises o.asks_veils (asker_of h)) (working_dir h) (λ whose side t end text last. refl)
+freer_past : (h : ProcessState) (o : Option Opening) → Easier (asker_past o (asker_of h)) (free (working_dir h) h.files)
+freer_past h None = freer (asker_of h) (working_dir h) h.files (λ whose side t end text last. refl) (λ number. refl)
+freer_past h (Some o) =
+    freer (past_promises o.asks_veils (asker_of h)) (working_dir h) h.files (λ whose side t end text last. refl) (λ number. refl)
 
-freer_for : (table : CallTable) (h : ProcessState) (action : Action) → Easier (asker_for table h action (asker_of h)) (free (working_dir h))
+freer_for : (table : CallTable) (h : ProcessState) (action : Action) → Easier (asker_for table h action (asker_of h)) (free (working_dir h) h.files)
 freer_for table h (OnPath call path) = freer_past h (opening_of table h call path)
+freer_for table h (Hold number call path) = freer_past h (opening_of table h call path)
 freer_for table h _ = freer_past h None
 
 -- what is granted is what it would be without checks
 pub freely : (table : CallTable) (t : Tree) (h : ProcessState) (action : Action) (c : Change) → decide table t h action ≡ Ok c →
-    decide_by refusals table t (free (working_dir h)) action ≡ Ok c
+    decide_by refusals table t (free (working_dir h) h.files) action ≡ Ok c
 freely table t h action c =
-    granted_more table t (asker_for table h action (asker_of h)) (free (working_dir h)) (freer_for table h action) c action
+    granted_more table t (asker_for table h action (asker_of h)) (free (working_dir h) h.files) (freer_for table h action) c action
 
 may_from : (m : May) → refusal_of m ≡ None → m ≡ may.Yes
 may_from may.Yes e = refl
@@ -240,6 +257,7 @@ module _ (a b : Requester) (less : Easier a b) where
     beyond = less.beyond;
     locked = less.locked;
     place = less.place;
+    file = less.file;
   }
   easier_past (Some o) q more = subst (λ q. Easier (past_promises o.asks_veils a) (asker_past q b)) (sym (more o refl)) (record {
     promises = λ sets e. refl;
@@ -248,6 +266,7 @@ module _ (a b : Requester) (less : Easier a b) where
     beyond = less.beyond;
     locked = less.locked;
     place = less.place;
+    file = less.file;
   })
 
 module _ (h k : ProcessState) (w : StateWithin h k) where
@@ -281,6 +300,7 @@ module _ (h k : ProcessState) (w : StateWithin h k) where
     beyond = λ whose p e is. ap (λ x. cond x None (Some EPERM)) (gives_more whose p e (none_if (may_give whose h p e) is));
     locked = λ e. ap (λ x. fault_if x EPERM) (sym w.locked) ∙ e;
     place = place_less;
+    file = λ number. ap (λ files. ok_or (file_at files number) EBADF) w.files;
   }
 
   -- also of what promises open: the second one has each opening of the first
@@ -288,6 +308,8 @@ module _ (h k : ProcessState) (w : StateWithin h k) where
       Easier (asker_for table h action (asker_of h)) (asker_for table k action (asker_of k))
   easier_for table (OnPath call path) = easier_past (asker_of h) (asker_of k) easier (opening_of table h call path) (opening_of table k call path)
       (opened_more h k w table call path)
+  easier_for table (Hold number call path) =
+      easier_past (asker_of h) (asker_of k) easier (opening_of table h call path) (opening_of table k call path) (opened_more h k w table call path)
   easier_for table _ = easier
 
 -- one change, or events of which the first gives fewer words
@@ -313,8 +335,8 @@ module _ (table : CallTable) (t : Tree) (h k : ProcessState) (w : StateWithin h 
       by_ok (AddEvent (Unveiled (place_of object) a)) (AddEvent (Unveiled (place_of object) b)) c d (unveils less) e f
   veil_within path a b less (Err errno) e f = cc
 
-  pledge_within : {p q x y : Given} → GivenWithin p q → GivenWithin x y → pledge_by refusals (free (working_dir h)) table.whose p x ≡ Ok c →
-      pledge_by refusals (free (working_dir k)) table.whose q y ≡ Ok d → ChangeWithin c d
+  pledge_within : {p q x y : Given} → GivenWithin p q → GivenWithin x y → pledge_by refusals (free (working_dir h) h.files) table.whose p x ≡ Ok c →
+      pledge_by refusals (free (working_dir k) k.files) table.whose q y ≡ Ok d → ChangeWithin c d
   pledge_within given_none given_none e f = by_ok _ _ c d (pledges unset unset) e f
   pledge_within (given_less less) given_none e f = by_ok _ _ c d (pledges (within less) unset) e f
   pledge_within given_none (given_less less) e f = by_ok _ _ c d (pledges unset (within less)) e f
@@ -325,9 +347,9 @@ module _ (table : CallTable) (t : Tree) (h k : ProcessState) (w : StateWithin h 
 
   pub change_within : {x y : Action} → ActionWithin x y → decide table t h x ≡ Ok c → decide table t k y ≡ Ok d → ChangeWithin c d
   change_within (as_given {action = action}) e f =
-      let here : decide_by refusals table t (free (working_dir h)) action ≡ Ok c = freely table t h action c e in
-      let there : decide_by refusals table t (free (working_dir k)) action ≡ Ok d = freely table t k action d f in
-      subst (ChangeWithin c) (is_ok c d (sym here ∙ ap (λ dir. decide_by refusals table t (free dir) action) w.dir ∙ there)) alike
+      let here : decide_by refusals table t (free (working_dir h) h.files) action ≡ Ok c = freely table t h action c e in
+      let there : decide_by refusals table t (free (working_dir k) k.files) action ≡ Ok d = freely table t k action d f in
+      subst (ChangeWithin c) (is_ok c d (sym here ∙ (λ i. decide_by refusals table t (free (w.dir i) (w.files i)) action) ∙ there)) alike
   change_within (less_pledged {p = p} {q = q} {e = x} {f = y} first second) e f =
       pledge_within first second (freely table t h (Pledge p x) c e) (freely table t k (Pledge q y) d f)
   change_within (less_unveiled {path = path} {a = a} {b = b} less) e f =

@@ -1,14 +1,15 @@
 -- What a process may do is no harder to one that it lies within.
-use Rattle.std.proofs.Common.{◌≡◌, ℕ, refl, ap, Bool, true}
+use Rattle.std.proofs.Common.{◌≡◌, ◌==◌, ℕ, refl, ap, subst, Bool, true}
+use Rattle.std.specs.List.{list_any}
 use Rattle.std.specs.Prelude.{Option, Some, None, is_none}
 use Rattle.pua_tree.specs.Tree.{empty_tree}
 use Rattle.pua_tree.specs.declared.node.Kind.{Kind}
 use Rattle.pua_path.specs.declared.errno.Errno.{Errno}
 use Rattle.pua_calls.specs.Calls.{CallTable, rule_of}
-use Rattle.pua_calls.specs.Promises.{creating}
+use Rattle.pua_calls.specs.Promises.{creating, fattr, holds}
 use Rattle.pua_calls.specs.declared.call.Call.{Call}
 use Rattle.pua_calls.specs.declared.call.Call.TheVariants as call
-use Rattle.pua_policy.specs.States.{ProcessState, may_any}
+use Rattle.pua_policy.specs.States.{ProcessState, held_set, may_any}
 use Rattle.pua_policy.specs.Verdict.{Object, cover_fault, covered_verdict, is_allowed, object_fault, or_fault}
 use Rattle.pua_policy.specs.declared.answer.Cover.{Cover}
 use Rattle.pua_policy.specs.declared.answer.May.{May}
@@ -16,10 +17,11 @@ use Rattle.pua_policy.specs.declared.answer.May.TheVariants as may
 use Rattle.pua_policy.proofs.ForCallers.{holds_through}
 use Rattle.pua_script.specs.Confinement.{has_c}
 use Rattle.pua_ever.specs.Ever.{New, NewDir, NewOthers, NewFile, NewLink, can_link, can_move, file_makers, is_made_by, is_yes, may_link, may_rename}
+use Rattle.pua_ever.specs.Ever.{is_turned_by, is_turned_held}
 use Rattle.pua_ever.proofs.ForCallers.{yes_is}
 use Rattle.pua_tight.specs.Narrower.{VeilsWithin, StateWithin}
-use Rattle.pua_tight.proofs.Sets.{and_more, any_more}
-use Rattle.pua_tight.proofs.Within.{CoverWithin, all, nothing, only, fault_within, may_within}
+use Rattle.pua_tight.proofs.Sets.{and_more, any_more, or_more}
+use Rattle.pua_tight.proofs.Within.{CoverWithin, all, nothing, only, fault_within, held_within, may_within}
 use Rattle.pua_tight.proofs.Decided.{or_less}
 use Rattle.pua_tight.proofs.Worlds.{parts, joined}
 
@@ -36,8 +38,16 @@ pub uncovered_more : {c d : Cover} → CoverWithin c d → (perms : ℕ) → is_
     is_none (cover_fault d perms) ≡ true
 uncovered_more {c} less perms e = ap is_none (fault_within less perms (none_is (cover_fault c perms) e))
 
--- a process to which another one is no harder: its promises let through what those of the other do, and its veils have the letters of
--- the other's
+-- what a process holds open so that it can be written or its mode be set, another one holds so
+pub turned_more : (h k : ProcessState) → (holds (held_set h) fattr ≡ true → holds (held_set k) fattr ≡ true) → h.files ≡ k.files →
+    (node : ℕ) → is_turned_held h node ≡ true → is_turned_held k node ≡ true
+turned_more h k sets same node e =
+    subst (λ files. list_any (is_turned_by (holds (held_set k) fattr) node) files ≡ true) same
+    (any_more (is_turned_by (holds (held_set h) fattr) node) (is_turned_by (holds (held_set k) fattr) node)
+    (λ held. and_more (held.1.node == node) _ (held.1.node == node) _ (λ here. here) (or_more _ _ _ _ sets (λ letters. letters))) h.files e)
+
+-- a process to which another one is no harder: its promises let through what those of the other do, its veils have the letters of
+-- the other's, and it holds open what the other does
 pub record Eases (table : CallTable) (h k : ProcessState) : Type 0 where
   pub calls : (call : Call) → may_any h (rule_of table call).alternatives ≡ may.Yes → may_any k (rule_of table call).alternatives ≡ may.Yes
   pub rename_old : may_any h table.rename.old.needs.alternatives ≡ may.Yes → may_any k table.rename.old.needs.alternatives ≡ may.Yes
@@ -45,6 +55,7 @@ pub record Eases (table : CallTable) (h k : ProcessState) : Type 0 where
   pub link_old : may_any h table.link.old.needs.alternatives ≡ may.Yes → may_any k table.link.old.needs.alternatives ≡ may.Yes
   pub link_new : may_any h table.link.new.needs.alternatives ≡ may.Yes → may_any k table.link.new.needs.alternatives ≡ may.Yes
   pub veiled : VeilsWithin h.veils k.veils
+  pub turned : (node : ℕ) → is_turned_held h node ≡ true → is_turned_held k node ≡ true
 
 pub eases : (table : CallTable) (h k : ProcessState) → StateWithin h k → Eases table h k
 eases table h k w = record {
@@ -54,6 +65,7 @@ eases table h k w = record {
   link_old = may_within h k w table.link.old.needs.alternatives;
   link_new = may_within h k w table.link.new.needs.alternatives;
   veiled = w.veils;
+  turned = turned_more h k (holds_through (held_set k) (held_set h) fattr (held_within w)) w.files;
 }
 
 pub yes_more : (m n : May) → (m ≡ may.Yes → n ≡ may.Yes) → is_yes m ≡ true → is_yes n ≡ true

@@ -23,7 +23,7 @@ use Rattle.pua_ever.specs.Ever.{removable_dir, lasting_dir, is_named_way, may_ed
 use Rattle.pua_ever.specs.Ever.{starts_under, is_exec_call, can_allow, is_ever_allowed, ever_calls, New, NewDir, NewOthers, NewFile, NewLink}
 use Rattle.pua_ever.specs.Ever.{new_covers, new_object, is_new_named, can_make, can_allow_new, is_new_allowed, new_calls, own_spot}
 use Rattle.pua_ever.specs.Ever.{can_be_freed, freed_at, names_to_free, subjects_of, all_new, ever_line, new_line, EverLine}
-use Rattle.pua_ever.specs.Ever.{has_ever_calls, ever}
+use Rattle.pua_ever.specs.Ever.{has_ever_calls, is_turned, is_turned_held, ever}
 use Rattle.pua_ever.proofs.ForCallers.{any_among, any_found, StandsNow, items_stand, dir_cover, file_cover, named_moved, named_linked}
 use Rattle.pua_ever.proofs.ForCallers.{dir_alike}
 use Rattle.pua_tight.specs.Narrower.{SetWithin, unset, within}
@@ -64,21 +64,21 @@ module _ (table : CallTable) (h k : ProcessState) (w : Eases table h k) where
   starts_more : (xs ys : List Cover) → CoversWithin xs ys → (c : Call) → starts_under table h xs c ≡ true → starts_under table k ys c ≡ true
   starts_more xs ys less c e = and_more (is_exec_call c) _ (is_exec_call c) _ (λ here. here) (under_more xs ys less IsProg IsProg c (λ fine. fine)) e
 
-  allow_more : (xs ys : List Cover) → CoversWithin xs ys → (o : Object) (c : Call) → can_allow table h xs o c ≡ true →
-      can_allow table k ys o c ≡ true
-  allow_more xs ys less (Is File) c e =
+  allow_more : (a b : Bool) → (a ≡ true → b ≡ true) → (xs ys : List Cover) → CoversWithin xs ys → (o : Object) (c : Call) →
+      can_allow table h a xs o c ≡ true → can_allow table k b ys o c ≡ true
+  allow_more a b held xs ys less (Is File) c e =
       or_more _ _ _ _ (under_more xs ys less IsFile IsFile c (λ fine. fine))
-      (and_more _ _ _ _ (any_more (is_allowed_under table h xs IsFile) (is_allowed_under table k ys IsFile)
-      (λ turning. under_more xs ys less IsFile IsFile turning (λ fine. fine)) turning_calls) (starts_more xs ys less c)) e
-  allow_more xs ys less o c e = under_more xs ys less o o c (λ fine. fine) e
+      (and_more _ _ _ _ (or_more a _ b _ held (any_more (is_allowed_under table h xs IsFile) (is_allowed_under table k ys IsFile)
+      (λ turning. under_more xs ys less IsFile IsFile turning (λ fine. fine)) turning_calls)) (starts_more xs ys less c)) e
+  allow_more a b held xs ys less o c e = under_more xs ys less o o c (λ fine. fine) e
 
   -- a directory that can be removed is allowed what one that can't is
   dir_more : (xs ys : List Cover) → CoversWithin xs ys → (a b : Bool) → (a ≡ true → b ≡ true) → (c : Call) →
-      can_allow table h xs (if a then removable_dir else lasting_dir) c ≡ true →
-      can_allow table k ys (if b then removable_dir else lasting_dir) c ≡ true
-  dir_more xs ys less true true more c e = allow_more xs ys less removable_dir c e
+      can_allow table h false xs (if a then removable_dir else lasting_dir) c ≡ true →
+      can_allow table k false ys (if b then removable_dir else lasting_dir) c ≡ true
+  dir_more xs ys less true true more c e = allow_more false false (λ here. here) xs ys less removable_dir c e
   dir_more xs ys less true false more c e = absurd (false≢true (more refl))
-  dir_more xs ys less false false more c e = allow_more xs ys less lasting_dir c e
+  dir_more xs ys less false false more c e = allow_more false false (λ here. here) xs ys less lasting_dir c e
   dir_more xs ys less false true more c e =
       under_more xs ys less lasting_dir removable_dir c (dir_alike table.whose empty_tree c 0 Top true (λ rmdir. refl)) e
 
@@ -139,18 +139,18 @@ module _ (table : CallTable) (h k : ProcessState) (w : Eases table h k) where
         by false false can link (inr more) = absurd more
 
     allowed_more : (subject : Subject) → StandsNow t h subject → (c : Call) →
-        can_allow table h (covers_of t table h subject) (ever_object t table h subject) c ≡ true →
-        can_allow table k (covers_of t table k subject) (ever_object t table k subject) c ≡ true
+        can_allow table h (is_turned h subject) (covers_of t table h subject) (ever_object t table h subject) c ≡ true →
+        can_allow table k (is_turned k subject) (covers_of t table k subject) (ever_object t table k subject) c ≡ true
     allowed_more (At (Whole dir way)) living c e =
         dir_more (covers_of_dir t table h dir) (covers_of_dir t table k dir) (dir_covers_more dir living) _ _
         (and_more (is_named_way way) _ (is_named_way way) _ (λ here. here)
         (and_more _ _ _ _ (empties_more table h k w t dir) (or_more _ _ _ _ (edits_more table h k w) (λ here. here)))) c e
     allowed_more (Others dir) living c e =
-        allow_more (covers_of_dir t table h dir) (covers_of_dir t table k dir) (dir_covers_more dir living) IsMissing c e
+        allow_more false false (λ here. here) (covers_of_dir t table h dir) (covers_of_dir t table k dir) (dir_covers_more dir living) IsMissing c e
     allowed_more (At (Slot dir name (Some x))) found c e =
-        allow_more _ _ (file_covers_more dir name x found.0 found.1) (ever_object t table h (At (Slot dir name (Some x)))) c e
+        allow_more (is_turned_held h x) (is_turned_held k x) (w.turned x) _ _ (file_covers_more dir name x found.0 found.1) (ever_object t table h (At (Slot dir name (Some x)))) c e
     allowed_more (At (Slot dir name None)) found c e =
-        allow_more (cover t h (Slot dir name None) ∷ []) (cover t k (Slot dir name None) ∷ []) missing IsMissing c e
+        allow_more false false (λ here. here) (cover t h (Slot dir name None) ∷ []) (cover t k (Slot dir name None) ∷ []) missing IsMissing c e
       where
         missing : CoversWithin (cover t h (Slot dir name None) ∷ []) (cover t k (Slot dir name None) ∷ [])
         missing x (inl same) = (

@@ -57,9 +57,14 @@ module _ (t : Tree) (table : CallTable) (crew others : List ProcessState) (each 
         row = is.row;
         at = is.at;
         file = is.file;
-        call = is.call;
-        turns = is.turns;
-        allowed = can_too is.agent one.outer one.within (Stands (At (Slot is.row.0 is.row.1 (Some node)))) is.call is.allowed;
+        by = elim is.by [
+          | inl turned ↦ inl (record {
+            call = turned.call;
+            turns = turned.turns;
+            allowed = can_too is.agent one.outer one.within (Stands (At (Slot is.row.0 is.row.1 (Some node)))) turned.call turned.allowed;
+          })
+          | inr held ↦ inr ((eases table is.agent one.outer one.within).turned node held)
+        ];
       }
 
   turn_too : (thing : Thing) → CanTurn t table crew thing → CanTurn t table others thing

@@ -1,13 +1,13 @@
 -- The list that holds longest, of a process that lies within another one.
 use Rattle.std.proofs.Common.{◌≡◌, ℕ, List, [], ◌++◌, refl, sym, ap, ◌∙◌, Bool, true, false, ◌&&◌, ◌||◌, map, subst, inl, inr}
-use Rattle.std.proofs.Common.{min, max, arith}
+use Rattle.std.proofs.Common.{min, max, arith, lit<}
 use Rattle.std.proofs.lemmas.Bool.{and_parts, and_from, eq-eqb, eqb-true}
 use Rattle.std.proofs.lemmas.Nat.Bits.{same_from_bits, bit_at_and, bit_at_or}
 use Rattle.std.specs.Int.{bit_at}
 use Rattle.std.specs.List.{list_any}
 use Rattle.std.specs.Prelude.{Option, Some, None, bit_or, filter, flat_map, length, nat_lt, if◌then◌else◌}
 use Rattle.pua_tree.specs.Tree.{Tree, WellFormed}
-use Rattle.pua_calls.specs.Promises.{holds}
+use Rattle.pua_calls.specs.Promises.{holds, fattr}
 use Rattle.pua_calls.specs.Calls.{CallTable, rule_of, calls}
 use Rattle.pua_calls.specs.Tables.{NoCallNeedsError}
 use Rattle.pua_calls.specs.declared.call.Call.{Call}
@@ -22,7 +22,7 @@ use Rattle.pua_script.proofs.ForCallers.{IsWithin, may_yes}
 use Rattle.pua_audit.specs.Reach.{Word}
 use Rattle.pua_objects.specs.Objects.{Subject, items, is_named_by}
 use Rattle.pua_objects.proofs.ForCallers.{Among, among_map, map_among, among_filter, filter_among, among_either, contained, among_contained}
-use Rattle.pua_ever.specs.Ever.{is_allowed_under, turning_calls, is_exec_call, can_allow, covers_of, ever_object, is_ever_allowed}
+use Rattle.pua_ever.specs.Ever.{is_allowed_under, turning_calls, is_exec_call, is_turned, can_allow, covers_of, ever_object, is_ever_allowed}
 use Rattle.pua_ever.specs.Ever.{New, NewDir, NewOthers, NewFile, NewLink, is_made_by, new_covers, new_object, file_covers, name_covers, dir_covers}
 use Rattle.pua_ever.specs.Ever.{can_make, can_allow_new, is_new_named, is_new_allowed, may_edit, subjects_of, all_new, ever_line}
 use Rattle.pua_ever.specs.Ever.{new_line, Thing, Stands, Comes, EverLine, has_ever_calls, ever}
@@ -35,7 +35,7 @@ use Rattle.pua_tight.specs.Laws.{IsListedForEver, WithinLastsNoMore}
 use Rattle.pua_tight.proofs.Sets.{or_more, any_more}
 use Rattle.pua_tight.proofs.Within.{all_within, veils_self, held_within}
 use Rattle.pua_tight.proofs.Worlds.{parts}
-use Rattle.pua_tight.proofs.Eases.{Eases, eases, made_by_more}
+use Rattle.pua_tight.proofs.Eases.{Eases, eases, made_by_more, turned_more}
 use Rattle.pua_tight.proofs.Listed.{has_more}
 use Rattle.pua_tight.proofs.ForEver.{ever_more}
 
@@ -104,6 +104,7 @@ module _ (table : CallTable) (t : Tree) (well : WellFormed t) where
       link_old = may_yes both k inside table.link.old.needs.alternatives sound.link.0;
       link_new = may_yes both k inside table.link.new.needs.alternatives sound.link.1;
       veiled = veils_self k.veils;
+      turned = turned_more k both (inside.tightens.promises fattr (lit< tt, refl)) refl;
     }
 
     abbrev passes : Call → Bool
@@ -126,10 +127,10 @@ module _ (table : CallTable) (t : Tree) (well : WellFormed t) where
     started xs turned c e =
         promised xs IsProg c (and_parts (is_exec_call c) _ (and_parts turned _ e).1).1
 
-    promised_on : (xs : List Cover) (o : Object) (c : Call) → can_allow table k xs o c ≡ true → passes c ≡ true
-    promised_on xs (Is File) c e = one_way (is_allowed_under table k xs IsFile c) _ c (promised xs IsFile c)
-        (started xs (list_any (is_allowed_under table k xs IsFile) turning_calls) c) e
-    promised_on xs o c e = promised xs o c e
+    promised_on : (held : Bool) (xs : List Cover) (o : Object) (c : Call) → can_allow table k held xs o c ≡ true → passes c ≡ true
+    promised_on held xs (Is File) c e = one_way (is_allowed_under table k xs IsFile c) _ c (promised xs IsFile c)
+        (started xs (held || list_any (is_allowed_under table k xs IsFile) turning_calls) c) e
+    promised_on held xs o c e = promised xs o c e
 
     promised_new : (new : New) (c : Call) → can_allow_new t table k new c ≡ true → passes c ≡ true
     promised_new NewFile c e = one_way (is_allowed_under table k (file_covers t table k) IsFile c) _ c
@@ -145,7 +146,7 @@ module _ (table : CallTable) (t : Tree) (well : WellFormed t) where
     standing_pass : (about : Word × Subject) → Passes (ever_line t table k about)
     standing_pass about c a =
         let one = filter_among (is_ever_allowed t table k about.1) calls c a in
-        promised_on (covers_of t table k about.1) (ever_object t table k about.1) c (and_parts (is_named_by t c about.1) _ one.1).1
+        promised_on (is_turned k about.1) (covers_of t table k about.1) (ever_object t table k about.1) c (and_parts (is_named_by t c about.1) _ one.1).1
 
     coming_pass : (new : New) → Passes (new_line t table k new)
     coming_pass new c a = by (may_edit table k && can_make t table k new) refl a
@@ -186,7 +187,7 @@ module _ (table : CallTable) (t : Tree) (well : WellFormed t) where
     -- both through execs
     module _ (a b : ℕ) (less : holds b a ≡ true) where
       wide : StateWithin (with_both h a) (with_both k b)
-      wide = all_within (within (union_within (held_set h) (held_set k) a b (held_within w) less)) unset w.veils w.locked w.dir w.ended
+      wide = all_within (within (union_within (held_set h) (held_set k) a b (held_within w) less)) unset w.veils w.locked w.dir w.ended w.files
 
       passes_more : (c : Call) → is_promised_by_one table h a c ≡ true → is_promised_by_one table k b c ≡ true
       passes_more c e =

@@ -12,7 +12,7 @@ use Rattle.pua_path.specs.declared.found.Found.{Found}
 use Rattle.pua_path.specs.declared.found.Last.TheVariants.{Followed}
 use Rattle.pua_path.specs.declared.text.Ending.TheVariants as ending
 use Rattle.pua_calls.specs.Calls.{CallTable, rule_of}
-use Rattle.pua_calls.specs.Promises.{holds, proc, unveil, error}
+use Rattle.pua_calls.specs.Promises.{holds, proc, recvfd, unveil, error}
 use Rattle.pua_calls.specs.declared.call.Call.{Call}
 use Rattle.pua_calls.specs.declared.call.Call.TheVariants as call
 use Rattle.std.specs.List.{list_any}
@@ -24,17 +24,18 @@ use Rattle.pua_policy.specs.declared.answer.May.TheVariants as may
 use Rattle.pua_policy.specs.declared.answer.Cover.{Cover}
 use Rattle.pua_policy.specs.declared.answer.Refusal.{Refusal}
 use Rattle.pua_policy.specs.declared.answer.UnveilFault.TheVariants.{NotPermitted, TooManyPlaces}
-use Rattle.pua_script.specs.Decide.{NoChange, Change, AddEvent, CopyAs, Decision, refusals, asker_of, decide, object_by}
-use Rattle.pua_script.specs.Decide.{objects_by, rename_by, asks_directory, link_by, veil_by, unless_refused, change_by, adding}
-use Rattle.pua_script.specs.Decide.{link_node, fault_if, is_unknown, given_set, unveil_errno, decide_by, asker_past, past_promises}
+use Rattle.pua_script.specs.Decide.{NoChange, Change, AddEvent, CopyAs, TakeFile, Decision, refusals, asker_of, decide, object_by}
+use Rattle.pua_script.specs.Decide.{objects_by, rename_by, asks_directory, link_by, veil_by, unless_refused, change_by, adding, holding, close_by, fchdir_by}
+use Rattle.pua_script.specs.Decide.{link_node, fault_if, is_unknown, given_set, unveil_errno, asker_past, past_promises}
 use Rattle.pua_script.specs.Openings.{Opening, opening_of}
 use Rattle.pua_script.specs.declared.request.Given.{Given}
 use Rattle.pua_script.specs.declared.request.Action.{Action}
 use Rattle.pua_script.specs.declared.request.Action.TheVariants.{OnPath, Symlink, Rename, Link, Pledge, Unveil, Lock, Fork, Exit, Uses, Comment}
+use Rattle.pua_script.specs.declared.request.Action.TheVariants.{Hold, Close, Fchdir, Take}
 use Rattle.pua_tight.specs.Narrower.{StateWithin}
 use Rattle.pua_policy.proofs.ForCallers.{holds_through}
 use Rattle.pua_tight.proofs.Within.{held_within, as_many}
-use Rattle.pua_tight.proofs.Decided.{easier}
+use Rattle.pua_tight.proofs.Decided.{easier, free}
 use Rattle.pua_tight.proofs.Openers.{opened_alike}
 use Rattle.pua_tight.proofs.RareRefusals.{rare, checked_plain, path_plain, locked_plain, object_plain, objects_plain}
 use Rattle.pua_tight.proofs.RareRefusals.{rename_plain, link_plain, veiling_plain}
@@ -287,30 +288,35 @@ module _ (kept : ℕ) (table : CallTable) (t : Tree) (l m s : ProcessState) (w :
   granted_agree c e = refl
 
   -- a call that one of them has opened by a promise all have
-  module _ (call : Call) (path : List ℕ) where
+  module _ (call : Call) (path : List ℕ) (change : Found → Change) where
     abbrev decided : Option Opening → ProcessState → Decision
-    decided o z = decide_by refusals table t (asker_past o (asker_of z)) (OnPath call path)
+    decided o z = unless_refused ((asker_past o (asker_of z)).promises (rule_of table call).alternatives)
+        (object_by refusals table t (asker_past o (asker_of z)) call path (λ x. Ok (change x)))
 
     abbrev at : ProcessState → Decision
-    at z = object_by refusals table t (asker_of z) call path (λ x. Ok (change_by table call x))
+    at z = object_by refusals table t (asker_of z) call path (λ x. Ok (change x))
 
-    opened_agrees : (veils : Bool) → Agree (object_by refusals table t (past_promises veils (asker_of l)) call path (λ x. Ok (change_by table call x)))
-        (object_by refusals table t (past_promises veils (asker_of m)) call path (λ x. Ok (change_by table call x)))
-        (object_by refusals table t (past_promises veils (asker_of s)) call path (λ x. Ok (change_by table call x)))
-    opened_agrees true = object_agrees t l m s covered table call path (change_by table call)
-    opened_agrees false = named_agrees t l m s covered table call path (change_by table call) (λ x. None) (λ x. None) (λ x. None)
+    opened_agrees : (veils : Bool) → Agree (object_by refusals table t (past_promises veils (asker_of l)) call path (λ x. Ok (change x)))
+        (object_by refusals table t (past_promises veils (asker_of m)) call path (λ x. Ok (change x)))
+        (object_by refusals table t (past_promises veils (asker_of s)) call path (λ x. Ok (change x)))
+    opened_agrees true = object_agrees t l m s covered table call path change
+    opened_agrees false = named_agrees t l m s covered table call path change (λ x. None) (λ x. None) (λ x. None)
         (λ x v e. inl e) (λ x e. e)
 
     call_agrees : HasOneSet (rule_of table call) → (o : Option Opening) → Agree (decided o l) (decided o m) (decided o s)
     call_agrees one None = promises (rule_of table call).alternatives one (at l) (at m) (at s)
-        (object_agrees t l m s covered table call path (change_by table call)) (plain_late (at m) (at s) (object_plain table t s call path (change_by table call)))
+        (object_agrees t l m s covered table call path change) (plain_late (at m) (at s) (object_plain table t s call path change))
     call_agrees one (Some o) = opened_agrees o.asks_veils
 
   same_agrees : (action : Action) → Rests kept table action → Agree (decide table t l action) (decide table t m action) (decide table t s action)
   same_agrees (OnPath call path) one =
       let alike = opened_alike l m s w later table call path one.1 in
-      agree_by (ap (λ o. decided call path o l) alike.0) (ap (λ o. decided call path o m) alike.1) refl
-      (call_agrees call path one.0 (opening_of table s call path))
+      agree_by (ap (λ o. decided call path (change_by table call) o l) alike.0) (ap (λ o. decided call path (change_by table call) o m) alike.1) refl
+      (call_agrees call path (change_by table call) one.0 (opening_of table s call path))
+  same_agrees (Hold number call path) one =
+      let alike = opened_alike l m s w later table call path one.1 in
+      agree_by (ap (λ o. decided call path (holding t number call) o l) alike.0) (ap (λ o. decided call path (holding t number call) o m) alike.1) refl
+      (call_agrees call path (holding t number call) one.0 (opening_of table s call path))
   same_agrees (Symlink target path) one = promises (rule_of table call.Symlink).alternatives one.0 (linked l) (linked m) (linked s)
       (same_check (path_fault target) (path_fault target) (path_fault target) refl refl (at l) (at m) (at s)
       (object_agrees t l m s covered table call.Symlink path (adding (link_node target))))
@@ -345,6 +351,10 @@ module _ (kept : ℕ) (table : CallTable) (t : Tree) (l m s : ProcessState) (w :
   same_agrees Exit one = granted_agree (AddEvent Ended)
   same_agrees (Uses sets) one = promises sets one.0 (Ok NoChange) (Ok NoChange) (Ok NoChange) (granted_agree NoChange)
       (plain_late (Ok NoChange) (Ok NoChange) refl)
+  same_agrees (Close number) one = λ e. ap (λ files. close_by refusals (free 0 files) number) later.files
+  same_agrees (Fchdir number) one = λ e. ap (λ files. fchdir_by refusals (free 0 files) number) later.files
+  same_agrees (Take number from theirs) one = promises (recvfd ∷ []) (omega arith) (Ok (TakeFile number from theirs)) (Ok (TakeFile number from theirs))
+      (Ok (TakeFile number from theirs)) (granted_agree (TakeFile number from theirs)) (plain_late (Ok (TakeFile number from theirs)) (Ok (TakeFile number from theirs)) refl)
   same_agrees Comment one = granted_agree NoChange
 
   -- the first one asks for no less

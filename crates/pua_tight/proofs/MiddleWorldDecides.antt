@@ -11,7 +11,7 @@ use Rattle.pua_path.specs.declared.found.Found.{Found}
 use Rattle.pua_path.specs.declared.found.Last.TheVariants.{Followed}
 use Rattle.pua_path.specs.declared.text.Ending.TheVariants as ending
 use Rattle.pua_calls.specs.Calls.{CallTable, rule_of}
-use Rattle.pua_calls.specs.Promises.{holds, proc, unveil, error}
+use Rattle.pua_calls.specs.Promises.{holds, proc, recvfd, unveil, error}
 use Rattle.pua_calls.specs.declared.call.Call.{Call}
 use Rattle.pua_calls.specs.declared.call.Call.TheVariants as call
 use Rattle.std.specs.List.{list_any}
@@ -24,18 +24,19 @@ use Rattle.pua_policy.specs.declared.answer.Cover.{Cover}
 use Rattle.pua_policy.specs.declared.answer.Refusal.{Refusal}
 use Rattle.pua_policy.specs.declared.answer.Refusal.TheVariants.{Failed, Killed}
 use Rattle.pua_policy.specs.declared.answer.UnveilFault.TheVariants.{NotPermitted, TooManyPlaces}
-use Rattle.pua_script.specs.Decide.{NoChange, AddEvent, CopyAs, Decision, refusals, asker_of, decide, object_by}
-use Rattle.pua_script.specs.Decide.{objects_by, rename_by, asks_directory, link_by, veil_by, unless_refused, unless_failed, change_by, adding}
-use Rattle.pua_script.specs.Decide.{link_node, fault_if, is_unknown, given_set, unveil_errno, Sole, decide_by, asker_past, past_promises, cover_past}
+use Rattle.pua_script.specs.Decide.{Change, NoChange, AddEvent, CopyAs, TakeFile, Decision, refusals, asker_of, decide, object_by}
+use Rattle.pua_script.specs.Decide.{objects_by, rename_by, asks_directory, link_by, veil_by, unless_refused, unless_failed, change_by, adding, holding, close_by, fchdir_by}
+use Rattle.pua_script.specs.Decide.{link_node, fault_if, is_unknown, given_set, unveil_errno, Sole, asker_past, past_promises, cover_past}
 use Rattle.pua_script.specs.Openings.{Opening, opening_of}
 use Rattle.pua_script.specs.declared.request.Action.{Action}
 use Rattle.pua_script.specs.declared.request.Action.TheVariants.{OnPath, Symlink, Rename, Link, Pledge, Unveil, Lock, Fork, Exit, Uses, Comment}
+use Rattle.pua_script.specs.declared.request.Action.TheVariants.{Hold, Close, Fchdir, Take}
 use Rattle.pua_tight.specs.Narrower.{SetWithin, unset, within, StateWithin}
 use Rattle.pua_policy.proofs.ForCallers.{holds_through}
 use Rattle.pua_tight.proofs.Sets.{two_bools}
 use Rattle.pua_tight.proofs.Within.{held_within, kept_within, as_many, CoverWithin}
 use Rattle.pua_tight.proofs.Within.{all, nothing, only, cover_within}
-use Rattle.pua_tight.proofs.Decided.{easier, gives_more}
+use Rattle.pua_tight.proofs.Decided.{easier, free, gives_more}
 use Rattle.pua_tight.proofs.MiddleDecision.{Agree, Misses, Refused, refused, refused_is, some_is, none_some, last_check, same_check}
 use Rattle.pua_tight.proofs.MiddleDecision.{back_by}
 use Rattle.pua_tight.proofs.Covered.{Covered, at_path, named_agrees, object_agrees, pair_agrees, passes, cover_back, cover_lack}
@@ -167,7 +168,7 @@ module _ (table : CallTable) (t : Tree) (g h k : ProcessState) (v : StateWithin 
   beyond_back p e = back_by (λ x. cond x None (Some EPERM)) refl _ _ (gives_more g h v table.whose p e)
 
   -- a call on a path: the promises and the veils are asked, unless a promise opens it, and then the veils as the opening has it
-  module _ (call : Call) (path : List ℕ) where
+  module _ (call : Call) (path : List ℕ) (change : Found → Change) where
     abbrev alternatives : List ℕ
     alternatives = (rule_of table call).alternatives
 
@@ -178,10 +179,11 @@ module _ (table : CallTable) (t : Tree) (g h k : ProcessState) (v : StateWithin 
     uncovered asks z x = cover_past asks (asker_of z).cover Sole t x perms
 
     abbrev object_at : Bool → ProcessState → Decision
-    object_at asks z = object_by refusals table t (past_promises asks (asker_of z)) call path (λ x. Ok (change_by table call x))
+    object_at asks z = object_by refusals table t (past_promises asks (asker_of z)) call path (λ x. Ok (change x))
 
     abbrev decided : Option Opening → ProcessState → Decision
-    decided o z = decide_by refusals table t (asker_past o (asker_of z)) (OnPath call path)
+    decided o z = unless_refused ((asker_past o (asker_of z)).promises alternatives)
+        (object_by refusals table t (asker_past o (asker_of z)) call path (λ x. Ok (change x)))
 
     cover_back_past : (x y z : Bool) → (y ≡ true → x ≡ true) → (object : Found) →
         Misses (uncovered x g object) (uncovered y h object) (uncovered z k object)
@@ -196,11 +198,11 @@ module _ (table : CallTable) (t : Tree) (g h k : ProcessState) (v : StateWithin 
 
     -- where the veils are asked of one that has less, and of no other
     object_between : (x y z : Bool) → (y ≡ true → x ≡ true) → (z ≡ true → y ≡ true) → Agree (object_at x g) (object_at y h) (object_at z k)
-    object_between x y z first second = named_agrees t g h k covered table call path (change_by table call)
+    object_between x y z first second = named_agrees t g h k covered table call path change
         (uncovered x g) (uncovered y h) (uncovered z k) (cover_back_past x y z first) (passes_past y z second)
 
     plain_at : (asks : Bool) → rare (object_at asks k) ≡ false
-    plain_at asks = opened_plain table t k asks call path (change_by table call)
+    plain_at asks = opened_plain table t k asks call path change
 
     -- promises that the last one isn't asked for
     not_last : (m l : Decision) → (lacks g alternatives ≡ None → Agree (object_at true g) m l) → rare l ≡ false →
@@ -226,7 +228,7 @@ module _ (table : CallTable) (t : Tree) (g h k : ProcessState) (v : StateWithin 
         (object_between o.asks_veils o.asks_veils o.asks_veils (λ e. e) (λ e. e)))
 
   pub between : (action : Action) → Agree (decide table t g action) (decide table t h action) (decide table t k action)
-  between (OnPath call path) = called call path (opening_of table g call path) (opening_of table h call path) (opening_of table k call path)
+  between (OnPath call path) = called call path (change_by table call) (opening_of table g call path) (opening_of table h call path) (opening_of table k call path)
       (opened_more g h v table call path) (opened_more h k w table call path)
   between (Symlink target path) = promised_one (rule_of table call.Symlink).alternatives (linked g) (linked h) (linked k)
       (same_check (path_fault target) (path_fault target) (path_fault target) refl refl (object_at g) (object_at h) (object_at k)
@@ -280,4 +282,10 @@ module _ (table : CallTable) (t : Tree) (g h k : ProcessState) (v : StateWithin 
       (λ e. refl) (plain_late refl)
   between Exit = λ e. refl
   between (Uses sets) = promised_one sets (Ok NoChange) (Ok NoChange) (Ok NoChange) (λ e. refl) (plain_late refl)
+  between (Hold number call path) = called call path (holding t number call) (opening_of table g call path) (opening_of table h call path)
+      (opening_of table k call path) (opened_more g h v table call path) (opened_more h k w table call path)
+  between (Close number) = λ e. ap (λ files. close_by refusals (free 0 files) number) w.files
+  between (Fchdir number) = λ e. ap (λ files. fchdir_by refusals (free 0 files) number) w.files
+  between (Take number from theirs) = promised_one (recvfd ∷ []) (Ok (TakeFile number from theirs)) (Ok (TakeFile number from theirs))
+      (Ok (TakeFile number from theirs)) (λ e. refl) (plain_late refl)
   between Comment = λ e. refl

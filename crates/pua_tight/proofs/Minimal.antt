@@ -1,20 +1,22 @@
 -- What one pass leaves, none of it can be left out.
 use Rattle.std.proofs.Common.{◌≡◌, ◌≢◌, ℕ, zero, suc, List, [], ◌∷◌, ◌++◌, refl, sym, ap, ◌∙◌, Bool, true, false, cond, subst}
-use Rattle.std.proofs.Common.{append_assoc, inl, inr}
+use Rattle.std.proofs.Common.{append_assoc, ◌⊎◌, inl, inr}
 use Rattle.std.proofs.lemmas.Bool.{true≢false, false≢true, eq-eqb}
-use Rattle.std.specs.Prelude.{Option, Some, None, Result, Ok, Err, is_some, nat_le, length, ◌||◌}
+use Rattle.std.specs.Prelude.{Option, Some, None, Result, Ok, Err, is_some, nat_eq, nat_le, length, not, ok_or, ◌||◌}
+use Rattle.std.specs.Map.{lookup}
 use Rattle.pua_tree.specs.Tree.{Tree}
 use Rattle.pua_tree.specs.Edits.{add, tie, cut, shift}
 use Rattle.pua_tree.specs.declared.fault.TreeFault.{TreeFault}
 use Rattle.pua_path.specs.Paths.{path_fault}
 use Rattle.pua_path.specs.Fits.{node_named}
 use Rattle.pua_path.specs.declared.errno.Errno.{Errno}
-use Rattle.pua_path.specs.declared.errno.Errno.TheVariants.{ENOSPC, EAGAIN, EPERM, EINVAL}
+use Rattle.pua_path.specs.declared.errno.Errno.TheVariants.{ENOSPC, EAGAIN, EBADF, EPERM, EINVAL, ENOTDIR}
 use Rattle.pua_path.specs.declared.text.Ending.TheVariants as ending
-use Rattle.pua_calls.specs.Promises.{unveil, proc}
+use Rattle.pua_calls.specs.Promises.{holds, unveil, proc, recvfd, sendfd}
 use Rattle.pua_calls.specs.Calls.{CallTable, rule_of}
 use Rattle.pua_calls.specs.declared.call.Call.TheVariants as call
-use Rattle.pua_policy.specs.States.{ProcessState, may_any}
+use Rattle.pua_policy.specs.States.{ProcessState, Filed, Moved, file_at, held_set, is_directory, is_pledged, may_any}
+use Rattle.pua_policy.specs.declared.open_file.OpenFile.{OpenFile}
 use Rattle.pua_policy.specs.Verdict.{refusal_of}
 use Rattle.pua_policy.specs.declared.answer.May.{May}
 use Rattle.pua_policy.specs.declared.answer.May.TheVariants as may
@@ -23,16 +25,18 @@ use Rattle.pua_policy.specs.declared.answer.Refusal.TheVariants as refusal
 use Rattle.pua_script.specs.Limits.{most_processes}
 use Rattle.pua_script.specs.Requests.{Asked}
 use Rattle.pua_script.specs.Family.{is_okay}
-use Rattle.pua_script.specs.Decide.{Change, NoChange, AddNode, CutRow, ShiftRow, TieRow, BeginProgram, AddEvent, CopyAs, Decision, decide}
-use Rattle.pua_script.specs.Decide.{refusals, unless_refused, unless_failed, change_by, adding, link_node, rename_by, asks_directory}
+use Rattle.pua_script.specs.Decide.{Change, NoChange, AddNode, CutRow, ShiftRow, TieRow, BeginProgram, AddEvent, CopyAs, TakeFile, Decision, decide}
+use Rattle.pua_script.specs.Decide.{refusals, unless_refused, unless_failed, change_by, adding, holding, link_node, on_named, rename_by, asks_directory}
 use Rattle.pua_script.specs.Decide.{link_by, fault_if, is_unknown, asker_of, asker_past, decide_by}
 use Rattle.pua_script.specs.Openings.{Opening, opening_of}
 use Rattle.pua_script.specs.Replay.{World, kept_at, Fails, Copies, edit_effect, edited_tree, change_effect, refusal_effect}
+use Rattle.pua_script.specs.Replay.{sent_by, sent_of, take_effect}
 use Rattle.pua_script.specs.Replay.{come_of, answer_to, do_decided, answer_and_world, apply, answers_to, world_after}
 use Rattle.pua_script.specs.declared.answer.Answer.{Answer}
 use Rattle.pua_script.specs.declared.answer.Answer.TheVariants as answer
 use Rattle.pua_script.specs.declared.request.Action.{Action}
 use Rattle.pua_script.specs.declared.request.Action.TheVariants.{OnPath, Symlink, Rename, Link, Pledge, Unveil, Lock, Fork, Exit, Uses, Comment}
+use Rattle.pua_script.specs.declared.request.Action.TheVariants.{Hold, Close, Fchdir, Take}
 use Rattle.pua_tight.specs.Narrower.{StateWithin, ProcessesWithin, WorldWithin, AskWithin, AsksWithin, no_asks, asks}
 use Rattle.pua_tight.proofs.Sets.{three_bools}
 use Rattle.pua_tight.proofs.Decided.{easier_for, granted_more}
@@ -44,9 +48,10 @@ use Rattle.pua_tight.specs.Tight.{Piece, Line, asks_of, without, answer_number, 
 use Rattle.pua_tight.specs.Laws.{IsPieceOf, MayLeaveOut, AreOkay, leave_out, TightIsMinimal}
 use Rattle.pua_tight.proofs.Tightened.{ask_less, ask_self, world_self, tried_same, line_within, thin_same}
 use Rattle.pua_tight.proofs.WithoutPiece.{ask_mono, is_without, okay_less}
-use Rattle.pua_script.proofs.ForCallers.{one_request_more}
+use Rattle.pua_script.proofs.ForCallers.{one_request_more, takes_ask}
 use Rattle.std.specs.Prelude.{◌&&◌}
 use Rattle.pua_tight.proofs.Worlds.{heads, tails, answered_alike, FoundWithin, never, made, found_within, alike_within, request_keeps, not_okay, gone_or}
+use Rattle.pua_tight.proofs.Worlds.{is_taken, pledged_alike, sent_between, told_of, told_is}
 
 -- want of room
 abbrev pub is_full : Errno → Bool
@@ -105,6 +110,27 @@ decide_full table t h Lock = promise_full (may_any h (unveil ∷ [])) _ refl
 decide_full table t h (Fork new) = promise_full (may_any h (proc ∷ [])) _ refl
 decide_full table t h Exit = refl
 decide_full table t h (Uses sets) = promise_full (may_any h sets) _ refl
+decide_full table t h (Hold number c path) = by (opening_of table h c path)
+  where
+    by : (o : Option Opening) → full (decide_by refusals table t (asker_past o (asker_of h)) (Hold number c path)) ≡ false
+    by None = promise_full (may_any h (rule_of table c).alternatives) _ (not_full _ (object_plain table t h c path (holding t number c)))
+    by (Some o) = not_full _ (opened_plain table t h o.asks_veils c path (holding t number c))
+decide_full table t h (Close number) = by (file_at h.files number)
+  where
+    by : (o : Option OpenFile) → full (on_named refusals.failed (ok_or o EBADF) (λ file. Ok (AddEvent (Filed number None)))) ≡ false
+    by None = refl
+    by (Some file) = refl
+decide_full table t h (Fchdir number) = by (file_at h.files number)
+  where
+    into : (b : Bool) (file : OpenFile) → full (unless_failed refusals.failed (fault_if b ENOTDIR) (Ok (AddEvent (Moved file.node)))) ≡ false
+    into true file = refl
+    into false file = refl
+
+    by : (o : Option OpenFile) → full (on_named refusals.failed (ok_or o EBADF) (λ file.
+        unless_failed refusals.failed (fault_if (not (is_directory file)) ENOTDIR) (Ok (AddEvent (Moved file.node))))) ≡ false
+    by None = refl
+    by (Some file) = into (not (is_directory file)) file
+decide_full table t h (Take number from theirs) = promise_full (may_any h (recvfd ∷ [])) _ refl
 decide_full table t h Comment = refl
 
 okay_not : {A : Type 0} (r : Refusal) → answer.Okay ≡ answer_to (refusal_effect r) → A
@@ -114,7 +140,35 @@ failed_is : (errno : Errno) (r : Refusal) → is_full errno ≡ true → answer.
 failed_is errno (refusal.Failed other) is e = sym (ap full_answer e) ∙ is
 failed_is errno refusal.Killed is e = absurd (true≢false (sym is ∙ ap full_answer e))
 
--- a change that fails is want of room
+-- what lacks a promise, or room, among answers, and among what is sent
+abbrev rare_answer : Answer → Bool
+rare_answer (answer.Failed errno) = is_rare errno
+rare_answer answer.Killed = true
+rare_answer _ = false
+
+abbrev rare_sent : Result OpenFile Errno → Bool
+rare_sent (Ok file) = false
+rare_sent (Err errno) = is_rare errno
+
+rarely_told : (errno : Errno) (r : Refusal) → is_rare errno ≡ false → answer.Failed errno ≡ answer_to (refusal_effect r) → rare (Err r) ≡ true → ⊥
+rarely_told errno (refusal.Failed other) plain e is = true≢false (sym is ∙ ap rare_answer (sym e) ∙ plain)
+rarely_told errno refusal.Killed plain e is = false≢true (sym plain ∙ ap rare_answer e)
+
+sent_plain : (pledged : Bool) (sender : Option ProcessState) (theirs : ℕ) → rare_sent (sent_by pledged sender theirs) ≡ false
+sent_plain pledged None theirs = refl
+sent_plain pledged (Some g) theirs = over g.ended (file_at g.files theirs)
+  where
+    checked : (a b : Bool) (file : OpenFile) → rare_sent (cond (not a) (Err EPERM) (cond b (Err EINVAL) (Ok file))) ≡ false
+    checked false b file = refl
+    checked true true file = refl
+    checked true false file = refl
+
+    over : (a : Bool) (f : Option OpenFile) → rare_sent (cond a (Err EBADF) (sent_of pledged g f)) ≡ false
+    over true f = refl
+    over false None = refl
+    over false (Some file) = checked (holds (held_set g) sendfd) (is_directory file && (pledged || is_pledged g)) file
+
+-- a change that fails is want of room, unless something is taken of another process
 module _ (w : World) (h : ProcessState) (r : Refusal) where
   edit_full : (x : Result (ℕ × Tree) TreeFault) → answer_to (edit_effect h x) ≡ answer_to (refusal_effect r) → full (Err r) ≡ true
   edit_full (Ok result) e = okay_not r e
@@ -128,15 +182,52 @@ module _ (w : World) (h : ProcessState) (r : Refusal) where
   fork_full new true e = failed_is EAGAIN r refl e
   fork_full new false e = okay_not r e
 
-  pub change_full : (c : Change) → answer_to (change_effect w h c) ≡ answer_to (refusal_effect r) → full (Err r) ≡ true
-  change_full NoChange e = okay_not r e
-  change_full (AddNode spot node) e = edit_full (add w.tree spot.0 spot.1 node) e
-  change_full (CutRow spot) e = edit_full (cut w.tree spot.0 spot.1) e
-  change_full (ShiftRow old new) e = tree_full (shift w.tree old.0 old.1 new.0 new.1) e
-  change_full (TieRow spot x) e = tree_full (tie w.tree spot.0 spot.1 x) e
-  change_full (BeginProgram left) e = okay_not r e
-  change_full (AddEvent event) e = okay_not r e
-  change_full (CopyAs new) e = fork_full new (is_some (kept_at w new) || nat_le most_processes (length w.processes)) e
+  change_full : (c : Change) → is_taken c ≡ false → answer_to (change_effect w h c) ≡ answer_to (refusal_effect r) → full (Err r) ≡ true
+  change_full NoChange own e = okay_not r e
+  change_full (AddNode spot node) own e = edit_full (add w.tree spot.0 spot.1 node) e
+  change_full (CutRow spot) own e = edit_full (cut w.tree spot.0 spot.1) e
+  change_full (ShiftRow old new) own e = tree_full (shift w.tree old.0 old.1 new.0 new.1) e
+  change_full (TieRow spot x) own e = tree_full (tie w.tree spot.0 spot.1 x) e
+  change_full (BeginProgram left) own e = okay_not r e
+  change_full (AddEvent event) own e = okay_not r e
+  change_full (CopyAs new) own e = fork_full new (is_some (kept_at w new) || nat_le most_processes (length w.processes)) e
+  change_full (TakeFile number from theirs) own e = absurd (true≢false own)
+
+  -- what isn't sent isn't answered as what lacks a promise
+  sent_apart : (number : ℕ) (s : Result OpenFile Errno) → rare_sent s ≡ false → answer_to (take_effect w h number s) ≡ answer_to (refusal_effect r) →
+      rare (Err r) ≡ true → ⊥
+  sent_apart number (Ok file) plain e is = okay_not r e
+  sent_apart number (Err errno) plain e is = rarely_told errno r plain e is
+
+-- no process is refused, whatever it lacks, as another is answered to which was granted what it asked: where the one asks to
+-- take what another process has, the other does
+pub told_apart : (table : CallTable) (t : Tree) (w : World) (g h : ProcessState) (x y : Action) (c : Change) (r : Refusal) →
+    decide table t g x ≡ Ok c → decide table t h y ≡ Err r →
+    ((number from theirs : ℕ) → x ≡ Take number from theirs → y ≡ Take number from theirs) →
+    answer_to (change_effect w g c) ≡ answer_to (refusal_effect r) → ⊥
+told_apart table t w g h x y c r p q same e = by c p e
+  where
+    room : (c : Change) → is_taken c ≡ false → answer_to (change_effect w g c) ≡ answer_to (refusal_effect r) → ⊥
+    room c own e = true≢false (sym (change_full w g r c own e) ∙ ap full (sym q) ∙ decide_full table t h y)
+
+    lacking : (m : May) (d : Change) → unless_refused (refusal_of m) (Ok d) ≡ Err r → rare (Err r) ≡ true
+    lacking may.Yes d is = cc
+    lacking may.Enosys d is = ap rare (sym is)
+    lacking may.Death d is = ap rare (sym is)
+
+    by : (c : Change) → decide table t g x ≡ Ok c → answer_to (change_effect w g c) ≡ answer_to (refusal_effect r) → ⊥
+    by NoChange p e = room NoChange refl e
+    by (AddNode spot node) p e = room (AddNode spot node) refl e
+    by (CutRow spot) p e = room (CutRow spot) refl e
+    by (ShiftRow old new) p e = room (ShiftRow old new) refl e
+    by (TieRow spot x) p e = room (TieRow spot x) refl e
+    by (BeginProgram left) p e = room (BeginProgram left) refl e
+    by (AddEvent event) p e = room (AddEvent event) refl e
+    by (CopyAs new) p e = room (CopyAs new) refl e
+    by (TakeFile number from theirs) p e =
+        sent_apart w g r number (sent_by (is_pledged g) (kept_at w from) theirs) (sent_plain (is_pledged g) (kept_at w from) theirs) e
+        (lacking (may_any h (recvfd ∷ [])) (TakeFile number from theirs)
+        (ap (decide table t h) (sym (same number from theirs (takes_ask table t g x number from theirs p))) ∙ q))
 
 pub same_refusal : (r s : Refusal) → answer_to (refusal_effect r) ≡ answer_to (refusal_effect s) → r ≡ s
 same_refusal (refusal.Failed x) (refusal.Failed y) e = cc
@@ -155,6 +246,42 @@ module _ (table : CallTable) (t : Tree) (hs ms ks : List (ℕ × ProcessState)) 
   hi = record { tree = t; processes = ks }
 
   module _ (g h k : ProcessState) (v : StateWithin g h) (w : StateWithin h k) (action : Action) where
+    -- what is taken: the one in the middle sends as the first one or the last one, which are answered alike
+    took_between : (number from theirs : ℕ) → answer_to (change_effect lo g (TakeFile number from theirs))
+        ≡ answer_to (change_effect hi k (TakeFile number from theirs)) →
+        answer_to (change_effect mid h (TakeFile number from theirs)) ≡ answer_to (change_effect lo g (TakeFile number from theirs))
+    took_between number from theirs e = middle ∙ by (sent_between (is_pledged g) theirs (found_within low from) (found_within high from)) ∙ sym first
+      where
+        sent : List (ℕ × ProcessState) → Result OpenFile Errno
+        sent ps = sent_by (is_pledged g) (lookup (nat_eq from) ps) theirs
+
+        first : answer_to (change_effect lo g (TakeFile number from theirs)) ≡ told_of (sent hs)
+        first = told_is lo g number (sent hs)
+
+        middle : answer_to (change_effect mid h (TakeFile number from theirs)) ≡ told_of (sent ms)
+        middle = told_is mid h number (sent_by (is_pledged h) (lookup (nat_eq from) ms) theirs)
+            ∙ ap (λ p. told_of (sent_by p (lookup (nat_eq from) ms) theirs)) (sym (pledged_alike v))
+
+        last : answer_to (change_effect hi k (TakeFile number from theirs)) ≡ told_of (sent ks)
+        last = told_is hi k number (sent_by (is_pledged k) (lookup (nat_eq from) ks) theirs)
+            ∙ ap (λ p. told_of (sent_by p (lookup (nat_eq from) ks) theirs)) (sym (pledged_alike v ∙ pledged_alike w))
+
+        by : (sent ms ≡ sent hs) ⊎ (sent ms ≡ sent ks) → told_of (sent ms) ≡ told_of (sent hs)
+        by (inl same) = ap told_of same
+        by (inr same) = ap told_of same ∙ sym last ∙ sym e ∙ first
+
+    effects_between : (c : Change) → answer_to (change_effect lo g c) ≡ answer_to (change_effect hi k c) →
+        answer_to (change_effect mid h c) ≡ answer_to (change_effect lo g c)
+    effects_between NoChange e = refl
+    effects_between (AddNode spot node) e = sym (answered_alike (alike_within t hs ms low g h v (AddNode spot node) refl))
+    effects_between (CutRow spot) e = sym (answered_alike (alike_within t hs ms low g h v (CutRow spot) refl))
+    effects_between (ShiftRow old new) e = sym (answered_alike (alike_within t hs ms low g h v (ShiftRow old new) refl))
+    effects_between (TieRow spot x) e = sym (answered_alike (alike_within t hs ms low g h v (TieRow spot x) refl))
+    effects_between (BeginProgram left) e = refl
+    effects_between (AddEvent event) e = refl
+    effects_between (CopyAs new) e = sym (answered_alike (alike_within t hs ms low g h v (CopyAs new) refl))
+    effects_between (TakeFile number from theirs) e = took_between number from theirs e
+
     decided_between : answer_to (come_of lo g (decide table t g action)) ≡ answer_to (come_of hi k (decide table t k action)) →
         answer_to (come_of mid h (decide table t h action)) ≡ answer_to (come_of lo g (decide table t g action))
     decided_between = by (decide table t g action) (decide table t k action) refl refl
@@ -162,10 +289,12 @@ module _ (table : CallTable) (t : Tree) (hs ms ks : List (ℕ × ProcessState)) 
         by : (d f : Decision) → decide table t g action ≡ d → decide table t k action ≡ f →
             answer_to (come_of lo g d) ≡ answer_to (come_of hi k f) →
             answer_to (come_of mid h (decide table t h action)) ≡ answer_to (come_of lo g d)
-        by (Ok c) f p q e = ap (λ d. answer_to (come_of mid h d)) (granted_more table t _ _ (easier_for g h v table action) c action p)
-            ∙ sym (answered_alike (alike_within t hs ms low g h v c))
-        by (Err r) (Ok c) p q e =
-            absurd (true≢false (sym (change_full hi k r c (sym e)) ∙ ap full (sym p) ∙ decide_full table t g action))
+        by (Ok c) (Ok d) p q e =
+            let it : decide table t h action ≡ Ok c = granted_more table t _ _ (easier_for g h v table action) c action p in
+            let last : decide table t k action ≡ Ok c = granted_more table t _ _ (easier_for h k w table action) c action it in
+            ap (λ d. answer_to (come_of mid h d)) it ∙ effects_between c (e ∙ ap (λ d. answer_to (come_of hi k d)) (sym q ∙ last))
+        by (Ok c) (Err r) p q e = absurd (told_apart table t lo g k action action c r p q (λ number from theirs is. is) e)
+        by (Err r) (Ok c) p q e = absurd (told_apart table t hi k g action action c r q p (λ number from theirs is. is) (sym e))
         by (Err r) (Err s) p q e = ap (λ d. answer_to (come_of mid h d))
             (between table t g h k v w action (ap refused p ∙ ap (λ x. Some x) (same_refusal r s e) ∙ sym (ap refused q)) ∙ q) ∙ sym e
 

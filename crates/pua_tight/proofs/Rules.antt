@@ -22,7 +22,7 @@ use Rattle.pua_script.proofs.ForCallers.{scripts_are_read}
 use Rattle.pua_script.specs.Requests.{Asked}
 use Rattle.pua_script.specs.ScriptGrammar.{SpellsLine, blank, request, SpellsAction, SpellRequests, uses}
 use Rattle.pua_script.specs.declared.request.Action.{Action}
-use Rattle.pua_script.specs.declared.request.Action.TheVariants.{OnPath, Symlink, Rename, Link, Uses}
+use Rattle.pua_script.specs.declared.request.Action.TheVariants.{OnPath, Symlink, Rename, Link, Uses, Hold}
 use Rattle.pua_tight.specs.Laws.{HasOneSet, RestsOnOne, RestOnOne, has_choice, HasNoChoice, promise_in, opener_of, openers, RulesRestOnOne}
 
 one : 1 ≤ 1
@@ -52,6 +52,9 @@ action_rests rules more (Uses sets) spells some = uses_rests rules sets (no_uses
 action_rests Standard more (OnPath c path) spells some = by_profile c
 action_rests Openbsd more (OnPath c path) spells (inl e) = cc
 action_rests Openbsd more (OnPath c path) spells (inr other) = by_openbsd c path other
+action_rests Standard more (Hold number c path) spells some = by_profile c
+action_rests Openbsd more (Hold number c path) spells (inl e) = cc
+action_rests Openbsd more (Hold number c path) spells (inr other) = by_openbsd c path other
 action_rests Standard more (Symlink target path) spells some = one
 action_rests Openbsd more (Symlink target path) spells some = one
 action_rests Standard more (Rename old new) spells some = (one, one)
@@ -94,6 +97,7 @@ unopened (ask ∷ asks) = λ i. bit_or (by ask.action i) (unopened asks i)
   where
     by : (action : Action) → opener_of standard_table action ≡ no_promises
     by (OnPath call path) = refl
+    by (Hold number call path) = refl
     by _ = refl
 
 -- and by OpenBSD's no call needs a promise that opens a path
@@ -120,6 +124,7 @@ opened_apart (ask ∷ asks) = apart_or (all_asked openbsd_table) (opener_of open
   where
     by : (action : Action) → bit_and (all_asked openbsd_table) (opener_of openbsd_table action) ≡ 0
     by (OnPath call path) = found_apart (opens_call call path) openings refl
+    by (Hold number call path) = found_apart (opens_call call path) openings refl
     by _ = and_zero_r (all_asked openbsd_table)
 
 none_left : (asks : List Asked) → bit_and (all_used asks) (openers openbsd_table asks) ≡ 0 →

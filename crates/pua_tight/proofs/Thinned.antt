@@ -11,7 +11,8 @@ use Rattle.pua_script.specs.Requests.{Asked}
 use Rattle.pua_script.specs.Scripts.{before_comment, has_empty_word}
 use Rattle.pua_calls.specs.declared.rules.Rules.{Rules}
 use Rattle.pua_script.specs.ScriptGrammar.{SpellsGiven, nothing, known, SpellsPerms, no_letter, letters}
-use Rattle.pua_script.specs.ScriptGrammar.{SpellsAction, on_path, symlink, rename, link, pledge, unveil, lock, fork, exit, uses, SpellsRequest}
+use Rattle.pua_script.specs.ScriptGrammar.{SpellsAction, on_path, symlink, rename, link, pledge, unveil, lock, fork, exit, uses, hold, close, fchdir, SpellsRequest}
+use Rattle.pua_script.specs.ScriptGrammar.{take}
 use Rattle.pua_script.specs.declared.request.Given.{Given}
 use Rattle.pua_script.specs.declared.request.Given.TheVariants.{Null, Good, Unknown}
 use Rattle.pua_script.specs.declared.request.Action.{Action}
@@ -209,6 +210,10 @@ module _ {rules : Rules} (process : List ℕ) where
   thin_fields more as_given visible (fork named x low high) = as_they_are more refl visible (fork named x low high)
   thin_fields more as_given visible (exit named) = as_they_are more refl visible (exit named)
   thin_fields more as_given visible (uses there named x) = as_they_are more refl visible (uses there named x)
+  thin_fields more as_given visible (hold there named n opens call x) = as_they_are more refl visible (hold there named n opens call x)
+  thin_fields more as_given visible (close there named n) = as_they_are more refl visible (close there named n)
+  thin_fields more as_given visible (fchdir there named n) = as_they_are more refl visible (fchdir there named n)
+  thin_fields more as_given visible (take there named n is low high m) = as_they_are more refl visible (take there named n is low high m)
 
 -- fields with spaces between them are the fields of the line
 fields_of_joined : (w : List ℕ) (ws : List (List ℕ)) → list_all is_field (w ∷ ws) ≡ true → fields (join_with_byte 32 (w ∷ ws)) ≡ w ∷ ws

@@ -1,39 +1,49 @@
 -- One request in three worlds, of which the middle one lacks of the last only what the first lacks too.
-use Rattle.std.proofs.Common.{◌≡◌, ℕ, List, [], ◌∷◌, refl, sym, ap, ◌∙◌, Bool, true, false, cond, ◌||◌, subst, length, suc}
-use Rattle.std.proofs.lemmas.Bool.{true≢false}
-use Rattle.std.specs.Prelude.{Option, Some, None, Result, Ok, Err, IsTrue, nat_eq, nat_le, is_some, bit_and}
+use Rattle.std.proofs.Common.{◌≡◌, ℕ, List, [], ◌∷◌, refl, sym, ap, ◌∙◌, Bool, true, false, cond, ◌||◌, ◌⊎◌, inl, inr, subst, length, suc}
+use Rattle.std.proofs.lemmas.Bool.{false≢true}
+use Rattle.std.specs.Prelude.{Option, Some, None, Result, Ok, Err, IsTrue, nat_eq, nat_le, not, is_some, bit_and, ◌&&◌}
 use Rattle.std.specs.Map.{lookup}
 use Rattle.pua_tree.specs.Tree.{Tree}
 use Rattle.pua_tree.specs.Edits.{add, tie, cut, shift}
 use Rattle.pua_tree.specs.declared.fault.TreeFault.{TreeFault}
 use Rattle.pua_path.specs.declared.errno.Errno.{Errno}
-use Rattle.pua_path.specs.declared.errno.Errno.TheVariants.{EAGAIN}
+use Rattle.pua_path.specs.declared.errno.Errno.TheVariants.{EAGAIN, EBADF, EINVAL, EPERM}
 use Rattle.pua_path.specs.declared.found.Found.{Found}
 use Rattle.pua_path.specs.declared.found.Last.TheVariants.{Followed}
 use Rattle.pua_path.specs.declared.text.Ending.TheVariants as ending
-use Rattle.pua_calls.specs.Promises.{holds}
+use Rattle.pua_calls.specs.Promises.{holds, recvfd, sendfd}
 use Rattle.pua_calls.specs.Calls.{CallTable}
-use Rattle.pua_policy.specs.States.{ProcessState, Pledged, Unveiled, Ended}
+use Rattle.pua_policy.specs.States.{ProcessState, Pledged, Unveiled, Ended, Filed, file_at, held_set, is_directory, is_pledged, may_any}
+use Rattle.pua_policy.specs.Verdict.{refusal_of}
+use Rattle.pua_policy.specs.declared.open_file.OpenFile.{OpenFile}
+use Rattle.pua_policy.proofs.ForCallers.{holds_through}
 use Rattle.pua_policy.specs.Verdict.{place_of}
+use Rattle.pua_tight.proofs.Within.{held_within}
 use Rattle.pua_policy.specs.declared.place.Place.{Place}
 use Rattle.pua_script.specs.Limits.{most_processes}
 use Rattle.pua_script.specs.Requests.{Asked}
 use Rattle.pua_script.specs.Family.{is_okay}
-use Rattle.pua_script.specs.Decide.{Change, NoChange, AddNode, CutRow, ShiftRow, TieRow, BeginProgram, AddEvent, CopyAs, Decision, decide, decide_by, refusals}
-use Rattle.pua_script.specs.Decide.{on_named, path_named}
+use Rattle.pua_script.specs.Decide.{Change, NoChange, AddNode, CutRow, ShiftRow, TieRow, BeginProgram, AddEvent, CopyAs, TakeFile, Decision, decide, decide_by, refusals}
+use Rattle.pua_script.specs.Decide.{on_named, path_named, unless_refused}
 use Rattle.pua_script.specs.Replay.{World, put_at, Effect, Fails, Kills, Leaves, Copies, edit_effect, edited_tree, change_effect}
+use Rattle.pua_script.specs.Replay.{sent_by, sent_of, take_effect}
+use Rattle.pua_script.proofs.ForCallers.{takes_ask}
 use Rattle.pua_script.specs.Replay.{refusal_effect, come_of, answer_to, left_by, do_decided, answer_and_world, apply}
 use Rattle.pua_script.specs.declared.request.Given.{Given}
 use Rattle.pua_script.specs.declared.request.Given.TheVariants.{Null, Good, Unknown}
 use Rattle.pua_script.specs.declared.request.Action.{Action}
-use Rattle.pua_script.specs.declared.request.Action.TheVariants.{Pledge, Unveil}
+use Rattle.pua_script.specs.declared.request.Action.TheVariants.{Pledge, Unveil, Take}
+use Rattle.pua_policy.specs.declared.answer.May.{May}
+use Rattle.pua_policy.specs.declared.answer.May.TheVariants as may
+use Rattle.pua_tree.proofs.ForCallers.{same_Some}
 use Rattle.pua_script.specs.declared.answer.Answer.{Answer}
-use Rattle.pua_tight.specs.Narrower.{StateWithin, ProcessesWithin, WorldWithin, ActionWithin}
+use Rattle.pua_tight.specs.Narrower.{StateWithin, ProcessesWithin, WorldWithin, ActionWithin, as_given, less_pledged, less_unveiled}
 use Rattle.pua_tight.proofs.Sets.{three_bools}
 use Rattle.pua_tight.proofs.Decided.{free, freely}
 use Rattle.pua_tight.proofs.Worlds.{FoundWithin, never, made, found_within, answered_alike, alike_within, not_okay, request_keeps, gone_or}
-use Rattle.pua_tight.proofs.Minimal.{full, decide_full, change_full, same_refusal}
-use Rattle.pua_tight.proofs.ThreeProcesses.{SetThree, three_unset, three_some, StateThree, pledged_three, unveiled_three, after_three, exec_three}
+use Rattle.pua_tight.proofs.Worlds.{pledged_alike, sends_alike, told_of, told_is}
+use Rattle.pua_tight.proofs.Minimal.{same_refusal, told_apart}
+use Rattle.pua_tight.proofs.ThreeProcesses.{SetThree, three_unset, three_some, StateThree, held_three, has_both, pledged_three, unveiled_three, after_three, exec_three}
 use Rattle.pua_tight.proofs.MiddleDecision.{refused}
 use Rattle.pua_tight.proofs.MiddleWorldAnswers.{Rests, agrees}
 
@@ -85,11 +95,12 @@ module _ (kept : ℕ) (table : CallTable) (t : Tree) (l m s : ProcessState) (w :
   same_change : (action : Action) → decide table t l action ≡ Ok c → decide table t m action ≡ Ok d → decide table t s action ≡ Ok e →
       ChangeThree kept c d e
   same_change action p q r =
-      let done : ℕ → Decision = λ dir. decide_by refusals table t (free dir) action in
-      let one : done l.dir ≡ Ok c = freely table t l action c p in
-      let two : done m.dir ≡ Ok d = freely table t m action d q in
-      let three : done s.dir ≡ Ok e = freely table t s action e r in
-      by_ok kept c c c c d e alike_three refl (sym one ∙ ap done w.dir ∙ two) (sym one ∙ ap done (w.dir ∙ later.dir) ∙ three)
+      let done : ℕ → List (ℕ × OpenFile) → Decision = λ dir files. decide_by refusals table t (free dir files) action in
+      let one : done l.dir l.files ≡ Ok c = freely table t l action c p in
+      let two : done m.dir m.files ≡ Ok d = freely table t m action d q in
+      let three : done s.dir s.files ≡ Ok e = freely table t s action e r in
+      by_ok kept c c c c d e alike_three refl (sym one ∙ (λ i. done (w.dir i) (w.files i)) ∙ two)
+      (sym one ∙ (λ i. done ((w.dir ∙ later.dir) i) ((w.files ∙ later.files) i)) ∙ three)
 
   veil_change : (a b g : ℕ) → holds b (bit_and g a) ≡ true → (r : Result Found Errno) →
       on_named refusals.failed r (λ object. Granted (AddEvent (Unveiled (place_of object) a))) ≡ Ok c →
@@ -100,8 +111,8 @@ module _ (kept : ℕ) (table : CallTable) (t : Tree) (l m s : ProcessState) (w :
   veil_change a b g has (Err v) p q r = cc
 
   pledge_change : {p q r x y z : Given} → GivenThree kept p q r → GivenThree kept x y z →
-      decide_by refusals table t (free l.dir) (Pledge p x) ≡ Ok c → decide_by refusals table t (free m.dir) (Pledge q y) ≡ Ok d →
-      decide_by refusals table t (free s.dir) (Pledge r z) ≡ Ok e → ChangeThree kept c d e
+      decide_by refusals table t (free l.dir l.files) (Pledge p x) ≡ Ok c → decide_by refusals table t (free m.dir m.files) (Pledge q y) ≡ Ok d →
+      decide_by refusals table t (free s.dir s.files) (Pledge r z) ≡ Ok e → ChangeThree kept c d e
   pledge_change null_three null_three i j k = by_ok kept _ _ _ c d e (pledges_three three_unset three_unset) i j k
   pledge_change null_three (good_three a b) i j k = by_ok kept _ _ _ c d e (pledges_three three_unset (three_some a b)) i j k
   pledge_change (good_three a b) null_three i j k = by_ok kept _ _ _ c d e (pledges_three (three_some a b) three_unset) i j k
@@ -162,6 +173,64 @@ put_three n {kept = kept} {l = l} {m = m} {s = s} w (three_somebody {process = p
     by true further = three_somebody w rest
     by false further = three_somebody first further
 
+-- a request of which less was asked for takes the same of another process
+taken_too : {y x : Action} → ActionWithin y x → (number from theirs : ℕ) → x ≡ Take number from theirs → y ≡ Take number from theirs
+taken_too as_given number from theirs e = e
+taken_too (less_pledged p q) number from theirs e = cc
+taken_too (less_unveiled less) number from theirs e = cc
+
+taken_from : {y x : Action} → ActionWithin y x → (number from theirs : ℕ) → y ≡ Take number from theirs → x ≡ Take number from theirs
+taken_from as_given number from theirs e = e
+taken_from (less_pledged p q) number from theirs e = cc
+taken_from (less_unveiled less) number from theirs e = cc
+
+taken_same : (table : CallTable) (t : Tree) (l : ProcessState) {y x : Action} → ActionWithin y x → (c : Change) (number from theirs : ℕ) →
+    decide table t l x ≡ Ok c → y ≡ Take number from theirs → c ≡ TakeFile number from theirs
+taken_same table t l less c number from theirs p is =
+    granted (may_any l (recvfd ∷ [])) (ap (decide table t l) (sym (taken_from less number from theirs is)) ∙ p)
+  where
+    granted : (m : May) → unless_refused (refusal_of m) (Granted (TakeFile number from theirs)) ≡ Granted c → c ≡ TakeFile number from theirs
+    granted may.Yes e = sym (is_ok (TakeFile number from theirs) c e)
+    granted may.Enosys e = cc
+    granted may.Death e = cc
+
+-- which file was sent, and by whom alike
+sent_at : (pledged : Bool) (g : ProcessState) (theirs : ℕ) (x : OpenFile) → sent_by pledged (Some g) theirs ≡ Ok x → file_at g.files theirs ≡ Some x
+sent_at pledged g theirs x e = by g.ended (file_at g.files theirs) e
+  where
+    checked : (a b : Bool) (file : OpenFile) → cond {A = Result OpenFile Errno} (not a) (Err EPERM) (cond b (Err EINVAL) (Ok file)) ≡ Ok x →
+        Some file ≡ Some x
+    checked false b file e = cc
+    checked true true file e = cc
+    checked true false file e = cc
+
+    by : (a : Bool) (f : Option OpenFile) → cond {A = Result OpenFile Errno} a (Err EBADF) (sent_of pledged g f) ≡ Ok x → f ≡ Some x
+    by true f e = cc
+    by false None e = cc
+    by false (Some file) e = checked (holds (held_set g) sendfd) (is_directory file && (pledged || is_pledged g)) file e
+
+given_three : {kept : ℕ} {p q r : Option ℕ} → SetThree kept p q r → is_some p ≡ is_some q
+given_three three_unset = refl
+given_three (three_some has same) = refl
+
+pledged_outer : {kept : ℕ} {l m s : ProcessState} → StateThree kept l m s → is_pledged l ≡ is_pledged m
+pledged_outer w = given_three w.promises
+
+between3 : {kept : ℕ} (pledged : Bool) (theirs : ℕ) {o p q : Option ProcessState} → FoundThree kept o p q → FoundWithin p q →
+    (sent_by pledged p theirs ≡ sent_by pledged o theirs) ⊎ (sent_by pledged p theirs ≡ sent_by pledged q theirs)
+between3 pledged theirs never3 never = inl refl
+between3 pledged theirs (made3 {l = g} {m = h} {s = k} v) (made u) =
+    by (holds (held_set g) sendfd) (holds (held_set h) sendfd) (holds (held_set k) sendfd) refl refl refl
+  where
+    by : (a b c : Bool) → holds (held_set g) sendfd ≡ a → holds (held_set h) sendfd ≡ b → holds (held_set k) sendfd ≡ c →
+        (sent_by pledged (Some h) theirs ≡ sent_by pledged (Some g) theirs) ⊎ (sent_by pledged (Some h) theirs ≡ sent_by pledged (Some k) theirs)
+    by a true c p q s = inr (sends_alike pledged theirs h k u.ended u.files (pledged_alike u)
+        (q ∙ sym (holds_through (held_set k) (held_set h) sendfd (held_within u) q)))
+    by false false c p q s = inl (sends_alike pledged theirs h g (sym v.ended) (sym v.files) (sym (pledged_outer v)) (q ∙ sym p))
+    by true false true p q s =
+        absurd (false≢true (sym q ∙ has_both (held_set g) (held_set h) (held_set k) sendfd (held_three v) s p))
+    by true false false p q s = inr (sends_alike pledged theirs h k u.ended u.files (pledged_alike u) (q ∙ sym s))
+
 module _ (kept : ℕ) (t : Tree) (ls ms ss : List (ℕ × ProcessState)) (all : ProcessesThree kept ls ms ss) (laters : ProcessesWithin ms ss) where
   abbrev wl : World
   wl = record { tree = t; processes = ls }
@@ -184,25 +253,62 @@ module _ (kept : ℕ) (t : Tree) (ls ms ss : List (ℕ × ProcessState)) (all : 
     retied (Ok u) = leaves3 w
     retied (Err fault) = fails3
 
-    alike_effect : (c : Change) → EffectThree kept (change_effect wl l c) (change_effect wm m c) (change_effect ws s c)
-    alike_effect NoChange = leaves3 w
-    alike_effect (AddNode spot node) = edited (add t spot.0 spot.1 node)
-    alike_effect (CutRow spot) = edited (cut t spot.0 spot.1)
-    alike_effect (ShiftRow old new) = retied (shift t old.0 old.1 new.0 new.1)
-    alike_effect (TieRow spot x) = retied (tie t spot.0 spot.1 x)
-    alike_effect (BeginProgram left) = leaves3 (exec_three left w)
-    alike_effect (AddEvent event) = leaves3 (after_three event w)
-    alike_effect (CopyAs new) =
+    -- the files that were sent to the three are one
+    sent_three : (from theirs : ℕ) (x y z : OpenFile) → sent_by (is_pledged l) (lookup (nat_eq from) ls) theirs ≡ Ok x →
+        sent_by (is_pledged m) (lookup (nat_eq from) ms) theirs ≡ Ok y → sent_by (is_pledged s) (lookup (nat_eq from) ss) theirs ≡ Ok z →
+        (x ≡ y) × (y ≡ z)
+    sent_three from theirs x y z = by (found_three all from) (found_within laters from)
+      where
+        by : {o p q : Option ProcessState} → FoundThree kept o p q → FoundWithin p q → sent_by (is_pledged l) o theirs ≡ Ok x →
+            sent_by (is_pledged m) p theirs ≡ Ok y → sent_by (is_pledged s) q theirs ≡ Ok z → (x ≡ y) × (y ≡ z)
+        by never3 never a b c = cc
+        by (made3 {l = g} {m = h} {s = k} v) (made u) a b c =
+            let one = sent_at (is_pledged l) g theirs x a in
+            let two = sent_at (is_pledged m) h theirs y b in
+            let three = sent_at (is_pledged s) k theirs z c in (
+              same_Some x y (sym one ∙ ap (λ files. file_at files theirs) v.files ∙ two),
+              same_Some y z (sym two ∙ ap (λ files. file_at files theirs) u.files ∙ three),
+            )
+
+    took_three : (number from theirs : ℕ) (a b c : Result OpenFile Errno) → sent_by (is_pledged l) (lookup (nat_eq from) ls) theirs ≡ a →
+        sent_by (is_pledged m) (lookup (nat_eq from) ms) theirs ≡ b → sent_by (is_pledged s) (lookup (nat_eq from) ss) theirs ≡ c →
+        answer_to (take_effect wl l number a) ≡ answer_to (take_effect wm m number b) →
+        answer_to (take_effect wm m number b) ≡ answer_to (take_effect ws s number c) → is_okay (answer_to (take_effect wl l number a)) ≡ true →
+        EffectThree kept (take_effect wl l number a) (take_effect wm m number b) (take_effect ws s number c)
+    took_three number from theirs (Err x) b c p q r i j okay = absurd (false≢true okay)
+    took_three number from theirs (Ok x) (Err y) c p q r i j okay = cc
+    took_three number from theirs (Ok x) (Ok y) (Err z) p q r i j okay = cc
+    took_three number from theirs (Ok x) (Ok y) (Ok z) p q r i j okay =
+        let same = sent_three from theirs x y z p q r in
+        subst (λ v. EffectThree kept (take_effect wl l number (Ok x)) (take_effect wm m number (Ok v)) (take_effect ws s number (Ok z))) same.0
+        (subst (λ v. EffectThree kept (take_effect wl l number (Ok x)) (take_effect wm m number (Ok x)) (take_effect ws s number (Ok v)))
+        (same.0 ∙ same.1) (leaves3 (after_three (Filed number (Some x)) w)))
+
+    alike_effect : (c : Change) → answer_to (change_effect wl l c) ≡ answer_to (change_effect wm m c) →
+        answer_to (change_effect wm m c) ≡ answer_to (change_effect ws s c) → is_okay (answer_to (change_effect wl l c)) ≡ true →
+        EffectThree kept (change_effect wl l c) (change_effect wm m c) (change_effect ws s c)
+    alike_effect NoChange i j okay = leaves3 w
+    alike_effect (AddNode spot node) i j okay = edited (add t spot.0 spot.1 node)
+    alike_effect (CutRow spot) i j okay = edited (cut t spot.0 spot.1)
+    alike_effect (ShiftRow old new) i j okay = retied (shift t old.0 old.1 new.0 new.1)
+    alike_effect (TieRow spot x) i j okay = retied (tie t spot.0 spot.1 x)
+    alike_effect (BeginProgram left) i j okay = leaves3 (exec_three left w)
+    alike_effect (AddEvent event) i j okay = leaves3 (after_three event w)
+    alike_effect (TakeFile number from theirs) i j okay = took_three number from theirs (sent_by (is_pledged l) (lookup (nat_eq from) ls) theirs)
+        (sent_by (is_pledged m) (lookup (nat_eq from) ms) theirs) (sent_by (is_pledged s) (lookup (nat_eq from) ss) theirs) refl refl refl i j okay
+    alike_effect (CopyAs new) i j okay =
         let found = made_three (found_three all new) in
         let many = many_three all in
         three_bools
         (λ a b c. EffectThree kept (cond a (Fails EAGAIN) (Copies new)) (cond b (Fails EAGAIN) (Copies new)) (cond c (Fails EAGAIN) (Copies new)))
         fails3 copies3 _ _ _ (λ i. found.0 i || nat_le most_processes (many.0 i)) (λ i. found.1 i || nat_le most_processes (many.1 i))
 
-    effect_three : {c d e : Change} → ChangeThree kept c d e → EffectThree kept (change_effect wl l c) (change_effect wm m d) (change_effect ws s e)
-    effect_three (alike_three {c = c}) = alike_effect c
-    effect_three (pledges_three p e) = leaves3 (pledged_three p e w)
-    effect_three (unveils_three {place = place} {a = a} {b = b} {c = c} has) = leaves3 (unveiled_three place a b c has w)
+    effect_three : {c d e : Change} → ChangeThree kept c d e → answer_to (change_effect wl l c) ≡ answer_to (change_effect wm m d) →
+        answer_to (change_effect wm m d) ≡ answer_to (change_effect ws s e) → is_okay (answer_to (change_effect wl l c)) ≡ true →
+        EffectThree kept (change_effect wl l c) (change_effect wm m d) (change_effect ws s e)
+    effect_three (alike_three {c = c}) i j okay = alike_effect c i j okay
+    effect_three (pledges_three p e) i j okay = leaves3 (pledged_three p e w)
+    effect_three (unveils_three {place = place} {a = a} {b = b} {c = c} has) i j okay = leaves3 (unveiled_three place a b c has w)
 
     left_three : (n : ℕ) {e f g : Effect} → EffectThree kept e f g → HasShared kept (left_by wl n l e) (left_by wm n m f) (left_by ws n s g)
     left_three n fails3 = same_worlds
@@ -240,7 +346,7 @@ module _ (kept : ℕ) (t : Tree) (ls ms ss : List (ℕ × ProcessState)) (all : 
               answer_to (come_of wl l d) ≡ answer_to (come_of wm m f) → answer_to (come_of wm m f) ≡ answer_to (come_of ws s g) →
               HasShared kept (left_by wl n l (come_of wl l d)) (left_by wm n m (come_of wm m f)) (left_by ws n s (come_of ws s g))
           by (Ok c) (Ok d) (Ok e) i j k p q = left_alike n (change_effect wl l c) (change_effect wm m d) (change_effect ws s e) p q
-              (λ okay. effect_three (change_three kept table t l m s w later c d e kind i j k))
+              (effect_three (change_three kept table t l m s w later c d e kind i j k) p q)
           by (Ok c) (Ok d) (Err r) i j k p q = left_alike n (change_effect wl l c) (change_effect wm m d) (refusal_effect r) p q
               (λ okay. not_okay r (ap is_okay (sym (p ∙ q)) ∙ okay))
           by (Ok c) (Err r) g i j k p q = left_alike n (change_effect wl l c) (refusal_effect r) (come_of ws s g) p q
@@ -249,6 +355,44 @@ module _ (kept : ℕ) (t : Tree) (ls ms ss : List (ℕ × ProcessState)) (all : 
 
     -- the middle one answers as the last one does, where the first one, which asks for no less, does
     module _ (table : CallTable) (x y : Action) (one : Rests kept table y) (less : ActionWithin y x) where
+      -- what is taken: the one in the middle sends as the first one or the last one
+      took_alike : (number from theirs : ℕ) → answer_to (change_effect wl l (TakeFile number from theirs))
+          ≡ answer_to (change_effect ws s (TakeFile number from theirs)) →
+          answer_to (change_effect wm m (TakeFile number from theirs)) ≡ answer_to (change_effect ws s (TakeFile number from theirs))
+      took_alike number from theirs e = middle ∙ by (between3 (is_pledged s) theirs (found_three all from) (found_within laters from)) ∙ sym last
+        where
+          sent : List (ℕ × ProcessState) → Result OpenFile Errno
+          sent ps = sent_by (is_pledged s) (lookup (nat_eq from) ps) theirs
+
+          first : answer_to (change_effect wl l (TakeFile number from theirs)) ≡ told_of (sent ls)
+          first = told_is wl l number (sent_by (is_pledged l) (lookup (nat_eq from) ls) theirs)
+              ∙ ap (λ p. told_of (sent_by p (lookup (nat_eq from) ls) theirs)) (pledged_outer w ∙ pledged_alike later)
+
+          middle : answer_to (change_effect wm m (TakeFile number from theirs)) ≡ told_of (sent ms)
+          middle = told_is wm m number (sent_by (is_pledged m) (lookup (nat_eq from) ms) theirs)
+              ∙ ap (λ p. told_of (sent_by p (lookup (nat_eq from) ms) theirs)) (pledged_alike later)
+
+          last : answer_to (change_effect ws s (TakeFile number from theirs)) ≡ told_of (sent ss)
+          last = told_is ws s number (sent ss)
+
+          by : (sent ms ≡ sent ls) ⊎ (sent ms ≡ sent ss) → told_of (sent ms) ≡ told_of (sent ss)
+          by (inl same) = ap told_of same ∙ sym first ∙ e ∙ last
+          by (inr same) = ap told_of same
+
+      same_effect : (c d : Change) → decide table t l x ≡ Ok c → decide table t s y ≡ Ok d →
+          answer_to (change_effect wl l c) ≡ answer_to (change_effect ws s d) → answer_to (change_effect wm m d) ≡ answer_to (change_effect ws s d)
+      same_effect c (TakeFile number from theirs) p q e = took_alike number from theirs
+          (subst (λ c. answer_to (change_effect wl l c) ≡ answer_to (change_effect ws s (TakeFile number from theirs)))
+          (taken_same table t l less c number from theirs p (takes_ask table t s y number from theirs q)) e)
+      same_effect c NoChange p q e = answered_alike (alike_within t ms ss laters m s later NoChange refl)
+      same_effect c (AddNode spot node) p q e = answered_alike (alike_within t ms ss laters m s later (AddNode spot node) refl)
+      same_effect c (CutRow spot) p q e = answered_alike (alike_within t ms ss laters m s later (CutRow spot) refl)
+      same_effect c (ShiftRow old new) p q e = answered_alike (alike_within t ms ss laters m s later (ShiftRow old new) refl)
+      same_effect c (TieRow spot v) p q e = answered_alike (alike_within t ms ss laters m s later (TieRow spot v) refl)
+      same_effect c (BeginProgram left) p q e = answered_alike (alike_within t ms ss laters m s later (BeginProgram left) refl)
+      same_effect c (AddEvent event) p q e = answered_alike (alike_within t ms ss laters m s later (AddEvent event) refl)
+      same_effect c (CopyAs new) p q e = answered_alike (alike_within t ms ss laters m s later (CopyAs new) refl)
+
       agreed : answer_to (come_of wl l (decide table t l x)) ≡ answer_to (come_of ws s (decide table t s y)) →
           answer_to (come_of wm m (decide table t m y)) ≡ answer_to (come_of ws s (decide table t s y))
       agreed = by (decide table t l x) (decide table t s y) refl refl
@@ -256,9 +400,9 @@ module _ (kept : ℕ) (t : Tree) (ls ms ss : List (ℕ × ProcessState)) (all : 
           by : (d f : Decision) → decide table t l x ≡ d → decide table t s y ≡ f → answer_to (come_of wl l d) ≡ answer_to (come_of ws s f) →
               answer_to (come_of wm m (decide table t m y)) ≡ answer_to (come_of ws s f)
           by (Ok c) (Ok d) p q e = ap (λ z. answer_to (come_of wm m z)) (agrees kept table t l m s w later less one (ap refused p ∙ sym (ap refused q)) ∙ q)
-              ∙ answered_alike (alike_within t ms ss laters m s later d)
-          by (Ok c) (Err r) p q e = absurd (true≢false (sym (change_full wl l r c e) ∙ ap full (sym q) ∙ decide_full table t s y))
-          by (Err r) (Ok d) p q e = absurd (true≢false (sym (change_full ws s r d (sym e)) ∙ ap full (sym p) ∙ decide_full table t l x))
+              ∙ same_effect c d p q e
+          by (Ok c) (Err r) p q e = absurd (told_apart table t wl l s x y c r p q (taken_too less) e)
+          by (Err r) (Ok d) p q e = absurd (told_apart table t ws s l y x d r q p (taken_from less) (sym e))
           by (Err r) (Err v) p q e = ap (λ z. answer_to (come_of wm m z))
               (agrees kept table t l m s w later less one (ap refused p ∙ ap (λ z. Some z) (same_refusal r v e) ∙ sym (ap refused q)) ∙ q)
 

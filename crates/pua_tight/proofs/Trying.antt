@@ -22,6 +22,7 @@ use Rattle.pua_script.specs.declared.answer.Answer.{Answer}
 use Rattle.pua_script.specs.declared.fault.ScriptFault.{ScriptFault}
 use Rattle.pua_script.specs.declared.request.Action.{Action}
 use Rattle.pua_script.specs.declared.request.Action.TheVariants.{OnPath, Symlink, Rename, Link, Pledge, Unveil, Lock, Fork, Exit, Uses, Comment}
+use Rattle.pua_script.specs.declared.request.Action.TheVariants.{Hold, Close, Fchdir, Take}
 use Rattle.pua_tight.specs.declared.fault.TightFault.{TightFault}
 use Rattle.pua_tight.specs.declared.arguments.Arguments.{Arguments}
 use Rattle.pua_tight.specs.Tight.{Piece, InPromises, InExecpromises, InVeil, Line, without, asked_in, asks_of, lines_asked, lines_of}
@@ -130,6 +131,18 @@ given_left piece ask = by piece ask.action
     by (InPromises bit) (Uses sets) = refl
     by (InExecpromises bit) (Uses sets) = refl
     by (InVeil bit) (Uses sets) = refl
+    by (InPromises bit) (Hold number call path) = refl
+    by (InExecpromises bit) (Hold number call path) = refl
+    by (InVeil bit) (Hold number call path) = refl
+    by (InPromises bit) (Close number) = refl
+    by (InExecpromises bit) (Close number) = refl
+    by (InVeil bit) (Close number) = refl
+    by (InPromises bit) (Fchdir number) = refl
+    by (InExecpromises bit) (Fchdir number) = refl
+    by (InVeil bit) (Fchdir number) = refl
+    by (InPromises bit) (Take number from theirs) = refl
+    by (InExecpromises bit) (Take number from theirs) = refl
+    by (InVeil bit) (Take number from theirs) = refl
     by (InPromises bit) Comment = refl
     by (InExecpromises bit) Comment = refl
     by (InVeil bit) Comment = refl
@@ -170,6 +183,18 @@ given_back piece ask = by piece ask.action
     by (InPromises bit) (Uses sets) = refl
     by (InExecpromises bit) (Uses sets) = refl
     by (InVeil bit) (Uses sets) = refl
+    by (InPromises bit) (Hold number call path) = refl
+    by (InExecpromises bit) (Hold number call path) = refl
+    by (InVeil bit) (Hold number call path) = refl
+    by (InPromises bit) (Close number) = refl
+    by (InExecpromises bit) (Close number) = refl
+    by (InVeil bit) (Close number) = refl
+    by (InPromises bit) (Fchdir number) = refl
+    by (InExecpromises bit) (Fchdir number) = refl
+    by (InVeil bit) (Fchdir number) = refl
+    by (InPromises bit) (Take number from theirs) = refl
+    by (InExecpromises bit) (Take number from theirs) = refl
+    by (InVeil bit) (Take number from theirs) = refl
     by (InPromises bit) Comment = refl
     by (InExecpromises bit) Comment = refl
     by (InVeil bit) Comment = refl
@@ -189,6 +214,10 @@ given_kept ask = by ask.action
     by (Fork new) = refl
     by Exit = refl
     by (Uses sets) = refl
+    by (Hold number call path) = refl
+    by (Close number) = refl
+    by (Fchdir number) = refl
+    by (Take number from theirs) = refl
     by Comment = refl
 
 -- a piece that a line doesn't have

@@ -47,6 +47,16 @@ pub record TightRows : Type 0 where
       ≡ Some (text_of_lines (codes "1 fork 2" ∷ codes "1 unveil /etc r" ∷ codes "2 open-w /etc/passwd" ∷ codes "1 stat /etc" ∷ []))
   pub chmod : written_by Openbsd (text_of_lines (codes "1 pledge rpath,wpath,fattr -" ∷ codes "1 chmod /etc/passwd" ∷ []))
       ≡ Some (text_of_lines (codes "1 pledge rpath,fattr -" ∷ codes "1 chmod /etc/passwd" ∷ []))
+  -- an open that is kept needs what the open needs, and a descriptor asks for nothing more
+  pub held : written_by Openbsd (text_of_lines (codes "1 unveil /etc rw" ∷ codes "1 pledge rpath,wpath -" ∷ codes "1 hold 3 open-r /etc/passwd"
+      ∷ codes "1 pledge rpath -" ∷ codes "1 close 3" ∷ []))
+      ≡ Some (text_of_lines (codes "1 unveil /etc r" ∷ codes "1 pledge rpath -" ∷ codes "1 hold 3 open-r /etc/passwd" ∷ codes "1 pledge = -"
+      ∷ codes "1 close 3" ∷ []))
+  -- for what is taken the one has to receive, and the other to send
+  pub taken : written_by Openbsd (text_of_lines (codes "1 hold 3 open-r /etc/passwd" ∷ codes "1 fork 2" ∷ codes "1 pledge recvfd,sendfd -"
+      ∷ codes "2 pledge recvfd,sendfd -" ∷ codes "2 take 4 1 3" ∷ []))
+      ≡ Some (text_of_lines (codes "1 hold 3 open-r /etc/passwd" ∷ codes "1 fork 2" ∷ codes "1 pledge sendfd -" ∷ codes "2 pledge recvfd -"
+      ∷ codes "2 take 4 1 3" ∷ []))
 
 pub tight_rows : TightRows
 tight_rows = record {
@@ -59,6 +69,8 @@ tight_rows = record {
   moved = refl;
   of_another = refl;
   chmod = refl;
+  held = refl;
+  taken = refl;
 }
 
 -- a directory with a file that `dns` opens, and another one

@@ -21,7 +21,7 @@ use Rattle.pua_script.specs.Openings.{Opening, openings, opens_call}
 use Rattle.pua_script.specs.Replay.{World, new_world, apply, answers_to, world_after}
 use Rattle.pua_script.specs.declared.answer.Answer.TheVariants.{Okay}
 use Rattle.pua_script.specs.declared.request.Action.{Action}
-use Rattle.pua_script.specs.declared.request.Action.TheVariants.{OnPath, Symlink, Rename, Link, Uses}
+use Rattle.pua_script.specs.declared.request.Action.TheVariants.{OnPath, Symlink, Rename, Link, Uses, Hold}
 use Rattle.pua_tight.specs.Narrower.{WorldWithin, StateWithin, AskWithin, AsksWithin}
 use Rattle.pua_script.specs.Scripts.{script_by}
 use Rattle.pua_tight.specs.Texts.{thinned_text, tight_text}
@@ -146,6 +146,7 @@ RestsOnOne table (Symlink target path) = HasOneSet (rule_of table call.Symlink)
 RestsOnOne table (Rename old new) = HasOneSet table.rename.old.needs × HasOneSet table.rename.new.needs
 RestsOnOne table (Link old new) = HasOneSet table.link.old.needs × HasOneSet table.link.new.needs
 RestsOnOne table (Uses sets) = length sets ≤ 1
+RestsOnOne table (Hold number call path) = HasOneSet (rule_of table call)
 RestsOnOne table action = Unit {0}
 
 -- so does each request of a script
@@ -169,6 +170,7 @@ promise_in (Some o) = named_in (promises_of o.promise)
 -- the promise that opens what is asked for by itself
 abbrev pub opener_of : CallTable → Action → ℕ
 opener_of table (OnPath call path) = promise_in (row_of table call path)
+opener_of table (Hold number call path) = promise_in (row_of table call path)
 opener_of table action = no_promises
 
 -- those that open what some request of a script asks for
@@ -197,9 +199,14 @@ abbrev pub HasOneWay : CallTable → List Asked → Type 0
 HasOneWay table asks = RestOnOne table asks × (bit_and (asked_in table asks) (openers table asks) ≡ 0)
 
 -- by OpenBSD's rules an owner is changed by either of two promises, and a call without a path may ask for one of several
+abbrev pub is_by_either : Call → Bool
+is_by_either call.Chown = true
+is_by_either call.Fchown = true
+is_by_either _ = false
+
 abbrev pub has_choice : Action → Bool
-has_choice (OnPath call.Chown path) = true
-has_choice (OnPath call.Fchown path) = true
+has_choice (OnPath call path) = is_by_either call
+has_choice (Hold number call path) = is_by_either call
 has_choice (Uses sets) = nat_lt 1 (length sets)
 has_choice action = false
 

@@ -30,6 +30,7 @@ pub record StateWithin (tight given : ProcessState) : Type 0 where
   pub locked : tight.locked ≡ given.locked
   pub dir : tight.dir ≡ given.dir
   pub ended : tight.ended ≡ given.ended
+  pub files : tight.files ≡ given.files
 
 -- processes of the same numbers in one order, each within the other
 pub data ProcessesWithin : List (ℕ × ProcessState) → List (ℕ × ProcessState) → Type 0 where

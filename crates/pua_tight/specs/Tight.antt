@@ -4,8 +4,8 @@ use Rattle.std.specs.Prelude.{ℕ, ◌==◌, Bool, true, false, ◌&&◌, if◌t
 use Rattle.std.specs.Prelude.{Some, option_map}
 use Rattle.pua_path.specs.declared.errno.Errno.{Errno}
 use Rattle.pua_path.specs.declared.errno.Errno.TheVariants.{EPERM, ENOENT, E2BIG, EACCES, EAGAIN, EBUSY, EEXIST, ENOTDIR, EISDIR, EINVAL}
-use Rattle.pua_path.specs.declared.errno.Errno.TheVariants.{ENOSPC, ELOOP, ENAMETOOLONG, ENOTEMPTY, ENOSYS, ENOTSOCK, EADDRINUSE}
-use Rattle.pua_calls.specs.Promises.{lacking, holds, keyword_rows, error, proc, unveil}
+use Rattle.pua_path.specs.declared.errno.Errno.TheVariants.{ENOSPC, ELOOP, ENAMETOOLONG, ENOTEMPTY, ENOSYS, ENOTSOCK, EADDRINUSE, EBADF}
+use Rattle.pua_calls.specs.Promises.{lacking, holds, keyword_rows, error, proc, recvfd, sendfd, unveil}
 use Rattle.pua_calls.specs.Calls.{CallTable, rule_of, calls}
 use Rattle.pua_script.specs.Requests.{Asked}
 use Rattle.pua_script.specs.Family.{is_okay}
@@ -15,7 +15,7 @@ use Rattle.pua_script.specs.declared.answer.Answer.TheVariants.{Okay, Failed, Ki
 use Rattle.pua_script.specs.declared.request.Given.{Given}
 use Rattle.pua_script.specs.declared.request.Given.TheVariants.{Good}
 use Rattle.pua_script.specs.declared.request.Action.{Action}
-use Rattle.pua_script.specs.declared.request.Action.TheVariants.{Pledge, Unveil, Uses}
+use Rattle.pua_script.specs.declared.request.Action.TheVariants.{Pledge, Unveil, Uses, Take}
 pub use Rattle.pua_tight.specs.declared.piece.Piece.{Piece}
 pub use Rattle.pua_tight.specs.declared.piece.Piece.TheVariants.{InPromises, InExecpromises, InVeil}
 
@@ -60,11 +60,12 @@ errno_number ENOTEMPTY = 13
 errno_number ENOSYS = 14
 errno_number ENOTSOCK = 15
 errno_number EADDRINUSE = 16
+errno_number EBADF = 17
 
 abbrev pub answer_number : Answer → ℕ
-answer_number Okay = 17
-answer_number Killed = 18
-answer_number Gone = 19
+answer_number Okay = 18
+answer_number Killed = 19
+answer_number Gone = 20
 answer_number (Failed errno) = errno_number errno
 
 abbrev pub same_answers : List Answer → List Answer → Bool
@@ -104,9 +105,10 @@ abbrev pub all_asked : CallTable → ℕ
 all_asked table = union (proc ∷ unveil ∷ table.rename.old.needs.alternatives ++ table.rename.new.needs.alternatives
     ++ table.link.old.needs.alternatives ++ table.link.new.needs.alternatives ++ flat_map (λ call. (rule_of table call).alternatives) calls)
 
--- the sets of which a call without a path asks for one
+-- the sets of which a call without a path asks for one; what is taken, the other process has to send
 abbrev pub used_by : Action → List ℕ
 used_by (Uses sets) = sets
+used_by (Take number from theirs) = recvfd ∷ sendfd ∷ []
 used_by action = []
 
 abbrev pub all_used : List Asked → ℕ

@@ -22,18 +22,20 @@ fn all_used(requests: &[Request]) -> Promises
 {
     let mut used = Promises::NONE;
     for request in requests {
-        used = with_sets(used_by(request.action()), used);
+        used = with_used(request.action(), used);
     }
     used
 }
 
-/// The sets of which a call without a path asks for one.
-fn used_by(action: &Action) -> &[Promises]
-    ensures { result.now ≡ used_by action.now }
+/// The promises for which a request without a path asks, and others: a take asks for recvfd, and
+/// for sendfd of who sent.
+fn with_used(action: &Action, others: Promises) -> Promises
+    ensures { result ≡ bit_or (union (used_by action.now)) others }
 {
     match action {
-        Action::Uses(any) => any.sets(),
-        _ => &[],
+        Action::Uses(any) => with_sets(any.sets(), others),
+        Action::Take { .. } => with_sets(&[Promises::RECVFD, Promises::SENDFD], others),
+        _ => others,
     }
 }
 

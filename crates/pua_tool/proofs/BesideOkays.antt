@@ -37,8 +37,8 @@ use Rattle.pua_jointly.specs.Jointly.{GroupsEdit, groups_then, joint_line, joint
 use Rattle.pua_texts.specs.BesideLines.{Beside, beside_heading, beside_list, beside_living, beside_own}
 use Rattle.pua_texts.specs.EverLines.{ever_lines, heading_ever}
 use Rattle.pua_texts.specs.Openings.{opening_line, opening_text}
-use Rattle.pua_texts.specs.States.{HasOpening, OpeningsArePrinted, exec_line, held_lines, living_veils, opening_set, openings_told, unveiled_line}
-use Rattle.pua_texts.specs.States.{veil_lines}
+use Rattle.pua_texts.specs.States.{HasOpening, OpeningsArePrinted, exec_line, held_lines, kept_lines, opening_set, openings_told, receives_told}
+use Rattle.pua_texts.specs.States.{unveiled_line}
 use Rattle.pua_tool.specs.BesideWritten.{AreOkaysBeside, IsForeseenBeside, NoneStarts, alone}
 use Rattle.pua_tool.specs.Listed.{HasLine}
 use Rattle.pua_tool.proofs.EverTextForesees.{within_one}
@@ -128,20 +128,21 @@ module _ (rules : Rules) (t : Tree) (b : Beside) (lives : is_ended b.process ≡
   told_own o has =
       let alive = with_end (codes "process alive") in
       let held = held_lines rules b.process in
-      let execs = exec_line b.execs in (
-        alive ++ held ++ execs ++ has.0,
+      let execs = exec_line b.execs in
+      let receives = receives_told rules (heading_ever rules b.own 0).time b.process in (
+        alive ++ held ++ execs ++ receives ++ has.0,
         has.1 ++ unveiled_line b.process,
         ap (λ (ended : Bool). if ended then with_end (codes "process ended") else beside_living rules b) lives
-            ∙ ap (λ told. alive ++ held ++ (execs ++ told ++ unveiled_line b.process)) has.2
-            ∙ parts alive held execs has.0 (opening_line o) has.1 (unveiled_line b.process),
+            ∙ ap (λ told. alive ++ held ++ (execs ++ receives ++ told ++ unveiled_line b.process)) has.2
+            ∙ parts alive held execs receives has.0 (opening_line o) has.1 (unveiled_line b.process),
       )
     where
-      parts : (a p e b line c u : List ℕ) → a ++ p ++ (e ++ (b ++ line ++ c) ++ u) ≡ (a ++ p ++ e ++ b) ++ line ++ (c ++ u)
-      parts a p e b line c u = search (append_assoc)
+      parts : (a p e f b line c u : List ℕ) → a ++ p ++ (e ++ f ++ (b ++ line ++ c) ++ u) ≡ (a ++ p ++ e ++ f ++ b) ++ line ++ (c ++ u)
+      parts a p e f b line c u = search (append_assoc)
 
   pub in_list : (o : Opening) → HasOpening (openings_told rules (heading_ever rules b.own 0).time b.process) o → HasLine list (codes "opening " ++ opening_text o)
   in_list o has =
-      in_text (beside_heading b) (beside_own rules b) (veil_lines t (living_veils b.process)) o [] (ever_lines t lines) list is (told_own o has)
+      in_text (beside_heading b) (beside_own rules b) (kept_lines t b.process) o [] (ever_lines t lines) list is (told_own o has)
 
 -- ---- what is answered ok
 

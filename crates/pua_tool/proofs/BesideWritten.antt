@@ -24,7 +24,7 @@ use Rattle.pua_jointly.specs.Jointly.{ByMember, GroupsEdit, IsJointlyListed, gro
 use Rattle.pua_jointly.specs.JointLasting.{JointlyTold, Numbered, StartsAsTold, acting_in, families}
 use Rattle.pua_jointly.specs.JointPrograms.{Acting, AreSaid, IsSaidOf, TellsOfOne, agents_by, crew_by, worse, worst}
 use Rattle.pua_texts.specs.BesideLines.{Beside, beside_heading, beside_own}
-use Rattle.pua_texts.specs.States.{OpeningsArePrinted, living_veils, veil_lines}
+use Rattle.pua_texts.specs.States.{OpeningsArePrinted, kept_lines}
 use Rattle.pua_texts.specs.TogetherLines.{living}
 use Rattle.pua_words.specs.declared.command.Processes.{Processes}
 use Rattle.pua_tool.specs.BesideTexts.{AreBesideLists, IsBehind, IsBesideAfter, IsBesideBy, IsBesideOf, IsBesideText, IsBesideUnless, IsBesideWhole}
@@ -210,7 +210,7 @@ module _ (law : Laws) (choice : Chosen) (tree_bytes script_bytes : List ℕ) (ta
       b = beside m others is.own (worst acting)
 
       abbrev head : List ℕ
-      head = (beside_heading b ++ beside_own choice.rules b) ++ veil_lines w.tree (living_veils m.1)
+      head = (beside_heading b ++ beside_own choice.rules b) ++ kept_lines w.tree m.1
 
       stands : (line : EverLine) → Contains lines line → HasLine list (ever_line_text w.tree line)
       stands line listed =

@@ -50,7 +50,7 @@ use Rattle.pua_ever.specs.declared.lasting_list.ExecBound.TheVariants.{Bounded}
 use Rattle.pua_ever.proofs.ForCallers.{bound_parts, first_of, second_of}
 use Rattle.pua_texts.specs.EverLines.{ever_lines}
 use Rattle.pua_texts.specs.Openings.{opening_text}
-use Rattle.pua_texts.specs.States.{HasOpening, OpeningsArePrinted, heading_line, living_veils, opening_set, own_lines, veil_lines}
+use Rattle.pua_texts.specs.States.{HasOpening, OpeningsArePrinted, heading_line, kept_lines, opening_set, own_lines}
 use Rattle.pua_tool.specs.Forever.{AreOkaysForeseen}
 use Rattle.pua_tool.specs.Listed.{HasLine}
 
@@ -154,7 +154,7 @@ module _ (choice : Chosen) (tree_bytes script_bytes : List ℕ) (table : CallTab
           let head = heading_ever choice.rules (execs_of w.tree tmp h) process in (
             line.0,
             line.1,
-            in_text (heading_line head) (own_lines head h) (veil_lines w.tree (living_veils h)) line.0 front more text is_text line.2,
+            in_text (heading_line head) (own_lines head h) (kept_lines w.tree h) line.0 front more text is_text line.2,
           )
 
       module _ (asks : List Asked) (bytes : IsTrue (are_in_bytes asks)) (edit : MembersEdit table w asks (process ∷ []))

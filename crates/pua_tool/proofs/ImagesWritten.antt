@@ -12,7 +12,7 @@ use Rattle.pua_calls.specs.declared.rules.Rules.{Rules}
 use Rattle.pua_script.specs.Family.{is_exec, is_member, is_okay}
 use Rattle.pua_script.specs.Replay.{answer_and_world, apply}
 use Rattle.pua_texts.specs.ObjectLines.{heading_before, heading_now, image_list_of, lists_of, object_lines, process_list}
-use Rattle.pua_texts.specs.States.{heading_line, living_veils, own_lines, veil_lines}
+use Rattle.pua_texts.specs.States.{heading_line, kept_lines, own_lines}
 use Rattle.pua_objects.specs.Objects.{objects}
 use Rattle.pua_words.specs.declared.command.Processes.{Processes}
 use Rattle.pua_words.specs.declared.command.Processes.TheVariants.{One}
@@ -80,14 +80,14 @@ module _ (choice : Chosen) (tree_bytes script_bytes front : List ℕ) (table : C
 
   -- what stands behind a heading
   abbrev rest : ProcessState → List ℕ
-  rest h = (own_lines (heading_now choice.rules ask.process) h ++ veil_lines w.tree (living_veils h)) ++ object_lines w.tree (objects w.tree table h)
+  rest h = (own_lines (heading_now choice.rules ask.process) h ++ kept_lines w.tree h) ++ object_lines w.tree (objects w.tree table h)
 
   image_is : (h : ProcessState) → kept_at w ask.process ≡ Some h →
       image_list_of line choice.rules table w ask.process ≡ heading_line (heading_before line choice.rules ask.process) ++ rest h
   image_is h is =
       ap (λ made. option_map_or (process_list (heading_before line choice.rules ask.process) table w.tree) made []) is
       ∙ headed (heading_line (heading_before line choice.rules ask.process)) (own_lines (heading_now choice.rules ask.process) h)
-      (veil_lines w.tree (living_veils h)) (object_lines w.tree (objects w.tree table h))
+      (kept_lines w.tree h) (object_lines w.tree (objects w.tree table h))
 
   first_asks : script_by choice.rules front ≡ Ok before
   first_asks =
@@ -113,7 +113,7 @@ module _ (choice : Chosen) (tree_bytes script_bytes front : List ℕ) (table : C
       ∙ ap (λ list. Ok (answer_lines 1 done.answers ++ list))
       (append-nil (process_list (heading_now choice.rules ask.process) table w.tree h)
       ∙ headed (heading_line (heading_now choice.rules ask.process)) (own_lines (heading_now choice.rules ask.process) h)
-      (veil_lines w.tree (living_veils h)) (object_lines w.tree (objects w.tree table h)))
+      (kept_lines w.tree h) (object_lines w.tree (objects w.tree table h)))
 
   whole : images_text choice tree_bytes script_bytes whose ≡ Ok (images_after choice.rules served numbers)
   unfolding images_text

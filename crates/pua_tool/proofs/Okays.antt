@@ -21,7 +21,7 @@ use Rattle.pua_script.specs.Openings.{Opening, holds_named, is_opening, opening_
 use Rattle.pua_objects.specs.Laws.{IsListed}
 use Rattle.pua_texts.specs.ObjectLines.{heading_now}
 use Rattle.pua_texts.specs.Openings.{opening_line, opening_text}
-use Rattle.pua_texts.specs.States.{HasOpening, OpeningsArePrinted, head_lines, heading_line, living_veils, own_lines, veil_lines}
+use Rattle.pua_texts.specs.States.{HasOpening, OpeningsArePrinted, head_lines, heading_line, kept_lines, own_lines}
 use Rattle.pua_tool.specs.Listed.{AreOkaysListed, HasLine, IsListComplete}
 
 -- an allowed call, by the test
@@ -106,4 +106,4 @@ module _ (accounted : OkaysAreAccounted) (printed : OpeningsArePrinted) where
       by (by_opening o opened) =
           let head = heading_now rules process in
           let line = printed.now head table h call path o whose refl opened in
-          inr (o, line.0, in_text (heading_line head) (own_lines head h) (veil_lines w.tree (living_veils h)) o front more text is line.1)
+          inr (o, line.0, in_text (heading_line head) (own_lines head h) (kept_lines w.tree h) o front more text is line.1)

@@ -197,7 +197,7 @@ module _ (together : TogetherAfterRead) (choice : Chosen) (tree_bytes script_byt
     here = are_made w (numbers_in w which) members made
 
     abbrev head : List ℕ
-    head = together_heading members ++ flat_map (member_lines choice.rules) members
+    head = together_heading members ++ flat_map (member_lines choice.rules w.tree) members
 
     abbrev state : ProcessState → List ℕ
     state one = bound_lines choice.rules (heading_ever choice.rules (execs_of w.tree tmp one) 0).time one ++ veil_lines w.tree (veils one)

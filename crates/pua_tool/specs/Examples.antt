@@ -104,6 +104,16 @@ resolver_listing = text_of_lines (codes "tree 1" ∷ codes "0 dir" ∷ codes "1 
 abbrev pub resolving : List ℕ
 resolving = text_of_lines (codes "1 pledge dns -" ∷ codes "1 open-r /etc/resolv.conf" ∷ codes "1 open-r /etc" ∷ [])
 
+abbrev pub two_files : List ℕ
+two_files = text_of_lines (codes "tree 1" ∷ codes "0 dir" ∷ codes "1 dir 0 d" ∷ codes "2 file 1 a" ∷ codes "3 file 0 b" ∷ [])
+
+abbrev pub holding : List ℕ
+holding = text_of_lines (codes "1 hold 5 open-rw /d/a" ∷ codes "1 hold 4 open-r /b" ∷ codes "1 hold 3 open-r /d" ∷ codes "1 unlink /d/a"
+    ∷ codes "1 link /b /d/c" ∷ codes "1 unveil / =" ∷ codes "1 pledge stdio,fattr -" ∷ [])
+
+abbrev pub receiving : List ℕ
+receiving = text_of_lines (codes "1 pledge recvfd -" ∷ [])
+
 abbrev pub by_openbsd : Chosen
 by_openbsd = record by_standard { rules = Openbsd }
 
@@ -195,13 +205,24 @@ pub record TextRows : Type 0 where
       ∷ codes "promises -" ∷ codes "execpromises -" ∷ codes "unveil locked" ∷ codes "veil / =" ∷ []))
   pub ever_opened : ever_text by_openbsd root_listing locking 1
       ≡ Ok (text_of_lines (codes "1 ok" ∷ codes "2 ok" ∷ codes "ever 1" ∷ codes "process alive" ∷ codes "rules openbsd"
-      ∷ codes "promises -" ∷ codes "execpromises -" ∷ codes "unveil locked"
+      ∷ codes "promises -" ∷ codes "execpromises -" ∷ codes "unveil locked" ∷ codes "receive open"
       ∷ codes "opening /etc/resolv.conf stat,open-r" ∷ codes "opening /etc/hosts open-r" ∷ codes "opening /etc/services open-r"
       ∷ codes "opening /etc/protocols open-r" ∷ codes "opening /etc/pwd.db open-r" ∷ codes "opening /etc/group open-r"
       ∷ codes "opening /etc/netid open-r" ∷ codes "opening /var/run/ypbind.lock stat,open-r" ∷ codes "opening /var/yp/binding/ open-r"
       ∷ codes "opening /dev/null open-r,open-w,open-rw" ∷ codes "opening /etc/localtime stat,open-r"
       ∷ codes "opening /usr/share/zoneinfo/ open-r" ∷ codes "opening /tmp/ create,unlink,create-rw veils"
       ∷ codes "opening /dev/tty open-r,open-w,open-rw veils" ∷ codes "veil / =" ∷ []))
+  -- what is open: a directory, a file with two names, and one that has none any more
+  pub held : objects_text by_openbsd two_files holding (One 1)
+      ≡ Ok (text_of_lines (codes "1 ok" ∷ codes "2 ok" ∷ codes "3 ok" ∷ codes "4 ok" ∷ codes "5 ok" ∷ codes "6 ok" ∷ codes "7 ok"
+      ∷ codes "objects 1" ∷ codes "process alive" ∷ codes "rules openbsd" ∷ codes "promises fattr,stdio" ∷ codes "execpromises -"
+      ∷ codes "unveil given-up" ∷ codes "opening /dev/null open-r,open-w,open-rw" ∷ codes "opening /etc/localtime stat,open-r"
+      ∷ codes "opening /usr/share/zoneinfo/ open-r" ∷ codes "veil / =" ∷ codes "held 3 dir /d read,chdir,chmod,chown"
+      ∷ codes "held 4 file /b read,chmod,chown" ∷ codes "held 4 file /d/c read,chmod,chown" ∷ codes "held 5 file - read,write,chmod,chown"
+      ∷ []))
+  pub ever_receives : ever_text by_openbsd root_listing receiving 1
+      ≡ Ok (text_of_lines (codes "1 ok" ∷ codes "ever 1" ∷ codes "process alive" ∷ codes "rules openbsd" ∷ codes "promises recvfd"
+      ∷ codes "execpromises -" ∷ codes "unveil given-up" ∷ codes "receive open" ∷ codes "no veils" ∷ []))
   -- for ever tmppath has the calls that it opens wherever the veils let them through
   pub ever_by_tmppath : ever_text by_openbsd tmp_listing making_by_tmppath 1
       ≡ Ok (text_of_lines (codes "1 ok" ∷ codes "2 ok" ∷ codes "ever 1" ∷ codes "process alive" ∷ codes "rules openbsd"
@@ -246,6 +267,8 @@ text_rows = record {
   opened_by_veils = refl;
   unopened = refl;
   ever_opened = refl;
+  held = refl;
+  ever_receives = refl;
   ever_by_tmppath = refl;
   never_listed = refl;
   bad_listing = refl;

@@ -174,7 +174,7 @@ fn list_with<'t, T: FileTree>(
         own: found.own,
         execs: found.execs,
     };
-    begin_beside(alloc, rules, &helped, found.rows.as_slice())
+    begin_beside(alloc, tree, rules, &helped, found.rows.as_slice())
 }
 
 /// The others than the process with this number. The only error is that a growth was refused.

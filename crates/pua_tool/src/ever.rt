@@ -61,6 +61,6 @@ fn list_to<S: Sink>(
         Err(fault) => return Err(NoText(fault_of(number, fault))),
     };
     let front = answer_text(alloc, replay.answers.as_slice())?;
-    let lists = begin_ever(alloc, rules, number, process, &list)?;
+    let lists = begin_ever(alloc, tree, rules, number, process, &list)?;
     put_lists(alloc, tree, front.as_str(), lists, sink)
 }

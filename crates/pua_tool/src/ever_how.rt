@@ -64,6 +64,6 @@ fn list_to<S: Sink>(alloc: Global, behind: &Behind<'_>, sink: &mut S) -> Result<
     };
     let columns = columns_of(alloc, behind, process, list.rows.as_slice())?;
     let front = answer_text(alloc, behind.replay.answers.as_slice())?;
-    let lists = begin_ever_with(alloc, behind.rules, number, process, &list, columns)?;
+    let lists = begin_ever_with(alloc, tree, behind.rules, number, process, &list, columns)?;
     put_lists(alloc, tree, front.as_str(), lists, sink)
 }

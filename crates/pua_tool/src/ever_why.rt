@@ -81,7 +81,7 @@ fn list_to<S: Sink>(
     };
     let dates = dates.as_slice();
     let columns = columns_by(alloc, tree, process, both.as_ref(), &wide, &list, dates)?;
-    let lists = begin_ever_with(alloc, rules, number, process, &list, columns)?;
+    let lists = begin_ever_with(alloc, tree, rules, number, process, &list, columns)?;
     put_lists(alloc, tree, front.as_str(), lists, sink)
 }
 

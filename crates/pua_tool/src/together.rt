@@ -94,8 +94,9 @@ fn list_to<S: Sink>(
             )
         }
         None => {
-            let lists = begin_together(alloc, rules, members, None)?;
-            put_lists(alloc, replay.world.tree(), front, lists, sink)
+            let tree = replay.world.tree();
+            let lists = begin_together(alloc, tree, rules, members, None)?;
+            put_lists(alloc, tree, front, lists, sink)
         }
     }
 }
@@ -131,7 +132,7 @@ fn joint_to<S: Sink>(
         one: &one,
         list: &list,
     });
-    let lists = begin_together(alloc, rules, members, joint)?;
+    let lists = begin_together(alloc, tree, rules, members, joint)?;
     put_lists(alloc, tree, front, lists, sink)
 }
 

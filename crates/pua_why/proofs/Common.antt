@@ -22,12 +22,14 @@ pub use Rattle.pua_policy.specs.Verdict.{object_of, or_fault}
 pub use Rattle.pua_policy.specs.declared.place.Place.{Place}
 pub use Rattle.pua_policy.specs.declared.reason.Covering.TheVariants.{By, InView}
 pub use Rattle.pua_script.specs.Decide.{AddEvent, adding, AddNode, BeginProgram, Change, change_by, CopyAs, CutRow, fault_if, link_node}
+pub use Rattle.pua_script.specs.Decide.{TakeFile}
 pub use Rattle.pua_script.specs.Decide.{New, NoChange, Old, on_named, Outcome, pair_by, shifting, ShiftRow, Side, Sole, TieRow}
 pub use Rattle.pua_script.specs.Decide.{unless_failed, unless_refused}
 pub use Rattle.pua_script.specs.Limits.{most_processes}
 pub use Rattle.pua_script.specs.Replay.{change_effect, come_of, edit_effect, edited_tree, kept_at, World}
 pub use Rattle.pua_script.specs.declared.answer.Answer.{Answer}
-pub use Rattle.pua_script.specs.declared.request.Action.TheVariants.{Exit, Fork, Link, Lock, OnPath, Pledge, Rename, Symlink, Unveil, Uses, Comment}
+pub use Rattle.pua_script.specs.declared.request.Action.TheVariants.{Close, Exit, Fchdir, Fork, Hold, Link, Lock, OnPath, Pledge, Rename}
+pub use Rattle.pua_script.specs.declared.request.Action.TheVariants.{Symlink, Take, Unveil, Uses, Comment}
 pub use Rattle.pua_tree.specs.Edits.{add, cut, shift, tie}
 pub use Rattle.pua_tree.specs.LentRows.{lent_entry}
 pub use Rattle.pua_tree.specs.Tree.{climb, Spot, Tree}

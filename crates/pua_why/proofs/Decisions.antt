@@ -4,25 +4,31 @@ use Rattle.pua_why.proofs.Common.{if◌then◌else◌, ◌||◌, not, is_some, n
 use Rattle.pua_why.proofs.Common.{spot_named, node_named, Ending, Followed, Found, Whole, Slot, text_fault, trace_of_text, PathTextFault}
 use Rattle.pua_why.proofs.Common.{PathFault, holds, unveil, CallTable, PairRule, rule_of, ProcessState, is_ended, is_locked, perms_kept}
 use Rattle.pua_why.proofs.Common.{working_dir, object_of, or_fault, Place, Call, most_processes, Change, NoChange, AddNode, CutRow}
-use Rattle.pua_why.proofs.Common.{ShiftRow, TieRow, BeginProgram, AddEvent, CopyAs, Outcome, Side, Sole, Old, New, unless_refused}
+use Rattle.pua_why.proofs.Common.{ShiftRow, TieRow, BeginProgram, AddEvent, CopyAs, TakeFile, Outcome, Side, Sole, Old, New, unless_refused}
 use Rattle.pua_why.proofs.Common.{unless_failed, on_named, adding, link_node, change_by, shifting, fault_if, pair_by, World, kept_at}
 use Rattle.pua_why.proofs.Common.{change_effect, come_of, edit_effect, edited_tree, OnPath, Symlink, Rename, Link, Pledge, Unveil, Lock}
-use Rattle.pua_why.proofs.Common.{Fork, Exit, Uses, Comment, Answer, lacking, misfit, InView, By, Promising, Holds, HasEnded, Lacks, promising, covering}
+use Rattle.pua_why.proofs.Common.{Fork, Exit, Uses, Hold, Close, Fchdir, Take, Comment, Answer, lacking, misfit, InView, By, Promising}
+use Rattle.pua_why.proofs.Common.{Holds, HasEnded, Lacks, promising, covering}
 use Rattle.pua_why.proofs.Common.{Fault, LacksLetters, Unfit, IsLocked, NumberTaken, NoProcessLeft, unpromised_fault, told_path}
 use Rattle.pua_why.proofs.Common.{uncovered_fault, place_beyond, faults, faults_of, change_or_fault, no_room, room_fault, outcome_fault}
 use Rattle.pua_why.proofs.Common.{decision_of}
-use Rattle.std.specs.Prelude.{◌&&◌}
+use Rattle.std.specs.Prelude.{◌&&◌, ok_or}
 use Rattle.pua_tree.specs.Tree.{is_empty}
 use Rattle.pua_tree.specs.Edits.{is_inside, is_same_node}
 use Rattle.pua_path.specs.Paths.{path_fault}
 use Rattle.pua_path.specs.Resolution.{resolution_of_text}
 use Rattle.pua_path.specs.declared.errno.Errno.{Errno}
-use Rattle.pua_path.specs.declared.errno.Errno.TheVariants.{EPERM, EACCES, EAGAIN, EINVAL}
+use Rattle.pua_path.specs.declared.errno.Errno.TheVariants.{EBADF, EPERM, EACCES, EAGAIN, EINVAL}
 use Rattle.pua_path.specs.declared.text.Ending.TheVariants as ending
 use Rattle.pua_path.specs.declared.found.Way.TheVariants as way
 use Rattle.pua_path.specs.Traces.{text_errno, object_or_errno}
 use Rattle.pua_path.proofs.ForCallers.{text_traces_answer}
-use Rattle.pua_calls.specs.Promises.{proc}
+use Rattle.pua_calls.specs.Promises.{proc, recvfd, sendfd}
+use Rattle.pua_policy.specs.declared.open_file.OpenFile.{OpenFile}
+use Rattle.pua_policy.specs.States.{Filed, Moved, file_at, held_set, is_directory, is_pledged}
+use Rattle.pua_script.specs.Decide.{close_by, fchdir_by, holding}
+use Rattle.pua_script.specs.Replay.{sent_by, sent_of, take_effect}
+use Rattle.pua_why.specs.Reasons.{WrongFile, NotOpen, sent_fault}
 use Rattle.pua_calls.specs.Calls.{last_of, ending_of}
 use Rattle.pua_policy.specs.States.{error_frees_exec, pledged_set, held_for_exec, has_error, is_within, veils}
 use Rattle.pua_calls.specs.declared.rules.Rules.{Rules}
@@ -359,6 +365,31 @@ calls_give : (table : CallTable) (t : Tree) (h : ProcessState) (c : Call) (path 
 calls_give table t h c path =
     refused_told _ _ _ _ (promises_told h (rule_of table c).alternatives) (call_told t h table c path (change_by table c))
 
+-- what a descriptor stands for
+close_told : (h : ProcessState) (number : ℕ) → decision_of (close_by faults (faults_of h) number) ≡ close_by refusals (asker_of h) number
+close_told h number = by (file_at h.files number)
+  where
+    by : (o : Option OpenFile) → decision_of (on_named faults.failed (ok_or o (WrongFile (NotOpen number))) (λ file. Ok (AddEvent (Filed number None))))
+        ≡ on_named refusals.failed (ok_or o EBADF) (λ file. Ok (AddEvent (Filed number None)))
+    by None = refl
+    by (Some file) = refl
+
+fchdir_told : (h : ProcessState) (number : ℕ) → decision_of (fchdir_by faults (faults_of h) number) ≡ fchdir_by refusals (asker_of h) number
+fchdir_told h number = by (file_at h.files number)
+  where
+    entered : (file : OpenFile) (b : Bool) →
+        decision_of (unless_failed faults.failed (fault_if (not b) (faults.no_directory number)) (Ok (AddEvent (Moved file.node))))
+        ≡ unless_failed refusals.failed (fault_if (not b) (refusals.no_directory number)) (Ok (AddEvent (Moved file.node)))
+    entered file true = refl
+    entered file false = refl
+
+    by : (o : Option OpenFile) → decision_of (on_named faults.failed (ok_or o (WrongFile (NotOpen number)))
+        (λ file. unless_failed faults.failed (fault_if (not (is_directory file)) (faults.no_directory number)) (Ok (AddEvent (Moved file.node)))))
+        ≡ on_named refusals.failed (ok_or o EBADF)
+        (λ file. unless_failed refusals.failed (fault_if (not (is_directory file)) (refusals.no_directory number)) (Ok (AddEvent (Moved file.node))))
+    by None = refl
+    by (Some file) = entered file (is_directory file)
+
 pub reasons_give_decisions : ReasonsGiveDecisions
 reasons_give_decisions table t h (OnPath c path) = by (opening_of table h c path)
   where
@@ -382,6 +413,15 @@ reasons_give_decisions table t h Lock = refused_told _ _ _ _ (promises_told h (u
 reasons_give_decisions table t h (Fork new) = refused_told _ _ _ _ (promises_told h (proc ∷ [])) refl
 reasons_give_decisions table t h Exit = refl
 reasons_give_decisions table t h (Uses sets) = refused_told _ _ _ _ (promises_told h sets) refl
+reasons_give_decisions table t h (Hold number c path) = by (opening_of table h c path)
+  where
+    by : (o : Option Opening) → decision_of (decide_by faults table t (asker_past o (faults_of h)) (Hold number c path))
+        ≡ decide_by refusals table t (asker_past o (asker_of h)) (Hold number c path)
+    by None = refused_told _ _ _ _ (promises_told h (rule_of table c).alternatives) (call_told t h table c path (holding t number c))
+    by (Some o) = past_told t h table c path (holding t number c) o.asks_veils
+reasons_give_decisions table t h (Close number) = close_told h number
+reasons_give_decisions table t h (Fchdir number) = fchdir_told h number
+reasons_give_decisions table t h (Take number from theirs) = refused_told _ _ _ _ (promises_told h (recvfd ∷ [])) refl
 reasons_give_decisions table t h Comment = refl
 
 -- a decision on a call, as a verdict
@@ -450,6 +490,27 @@ made_told w h (CopyAs new) = by (is_some (kept_at w new)) (nat_le most_processes
     by true v = refl
     by false true = refl
     by false false = refl
+made_told w h (TakeFile number from theirs) = sent_told (kept_at w from)
+  where
+    pledged : Bool
+    pledged = is_pledged h
+
+    Said : Result OpenFile Errno → Type 0
+    Said r = told (sent_fault from theirs r) ≡ answer_to (take_effect w h number r)
+
+    judged : (a b : Bool) (file : OpenFile) → Said (if not a then Err EPERM else (if b then Err EINVAL else Ok file))
+    judged false b file = refl
+    judged true true file = refl
+    judged true false file = refl
+
+    sent_told : (o : Option ProcessState) → Said (sent_by pledged o theirs)
+    sent_told None = refl
+    sent_told (Some sender) = by (is_ended sender) (file_at sender.files theirs)
+      where
+        by : (ended : Bool) (o : Option OpenFile) → Said (if ended then Err EBADF else sent_of pledged sender o)
+        by true o = refl
+        by false None = refl
+        by false (Some file) = judged (holds (held_set sender) sendfd) (is_directory file && (pledged || is_pledged sender)) file
 
 refusal_told : (r : Refusal) → refusal_answer r ≡ answer_to (replay.refusal_effect r)
 refusal_told (refusal.Failed errno) = refl

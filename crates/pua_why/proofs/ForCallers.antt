@@ -2,7 +2,7 @@
 
 -- a reason is what the checks tell, and the answer; and gives the answer
 pub use Rattle.pua_why.proofs.Checking.{checks_tell}
-pub use Rattle.pua_why.proofs.Decisions.{reasons_give_answers}
+pub use Rattle.pua_why.proofs.Decisions.{reasons_give_answers, reasons_give_decisions}
 -- answers that are told with what opened them
 pub use Rattle.pua_why.proofs.ToldAnswers.{answers_are_told}
 -- what a text got where nothing was refused

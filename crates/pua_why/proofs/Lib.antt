@@ -5,6 +5,7 @@ pub mod ReasonsAddToLines
 pub mod Chains
 pub mod Steps
 pub mod Faults
+pub mod Held
 pub mod Truths
 pub mod Unknown
 pub mod Checking

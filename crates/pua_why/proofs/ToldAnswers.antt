@@ -1,6 +1,7 @@
 -- Answers that are told with what opened them.
 use Rattle.pua_why.proofs.Common.{◌≡◌, ℕ, Bool, true, false, List, [], ◌∷◌, map, refl, ap, ◌∙◌, Option, Some, None, if◌then◌else◌, CallTable, World}
-use Rattle.pua_why.proofs.Common.{ProcessState, Tree, Answer, kept_at, OnPath, Symlink, Rename, Link, Pledge, Unveil, Lock, Fork, Exit, Uses, Comment}
+use Rattle.pua_why.proofs.Common.{ProcessState, Tree, Answer, kept_at, OnPath, Symlink, Rename, Link, Pledge, Unveil, Lock, Fork, Exit}
+use Rattle.pua_why.proofs.Common.{Uses, Hold, Close, Fchdir, Take, Comment}
 use Rattle.std.specs.Prelude.{◌&&◌, find, not, option_map, unwrap_or}
 use Rattle.std.proofs.Common.{◌++◌, ◌+◌, ◌<◌, get_or, length, sym, take}
 use Rattle.std.proofs.lemmas.List.{map-append, take_more}
@@ -51,6 +52,12 @@ module _ (table : CallTable) (none : (about_rules table.whose).has_openings ≡ 
   no_opener t (Fork new) p = refl
   no_opener t Exit p = refl
   no_opener t (Uses sets) p = refl
+  no_opener t (Hold number call text) p =
+      ap (λ (b : Bool). opener_by table t p call text (if b && not p.ended
+      then find (is_opening (unwrap_or p.promises no_promises) call text) openings else None)) none
+  no_opener t (Close number) p = refl
+  no_opener t (Fchdir number) p = refl
+  no_opener t (Take number from theirs) p = refl
   no_opener t Comment p = refl
 
   none_at : (t : Tree) (action : Action) (o : Option ProcessState) → opener_at table t action o ≡ None

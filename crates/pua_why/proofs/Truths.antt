@@ -4,18 +4,29 @@ use Rattle.pua_why.proofs.Common.{ap, ◌∙◌, if◌then◌else◌, not, ◌||
 use Rattle.pua_why.proofs.Common.{TreeFault, spot_named, node_named, Ending, Followed, Found, Whole, Slot, text_fault, trace_of_text}
 use Rattle.pua_why.proofs.Common.{PathTextFault, holds, unveil, CallTable, PairRule, rule_of, ProcessState, is_locked, perms_kept, working_dir}
 use Rattle.pua_why.proofs.Common.{or_fault, Place, most_processes, Change, NoChange, AddNode, CutRow, ShiftRow, TieRow, BeginProgram}
-use Rattle.pua_why.proofs.Common.{AddEvent, CopyAs, Outcome, Side, Sole, Old, New, unless_refused, unless_failed, adding, link_node}
+use Rattle.pua_why.proofs.Common.{AddEvent, CopyAs, TakeFile, Outcome, Side, Sole, Old, New, unless_refused, unless_failed, adding}
+use Rattle.pua_why.proofs.Common.{link_node}
 use Rattle.pua_why.proofs.Common.{shifting, pair_by, World, kept_at, change_effect, come_of, edit_effect, edited_tree, OnPath, Symlink}
-use Rattle.pua_why.proofs.Common.{Rename, Link, Pledge, Unveil, Lock, Fork, Exit, Uses, Comment, lacking, By, promising, covering, Fault, LacksLetters}
+use Rattle.pua_why.proofs.Common.{Rename, Link, Pledge, Unveil, Lock, Fork, Exit, Uses, Hold, Close, Fchdir, Take, Comment, lacking, By}
+use Rattle.pua_why.proofs.Common.{promising, covering, Fault, LacksLetters}
 use Rattle.pua_why.proofs.Common.{Unfit, IsLocked, NumberTaken, NoProcessLeft, unpromised_fault, place_beyond, faults, faults_of}
 use Rattle.pua_why.proofs.Common.{change_or_fault, no_room, room_fault, outcome_fault, name_trace, decision_of}
 use Rattle.std.proofs.Common.{inl, inr}
 use Rattle.pua_tree.specs.Tree.{is_empty}
 use Rattle.pua_tree.specs.Edits.{is_inside, is_same_node}
-use Rattle.pua_path.specs.declared.errno.Errno.TheVariants.{ENOSPC}
+use Rattle.pua_path.specs.declared.errno.Errno.TheVariants.{EBADF, EINVAL, ENOSPC, EPERM}
 use Rattle.pua_path.specs.declared.text.Ending.TheVariants as ending
 use Rattle.pua_path.specs.declared.found.Way.TheVariants as way
-use Rattle.pua_calls.specs.Promises.{proc}
+use Rattle.pua_calls.specs.Promises.{proc, recvfd, sendfd}
+use Rattle.pua_policy.specs.declared.open_file.OpenFile.{OpenFile}
+use Rattle.pua_policy.specs.States.{Filed, Moved, file_at, held_set, is_directory, is_ended, is_pledged}
+use Rattle.pua_script.specs.Decide.{close_by, fault_if, fchdir_by, on_named}
+use Rattle.pua_script.specs.Replay.{sent_by, sent_of}
+use Rattle.pua_why.specs.Reasons.{WrongFile, NotOpen, OpenNoDirectory, NotSent, MayNotSend, SendsDirectory, sent_fault, take_fault}
+use Rattle.pua_why.specs.Truths.{DirFaultHolds, FileFaultHolds, SentFaultHolds}
+use Rattle.std.specs.Prelude.{ok_or}
+use Rattle.std.proofs.lemmas.Bool.{true≢false}
+use Rattle.std.proofs.lemmas.Option.{same_Some as same_some}
 use Rattle.pua_policy.specs.States.{error_frees_exec, pledged_set, held_for_exec, has_error, is_within, veils}
 use Rattle.pua_policy.specs.States.{most_places}
 use Rattle.pua_policy.specs.Verdict.{place_of}
@@ -40,6 +51,7 @@ use Rattle.pua_why.proofs.Steps.{same_fault, refused_true, failed_true, named_tr
 use Rattle.pua_script.proofs.ForCallers.{requests_lack}
 use Rattle.pua_why.proofs.Decisions.{reasons_give_decisions}
 use Rattle.pua_why.proofs.Faults.{object_true, call_faults_hold}
+use Rattle.pua_why.proofs.Held.{holds_are_refused, refused_too}
 use Rattle.std.proofs.lemmas.Bool.{false≢true, not-true}
 use Rattle.std.proofs.Common.{◌&&◌}
 
@@ -63,6 +75,7 @@ by_target table t h target path NoPlaceLeft is = is
 by_target table t h target path (NumberTaken n) is = is
 by_target table t h target path NoProcessLeft is = is
 by_target table t h target path NoRoom is = is
+by_target table t h target path (WrongFile bad) is = is
 
 target_true : (table : CallTable) (t : Tree) (h : ProcessState) (target path : List ℕ) (bad : Fault) →
     option_map BadTarget (text_fault target) ≡ Some bad → SymlinkFaultHolds table t h target path bad
@@ -274,6 +287,30 @@ promise_true h sets change fault e =
     refused_true _ _ fault (PromiseFaultHolds h sets)
     (λ bad e. unpromised_true h sets bad (PromiseFaultHolds h sets) (λ ended. ended) (λ error lacks is. is) e) (λ granted. cc) e
 
+-- a descriptor of one's own
+close_true : (h : ProcessState) (number : ℕ) (fault : Fault) → close_by faults (faults_of h) number ≡ Err fault → FileFaultHolds h number fault
+close_true h number fault = by (file_at h.files number) refl
+  where
+    by : (o : Option OpenFile) → file_at h.files number ≡ o →
+        on_named (λ (f : Fault). f) (ok_or o (WrongFile (NotOpen number))) (λ file. Ok (AddEvent (Filed number None))) ≡ Err fault → FileFaultHolds h number fault
+    by None is e = subst (FileFaultHolds h number) (same_fault (WrongFile (NotOpen number)) fault e) (refl, is)
+    by (Some file) is e = cc
+
+fchdir_true : (h : ProcessState) (number : ℕ) (fault : Fault) → fchdir_by faults (faults_of h) number ≡ Err fault → DirFaultHolds h number fault
+fchdir_true h number fault = by (file_at h.files number) refl
+  where
+    directory : (file : OpenFile) → file_at h.files number ≡ Some file → (b : Bool) → is_directory file ≡ b →
+        unless_failed (λ (f : Fault). f) (fault_if (not b) (WrongFile (OpenNoDirectory number))) (Ok (AddEvent (Moved file.node))) ≡ Err fault →
+        DirFaultHolds h number fault
+    directory file is true dir e = cc
+    directory file is false dir e = subst (DirFaultHolds h number) (same_fault (WrongFile (OpenNoDirectory number)) fault e) (refl, file, is, dir)
+
+    by : (o : Option OpenFile) → file_at h.files number ≡ o →
+        on_named (λ (f : Fault). f) (ok_or o (WrongFile (NotOpen number))) (λ file. unless_failed (λ (f : Fault). f)
+        (fault_if (not (is_directory file)) (WrongFile (OpenNoDirectory number))) (Ok (AddEvent (Moved file.node)))) ≡ Err fault → DirFaultHolds h number fault
+    by None is e = subst (DirFaultHolds h number) (same_fault (WrongFile (NotOpen number)) fault e) (refl, is)
+    by (Some file) is e = directory file is (is_directory file) refl e
+
 pub check_faults_hold : CheckFaultsHold
 check_faults_hold table t h (OnPath c path) fault e = call_faults_hold t table h c path fault e
 check_faults_hold table t h (Symlink target path) fault e = symlink_true table t h target path fault e
@@ -289,6 +326,11 @@ check_faults_hold table t h Lock fault e = promise_true h (unveil ∷ []) _ faul
 check_faults_hold table t h (Fork new) fault e = promise_true h (proc ∷ []) _ fault e
 check_faults_hold table t h Exit fault e = cc
 check_faults_hold table t h (Uses sets) fault e = promise_true h sets _ fault e
+check_faults_hold table t h (Hold number c path) fault e =
+    call_faults_hold t table h c path fault (refused_too _ _ fault (sym (holds_are_refused table t h number c path)) e)
+check_faults_hold table t h (Close number) fault e = close_true h number fault e
+check_faults_hold table t h (Fchdir number) fault e = fchdir_true h number fault e
+check_faults_hold table t h (Take number from theirs) fault e = promise_true h (recvfd ∷ []) _ fault e
 check_faults_hold table t h Comment fault e = cc
 
 -- the room of a change
@@ -301,6 +343,47 @@ edited_tree_true : (w : World) (h : ProcessState) (fault : Fault) (r : Result Tr
     (fault ≡ NoRoom) × (edited_tree h r ≡ Fails ENOSPC)
 edited_tree_true w h fault (Ok x) e = cc
 edited_tree_true w h fault (Err bad) e = (cc, refl)
+
+-- what isn't sent
+sent_true : (w : World) (h : ProcessState) (from theirs : ℕ) (fault : Fault) → take_fault w h from theirs ≡ Some fault →
+    SentFaultHolds w h from theirs fault
+sent_true w h from theirs fault = by (kept_at w from) refl
+  where
+    Holds : Fault → Type 0
+    Holds = SentFaultHolds w h from theirs
+
+    pledged : Bool
+    pledged = is_pledged h
+
+    none : (o : Option ProcessState) → kept_at w from ≡ o → ((sender : ProcessState) → o ≡ Some sender → is_ended sender ≡ false →
+        (file : OpenFile) → file_at sender.files theirs ≡ Some file → ⊥) → Holds (WrongFile (NotSent from theirs))
+    none o is never = (refl, refl, λ has. never has.sender (sym is ∙ has.made) has.lives has.file has.held)
+
+    judged : (sender : ProcessState) (file : OpenFile) → kept_at w from ≡ Some sender → is_ended sender ≡ false →
+        file_at sender.files theirs ≡ Some file → (a : Bool) → holds (held_set sender) sendfd ≡ a → (d : Bool) → is_directory file ≡ d →
+        (p : Bool) → (pledged || is_pledged sender) ≡ p →
+        sent_fault from theirs (if not a then Err EPERM else (if d && p then Err EINVAL else Ok file)) ≡ Some fault → Holds fault
+    judged sender file made lives held false lacks d dir p pl e = subst Holds (same_some (WrongFile (MayNotSend from)) fault e)
+        (refl, record { sender = sender; made = made; lives = lives; file = file; held = held; so = lacks })
+    judged sender file made lives held true lacks true dir true pl e = subst Holds (same_some (WrongFile (SendsDirectory from theirs)) fault e)
+        (refl, refl, record { sender = sender; made = made; lives = lives; file = file; held = held; so = (dir, pl) })
+    judged sender file made lives held true lacks true dir false pl e = cc
+    judged sender file made lives held true lacks false dir p pl e = cc
+
+    living : (sender : ProcessState) → kept_at w from ≡ Some sender → (b : Bool) → is_ended sender ≡ b → (o : Option OpenFile) →
+        file_at sender.files theirs ≡ o → sent_fault from theirs (if b then Err EBADF else sent_of pledged sender o) ≡ Some fault → Holds fault
+    living sender made true ends o held e = subst Holds (same_some (WrongFile (NotSent from theirs)) fault e)
+        (none (Some sender) made (λ other same lives file has. let is : sender ≡ other = cc in
+        absurd (true≢false (sym ends ∙ ap (λ (p : ProcessState). is_ended p) is ∙ lives))))
+    living sender made false lives None held e = subst Holds (same_some (WrongFile (NotSent from theirs)) fault e)
+        (none (Some sender) made (λ other same alive file has. let is : sender ≡ other = cc in
+        let never : ◌≡◌ {A = Option OpenFile} None (Some file) = sym held ∙ ap (λ (p : ProcessState). file_at p.files theirs) is ∙ has in cc))
+    living sender made false lives (Some file) held e =
+        judged sender file made lives held (holds (held_set sender) sendfd) refl (is_directory file) refl (pledged || is_pledged sender) refl e
+
+    by : (o : Option ProcessState) → kept_at w from ≡ o → sent_fault from theirs (sent_by pledged o theirs) ≡ Some fault → Holds fault
+    by None made e = subst Holds (same_some (WrongFile (NotSent from theirs)) fault e) (none None made (λ sender same lives file has. cc))
+    by (Some sender) made e = living sender made (is_ended sender) refl (file_at sender.files theirs) refl e
 
 room_true : (w : World) (h : ProcessState) (change : Change) (fault : Fault) → room_fault w h change ≡ Some fault →
     RoomFaultHolds w h change fault
@@ -319,6 +402,7 @@ room_true w h (CopyAs new) fault e =
     either_true _ _ fault (RoomFaultHolds w h (CopyAs new))
     (when_true (is_some (kept_at w new)) (NumberTaken new) fault (RoomFaultHolds w h (CopyAs new)) (λ v. (refl, v)))
     (when_true (nat_le most_processes (length w.processes)) NoProcessLeft fault (RoomFaultHolds w h (CopyAs new)) (λ v. v)) e
+room_true w h (TakeFile number from theirs) fault e = sent_true w h from theirs fault e
 
 pub request_faults_hold : RequestFaultsHold
 request_faults_hold table w h action fault e = by (change_or_fault table w.tree h action) refl e
@@ -341,6 +425,10 @@ never_full table t h Lock is = is
 never_full table t h (Fork new) is = is
 never_full table t h Exit is = is
 never_full table t h (Uses sets) is = is
+never_full table t h (Hold number c path) is = is
+never_full table t h (Close number) is = is
+never_full table t h (Fchdir number) is = is
+never_full table t h (Take number from theirs) is = is
 never_full table t h Comment is = is
 
 full_made : (w : World) (h : ProcessState) (change : Change) → RoomFaultHolds w h change NoRoom → change_effect w h change ≡ Fails ENOSPC
@@ -352,6 +440,7 @@ full_made w h (TieRow spot x) is = is
 full_made w h (BeginProgram left) is = is
 full_made w h (AddEvent event) is = is
 full_made w h (CopyAs new) is = absurd is
+full_made w h (TakeFile number from theirs) is = absurd is
 
 pub full_trees_are_full : FullTreesAreFull
 full_trees_are_full table w h action formed e =

@@ -6,32 +6,33 @@ use Rattle.pua_policy.specs.States.{ProcessState, is_ended}
 use Rattle.pua_policy.specs.Verdict.{or_fault}
 use Rattle.pua_script.specs.Limits.{most_processes}
 use Rattle.pua_script.specs.Requests.{Asked}
-use Rattle.pua_script.specs.Decide.{Change, CopyAs, Outcome, fault_if}
+use Rattle.pua_script.specs.Decide.{Change, CopyAs, TakeFile, Outcome, fault_if}
 use Rattle.pua_script.specs.Replay.{World, kept_at, apply}
 use Rattle.pua_script.specs.declared.request.Action.{Action}
 use Rattle.pua_script.specs.declared.answer.Answer.{Answer}
 use Rattle.pua_script.specs.declared.answer.Answer.TheVariants.{Failed}
 use Rattle.pua_why.specs.Reasons.{Fault, NumberTaken, NoProcessLeft, NoRoom, Reason, NeverMade, Ended, Refused, Granted, reason_of, reason}
-use Rattle.pua_why.specs.Reasons.{change_or_fault}
+use Rattle.pua_why.specs.Reasons.{change_or_fault, take_fault}
 
 -- the check that refused
 abbrev pub refused_by : Outcome Fault → Option Fault
 refused_by (Ok _) = None
 refused_by (Err fault) = Some fault
 
--- of a change, that no further process is made
-abbrev pub process_fault : World → Change → Option Fault
-process_fault w (CopyAs new) =
+-- of a change, that no further process is made, and that another process doesn't send what is asked for
+abbrev pub process_fault : World → ProcessState → Change → Option Fault
+process_fault w h (CopyAs new) =
     or_fault (fault_if (is_some (kept_at w new)) (NumberTaken new)) (fault_if (nat_le most_processes (length w.processes)) NoProcessLeft)
-process_fault w _ = None
+process_fault w h (TakeFile number from theirs) = take_fault w h from theirs
+process_fault w h _ = None
 
-abbrev pub checks_fault : World → Outcome Fault → Option Fault
-checks_fault w (Ok change) = process_fault w change
-checks_fault w (Err fault) = Some fault
+abbrev pub checks_fault : World → ProcessState → Outcome Fault → Option Fault
+checks_fault w h (Ok change) = process_fault w h change
+checks_fault w h (Err fault) = Some fault
 
 abbrev pub checked_by : CallTable → World → Action → Option ProcessState → Reason
 checked_by table w action None = NeverMade
-checked_by table w action (Some h) = if is_ended h then Ended else reason_of (checks_fault w (change_or_fault table w.tree h action))
+checked_by table w action (Some h) = if is_ended h then Ended else reason_of (checks_fault w h (change_or_fault table w.tree h action))
 
 abbrev pub reason_checked : CallTable → World → Asked → Reason
 reason_checked table w ask = checked_by table w ask.action (kept_at w ask.process)

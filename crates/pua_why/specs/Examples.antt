@@ -270,6 +270,47 @@ opening_rows = record {
   made_too = refl;
 }
 
+-- what is said of descriptors
+pub record FileRows : Type 0 where
+  pub closed : why_by Openbsd ordered_tree (codes "1 hold 3 open-r /f" ∷ codes "1 fchdir 3" ∷ codes "1 close 3" ∷ codes "1 close 3"
+      ∷ codes "1 fchdir 3" ∷ []) ≡
+      codes "1 ok" ∷ codes "2 ENOTDIR descriptor 3 is no directory since line 1" ∷ codes "3 ok"
+      ∷ codes "4 EBADF descriptor 3 is closed since line 3" ∷ codes "5 EBADF descriptor 3 is closed since line 3" ∷ []
+  -- an open that is kept is refused as the open alone, and opened as it
+  pub refused : why_by Openbsd ordered_tree (codes "1 unveil /d r" ∷ codes "1 hold 3 open-r /f" ∷ codes "1 pledge stdio,rpath -"
+      ∷ codes "1 hold 3 open-w /d/f" ∷ []) ≡
+      codes "1 ok" ∷ codes "2 ENOENT no veil on /f or above since line 1" ∷ codes "3 ok" ∷ codes "4 killed no wpath since line 3" ∷ []
+  pub opened : why_by Openbsd opened_tree (codes "1 pledge stdio,dns -" ∷ codes "1 hold 3 open-r /etc/resolv.conf" ∷ codes "1 close 3" ∷ []) ≡
+      codes "1 ok" ∷ codes "2 ok by dns" ∷ codes "3 ok" ∷ []
+  -- what another process sends turns with what that one does
+  pub taken : why_by Openbsd ordered_tree (codes "1 fork 2" ∷ codes "2 take 0 1 4" ∷ codes "1 hold 4 open-r /d" ∷ codes "2 take 0 1 4"
+      ∷ codes "1 pledge stdio,sendfd -" ∷ codes "2 take 0 1 4" ∷ codes "1 pledge stdio -" ∷ codes "2 take 0 1 4" ∷ codes "1 exit"
+      ∷ codes "2 take 0 1 4" ∷ codes "2 pledge stdio -" ∷ codes "2 take 0 1 4" ∷ []) ≡
+      codes "1 ok" ∷ codes "2 EBADF process 1 has no descriptor 4" ∷ codes "3 ok" ∷ codes "4 ok" ∷ codes "5 ok"
+      ∷ codes "6 EINVAL descriptor 4 of process 1 is a directory since line 5" ∷ codes "7 ok"
+      ∷ codes "8 EPERM process 1 has no sendfd since line 7" ∷ codes "9 ok"
+      ∷ codes "10 EBADF process 1 has no descriptor 4 since line 9" ∷ codes "11 ok" ∷ codes "12 killed no recvfd since line 11" ∷ []
+  pub held_in_a_chain : chain_by Openbsd ordered_tree [] (codes "1 hold 3 open-r /f") ≡
+      codes "needs rpath" ∷ codes "names file /f" ∷ codes "no veils" ∷ codes "ok" ∷ []
+  pub opened_in_a_chain : chain_by Openbsd opened_tree (codes "1 pledge stdio,dns -" ∷ []) (codes "1 hold 3 open-r /etc/resolv.conf") ≡
+      codes "opened by dns" ∷ codes "names file /etc/resolv.conf" ∷ codes "ok by dns" ∷ []
+  pub closed_in_a_chain : chain_by Openbsd ordered_tree (codes "1 hold 3 open-r /f" ∷ []) (codes "1 close 3") ≡ codes "ok" ∷ []
+  pub taken_in_a_chain : chain_by Openbsd ordered_tree [] (codes "1 take 3 2 4") ≡
+      codes "needs recvfd" ∷ codes "EBADF process 2 has no descriptor 4" ∷ []
+
+pub file_rows : FileRows
+unfolding digits trace_from promises_text
+file_rows = record {
+  closed = refl;
+  refused = refl;
+  opened = refl;
+  taken = refl;
+  held_in_a_chain = refl;
+  opened_in_a_chain = refl;
+  closed_in_a_chain = refl;
+  taken_in_a_chain = refl;
+}
+
 pub why_rows : WhyRows
 unfolding digits trace_from promises_text
 why_rows = record {

@@ -7,7 +7,7 @@ use Rattle.pua_path.specs.declared.found.Last.TheVariants.{Followed}
 use Rattle.pua_path.specs.declared.found.Found.{Found}
 use Rattle.pua_path.specs.Traces.{PathTrace, trace_of_text}
 use Rattle.pua_path.specs.declared.traced.PathFault.{PathFault}
-use Rattle.pua_calls.specs.Promises.{no_promises, proc, promises_of, unveil}
+use Rattle.pua_calls.specs.Promises.{no_promises, proc, promises_of, recvfd, unveil}
 use Rattle.pua_path.specs.declared.errno.Errno.{Errno}
 use Rattle.pua_calls.specs.Calls.{CallTable, NameRule, PairRule, rule_of, last_of, ending_of}
 use Rattle.pua_policy.specs.States.{ProcessState, working_dir, is_locked}
@@ -17,6 +17,7 @@ use Rattle.pua_script.specs.Requests.{Asked}
 use Rattle.pua_script.specs.Replay.{World, kept_at}
 use Rattle.pua_script.specs.declared.request.Action.{Action}
 use Rattle.pua_script.specs.declared.request.Action.TheVariants.{OnPath, Symlink, Rename, Link, Pledge, Unveil, Lock, Fork, Exit, Uses, Comment}
+use Rattle.pua_script.specs.declared.request.Action.TheVariants.{Hold, Close, Fchdir, Take}
 use Rattle.pua_policy.specs.declared.reason.Covering.{Covering}
 use Rattle.pua_policy.specs.Reasons.{Promising, Holds, promising, covering}
 use Rattle.pua_script.specs.Decide.{Side, Sole, Old, New}
@@ -121,6 +122,10 @@ facts table t h Lock = facts_promised (promising h (unveil ∷ [])) []
 facts table t h (Fork new) = facts_promised (promising h (proc ∷ [])) []
 facts table t h Exit = []
 facts table t h (Uses sets) = facts_promised (promising h sets) []
+facts table t h (Hold number call path) = facts_by table t h call path (opening_of table h call path)
+facts table t h (Close number) = []
+facts table t h (Fchdir number) = []
+facts table t h (Take number from theirs) = facts_promised (promising h (recvfd ∷ [])) []
 facts table t h Comment = []
 
 abbrev pub facts_of : CallTable → World → Asked → List Fact

@@ -13,6 +13,7 @@ use Rattle.pua_calls.specs.declared.fits.Misfit.TheVariants.{Missing, Exists, Is
 use Rattle.pua_calls.specs.declared.fits.Misfit.TheVariants.{IsNoProgram, IsNotEmpty, ByDot, ByDotDot, ByNothing, IsNoSocket, InUse}
 use Rattle.pua_why.specs.Reasons.{Fault, Ends, LacksPromises, BadTarget, BadPath, Uncovered, LacksLetters, Unfit, Inside, UnknownPromise}
 use Rattle.pua_why.specs.Reasons.{AsksPromises, IsLocked, UnknownLetter, AsksLetters, NoPlaceLeft, NumberTaken, NoProcessLeft, NoRoom}
+use Rattle.pua_why.specs.Reasons.{WrongFile, FileFault, NotOpen, OpenNoDirectory, NotSent, MayNotSend, SendsDirectory}
 use Rattle.pua_why.specs.Reasons.{Reason, NeverMade, Ended, Refused, Granted}
 
 abbrev pub place_key : Place → List ℕ
@@ -72,6 +73,13 @@ abbrev pub exec_key : Bool → ℕ
 exec_key false = 0
 exec_key true = 1
 
+abbrev pub file_key : FileFault → List ℕ
+file_key (NotOpen number) = 0 ∷ number ∷ []
+file_key (OpenNoDirectory number) = 1 ∷ number ∷ []
+file_key (NotSent from theirs) = 2 ∷ from ∷ theirs ∷ []
+file_key (MayNotSend from) = 3 ∷ from ∷ []
+file_key (SendsDirectory from theirs) = 4 ∷ from ∷ theirs ∷ []
+
 abbrev pub fault_key : Fault → List ℕ
 fault_key Ends = 0 ∷ []
 fault_key (LacksPromises error sets) = 1 ∷ sets
@@ -90,6 +98,7 @@ fault_key NoPlaceLeft = 13 ∷ []
 fault_key (NumberTaken n) = 14 ∷ n ∷ []
 fault_key NoProcessLeft = 15 ∷ []
 fault_key NoRoom = 16 ∷ []
+fault_key (WrongFile fault) = 17 ∷ file_key fault
 
 abbrev pub reason_key : Reason → List ℕ
 reason_key NeverMade = 0 ∷ []

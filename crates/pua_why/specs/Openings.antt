@@ -13,7 +13,7 @@ use Rattle.pua_script.specs.Worlds.{WorldState, state_after_all}
 use Rattle.pua_script.specs.declared.answer.Answer.{Answer}
 use Rattle.pua_script.specs.declared.answer.Answer.TheVariants.{Okay}
 use Rattle.pua_script.specs.declared.request.Action.{Action}
-use Rattle.pua_script.specs.declared.request.Action.TheVariants.{OnPath}
+use Rattle.pua_script.specs.declared.request.Action.TheVariants.{Hold, OnPath}
 use Rattle.pua_why.specs.Reasons.{Fault, faults, faults_of}
 
 -- a promise, where a call is refused without it
@@ -28,6 +28,7 @@ opener_by table t p call text (Some o) = promise_where o.promise (call_by faults
 
 abbrev pub opener_on : CallTable → Tree → Action → ProcessState → Option (List ℕ)
 opener_on table t (OnPath call text) p = opener_by table t p call text (opening_of table p call text)
+opener_on table t (Hold number call text) p = opener_by table t p call text (opening_of table p call text)
 opener_on table t _ p = None
 
 abbrev pub opener_at : CallTable → Tree → Action → Option ProcessState → Option (List ℕ)

@@ -1,8 +1,10 @@
 -- Why a request is answered as it is: what is told of the check at which it is refused, and of the room that its change lacks.
 use Rattle.std.specs.Prelude.{ℕ, Bool, true, false, not, if◌then◌else◌, List, length, nat_le, Option, Some, None, option_map, Result, Ok}
-use Rattle.std.specs.Prelude.{Err, is_some, unwrap_or}
+use Rattle.std.specs.Prelude.{Err, is_some, ok_or, unwrap_or}
 use Rattle.pua_tree.specs.Tree.{Tree}
-use Rattle.pua_path.specs.declared.errno.Errno.TheVariants.{EPERM, ENOENT, E2BIG, EACCES, EAGAIN, EINVAL, ENOSPC, ENOSYS}
+use Rattle.pua_path.specs.declared.errno.Errno.TheVariants.{EPERM, ENOENT, E2BIG, EBADF, EACCES, EAGAIN, EINVAL, ENOSPC, ENOSYS, ENOTDIR}
+use Rattle.pua_path.specs.declared.errno.Errno.{Errno}
+use Rattle.pua_policy.specs.declared.open_file.OpenFile.{OpenFile}
 use Rattle.pua_path.specs.declared.found.Found.{Found}
 use Rattle.pua_path.specs.declared.found.Last.TheVariants.{Followed}
 use Rattle.pua_path.specs.declared.text.Ending.TheVariants as ending
@@ -13,7 +15,8 @@ use Rattle.pua_calls.specs.Promises.{holds}
 use Rattle.pua_calls.specs.declared.rules.Rules.{Rules}
 use Rattle.pua_calls.specs.Calls.{CallTable}
 use Rattle.pua_calls.specs.declared.rules.Rules.TheVariants.{Standard, Openbsd}
-use Rattle.pua_policy.specs.States.{ProcessState, has_error, error_frees_exec, is_within, is_ended, perms_kept, most_places}
+use Rattle.pua_policy.specs.States.{ProcessState, file_at, has_error, error_frees_exec, is_within, is_ended, is_pledged, perms_kept}
+use Rattle.pua_policy.specs.States.{most_places}
 use Rattle.pua_policy.specs.Verdict.{or_fault}
 use Rattle.pua_policy.specs.declared.place.Place.{Place}
 use Rattle.pua_policy.specs.declared.answer.Refusal.{Refusal}
@@ -24,13 +27,29 @@ use Rattle.pua_policy.specs.declared.reason.Covering.TheVariants.{InView, NoneOv
 use Rattle.pua_policy.specs.Reasons.{Promising, Holds, HasEnded, Lacks, promising, covering}
 use Rattle.pua_script.specs.Limits.{most_processes}
 use Rattle.pua_script.specs.Requests.{Asked}
-use Rattle.pua_script.specs.Decide.{Change, CopyAs, Outcome, Side, Telling, Asker, fault_if, decide_by, asker_for, before_long}
+use Rattle.pua_script.specs.Decide.{Change, CopyAs, TakeFile, Outcome, Side, Telling, Asker, fault_if, decide_by, asker_for, before_long}
 use Rattle.pua_policy.specs.Misfits.{misfit_errno}
 use Rattle.pua_calls.specs.declared.fits.Misfit.{Misfit}
-use Rattle.pua_script.specs.Replay.{World, Effect, Fails, kept_at, change_effect}
+use Rattle.pua_script.specs.Replay.{World, Effect, Fails, kept_at, change_effect, sent_by}
 use Rattle.pua_script.specs.declared.request.Action.{Action}
 use Rattle.pua_script.specs.declared.answer.Answer.{Answer}
 use Rattle.pua_script.specs.declared.answer.Answer.TheVariants.{Okay, Failed, Killed, Gone}
+
+-- what is wrong with a descriptor: with one's own, or with one of another process
+pub data FileFault : Type 0 where
+  NotOpen : ℕ → FileFault
+  OpenNoDirectory : ℕ → FileFault
+  NotSent : ℕ → ℕ → FileFault
+  MayNotSend : ℕ → FileFault
+  SendsDirectory : ℕ → ℕ → FileFault
+
+-- and what errno the request is answered for it
+abbrev pub file_errno : FileFault → Errno
+file_errno (NotOpen number) = EBADF
+file_errno (OpenNoDirectory number) = ENOTDIR
+file_errno (NotSent from theirs) = EBADF
+file_errno (MayNotSend from) = EPERM
+file_errno (SendsDirectory from theirs) = EINVAL
 
 -- why a living process does not get what it asks for
 pub data Fault : Type 0 where
@@ -51,6 +70,7 @@ pub data Fault : Type 0 where
   NumberTaken : ℕ → Fault
   NoProcessLeft : Fault
   NoRoom : Fault
+  WrongFile : FileFault → Fault
 
 -- what becomes of the request for it
 abbrev pub fault_refusal : Fault → Refusal
@@ -72,6 +92,7 @@ fault_refusal NoPlaceLeft = refusal.Failed E2BIG
 fault_refusal (NumberTaken n) = refusal.Failed EAGAIN
 fault_refusal NoProcessLeft = refusal.Failed EAGAIN
 fault_refusal NoRoom = refusal.Failed ENOSPC
+fault_refusal (WrongFile fault) = refusal.Failed (file_errno fault)
 
 -- promises that are not held
 abbrev pub unpromised_fault : Promising → Option Fault
@@ -143,6 +164,7 @@ faults = record {
   inside = λ old new. Inside old new;
   unknown_promise = λ of_exec. UnknownPromise of_exec;
   unknown_letter = UnknownLetter;
+  no_directory = λ number. WrongFile (OpenNoDirectory number);
 }
 
 -- and of a process, by what it keeps
@@ -154,6 +176,7 @@ faults_of p = record {
   beyond = λ whose promises execpromises. pledge_beyond whose p promises execpromises;
   locked = fault_if p.locked IsLocked;
   place = unveil_beyond p;
+  file = λ number. ok_or (file_at p.files number) (WrongFile (NotOpen number));
 }
 
 -- what a living process's request changes, or the fault for which it is refused
@@ -165,9 +188,23 @@ abbrev pub no_room : Effect → Option Fault
 no_room (Fails errno) = Some NoRoom
 no_room _ = None
 
+-- of what another process has as a descriptor, that it is not sent
+abbrev pub errno_sent : ℕ → ℕ → Errno → FileFault
+errno_sent from theirs EPERM = MayNotSend from
+errno_sent from theirs EINVAL = SendsDirectory from theirs
+errno_sent from theirs _ = NotSent from theirs
+
+abbrev pub sent_fault : ℕ → ℕ → Result OpenFile Errno → Option Fault
+sent_fault from theirs (Ok file) = None
+sent_fault from theirs (Err errno) = Some (WrongFile (errno_sent from theirs errno))
+
+abbrev pub take_fault : World → ProcessState → ℕ → ℕ → Option Fault
+take_fault w h from theirs = sent_fault from theirs (sent_by (is_pledged h) (kept_at w from) theirs)
+
 abbrev pub room_fault : World → ProcessState → Change → Option Fault
 room_fault w h (CopyAs new) =
     or_fault (fault_if (is_some (kept_at w new)) (NumberTaken new)) (fault_if (nat_le most_processes (length w.processes)) NoProcessLeft)
+room_fault w h (TakeFile number from theirs) = take_fault w h from theirs
 room_fault w h change = no_room (change_effect w h change)
 
 abbrev pub outcome_fault : World → ProcessState → Outcome Fault → Option Fault

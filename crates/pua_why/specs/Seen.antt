@@ -9,6 +9,9 @@ use Rattle.pua_why.specs.declared.told.Fault.{Fault}
 use Rattle.pua_why.specs.declared.told.Fault.TheVariants.{Ends, LacksPromises, LacksPromise, BadTarget, BadPath, Uncovered, LacksLetters}
 use Rattle.pua_why.specs.declared.told.Fault.TheVariants.{Unfit, Inside, UnknownPromise, AsksPromises, IsLocked, UnknownLetter, AsksLetters}
 use Rattle.pua_why.specs.declared.told.Fault.TheVariants.{NoPlaceLeft, NumberTaken, NoProcessLeft, NoRoom}
+use Rattle.pua_why.specs.declared.told.Fault.TheVariants.{WrongFile}
+use Rattle.pua_why.specs.declared.told.FileFault.{FileFault}
+use Rattle.pua_why.specs.declared.told.FileFault.TheVariants.{NotOpen, OpenNoDirectory, NotSent, MayNotSend, SendsDirectory}
 use Rattle.pua_why.specs.declared.told.Reason.{Reason}
 use Rattle.pua_why.specs.declared.told.Reason.TheVariants.{NeverMade, Ended, Refused, Granted}
 use Rattle.pua_why.specs.declared.told.Fact.{Fact}
@@ -22,6 +25,13 @@ abbrev pub side_seen : Side → decide.Side
 side_seen Sole = decide.Sole
 side_seen Old = decide.Old
 side_seen New = decide.New
+
+abbrev pub file_fault_seen : FileFault → reasons.FileFault
+file_fault_seen (NotOpen number) = reasons.NotOpen number
+file_fault_seen (OpenNoDirectory number) = reasons.OpenNoDirectory number
+file_fault_seen (NotSent from theirs) = reasons.NotSent from theirs
+file_fault_seen (MayNotSend from) = reasons.MayNotSend from
+file_fault_seen (SendsDirectory from theirs) = reasons.SendsDirectory from theirs
 
 -- what is held and the sets are told, and what of each set is not held is meant
 abbrev pub fault_seen : Fault → reasons.Fault
@@ -43,6 +53,7 @@ fault_seen NoPlaceLeft = reasons.NoPlaceLeft
 fault_seen (NumberTaken n) = reasons.NumberTaken n
 fault_seen NoProcessLeft = reasons.NoProcessLeft
 fault_seen NoRoom = reasons.NoRoom
+fault_seen (WrongFile fault) = reasons.WrongFile (file_fault_seen fault)
 
 abbrev pub reason_seen : Reason → reasons.Reason
 reason_seen NeverMade = reasons.NeverMade

@@ -32,6 +32,7 @@ use Rattle.pua_calls.specs.declared.fits.Misfit.TheVariants.{Missing, Exists, Is
 use Rattle.pua_calls.specs.declared.fits.Misfit.TheVariants.{IsNoProgram, IsNotEmpty, ByDot, ByDotDot, ByNothing, IsNoSocket, InUse}
 use Rattle.pua_why.specs.Reasons.{Fault, Ends, LacksPromises, BadTarget, BadPath, Uncovered, LacksLetters, Unfit, Inside, UnknownPromise}
 use Rattle.pua_why.specs.Reasons.{AsksPromises, IsLocked, UnknownLetter, AsksLetters, NoPlaceLeft, NumberTaken, NoProcessLeft, NoRoom}
+use Rattle.pua_why.specs.Reasons.{WrongFile, FileFault, NotOpen, OpenNoDirectory, NotSent, MayNotSend, SendsDirectory}
 use Rattle.pua_why.specs.Reasons.{Reason, NeverMade, Ended, Refused, Granted, reason, answer_of}
 use Rattle.pua_why.specs.Keys.{reason_key}
 use Rattle.pua_why.specs.Since.{Test, since}
@@ -131,6 +132,14 @@ abbrev pub of_exec_text : Bool → List ℕ
 of_exec_text false = []
 of_exec_text true = codes " in execpromises"
 
+abbrev pub file_fault_text : FileFault → List ℕ
+file_fault_text (NotOpen number) = codes "descriptor " ++ decimal number ++ codes " is closed"
+file_fault_text (OpenNoDirectory number) = codes "descriptor " ++ decimal number ++ codes " is no directory"
+file_fault_text (NotSent from theirs) = codes "process " ++ decimal from ++ codes " has no descriptor " ++ decimal theirs
+file_fault_text (MayNotSend from) = codes "process " ++ decimal from ++ codes " has no sendfd"
+file_fault_text (SendsDirectory from theirs) =
+    codes "descriptor " ++ decimal theirs ++ codes " of process " ++ decimal from ++ codes " is a directory"
+
 abbrev pub fault_text : Tree → Fault → List ℕ
 fault_text t Ends = codes "ended"
 fault_text t (LacksPromises error sets) = joined_words (codes ", ") (map (λ set. codes "no " ++ promises_text set) sets)
@@ -150,6 +159,7 @@ fault_text t NoPlaceLeft = decimal most_places ++ codes " places have veils"
 fault_text t (NumberTaken n) = codes "process " ++ decimal n ++ codes " exists"
 fault_text t NoProcessLeft = decimal most_processes ++ codes " processes were made"
 fault_text t NoRoom = codes "tree is full"
+fault_text t (WrongFile fault) = file_fault_text fault
 
 -- the words of a reason; what is allowed has none
 abbrev pub reason_text : Tree → Reason → List ℕ

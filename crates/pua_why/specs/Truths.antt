@@ -1,5 +1,5 @@
 -- What a fault of a request says, as a fact about the world of the moment.
-use Rattle.std.specs.Prelude.{◌≡◌, ◌⊎◌, ℕ, true, false, List, [], ◌∷◌, length, nat_le, Option, Some, None, Result, Ok, Err, is_some}
+use Rattle.std.specs.Prelude.{◌≡◌, ◌⊎◌, ◌||◌, ℕ, true, false, List, [], ◌∷◌, length, nat_le, Option, Some, None, Result, Ok, Err, is_some}
 use Rattle.pua_tree.specs.Tree.{Tree, Spot, WellFormed, is_empty}
 use Rattle.pua_tree.specs.Edits.{is_inside}
 use Rattle.pua_path.specs.Fits.{spot_named, node_named}
@@ -13,7 +13,9 @@ use Rattle.pua_path.specs.declared.found.Found.{Found}
 use Rattle.pua_path.specs.declared.found.Found.TheVariants.{Whole}
 use Rattle.pua_path.specs.Traces.{text_fault, trace_of_text}
 use Rattle.pua_path.specs.declared.traced.PathFault.{PathFault}
-use Rattle.pua_calls.specs.Promises.{holds, proc, unveil}
+use Rattle.pua_calls.specs.Promises.{holds, proc, recvfd, sendfd, unveil}
+use Rattle.pua_policy.specs.declared.open_file.OpenFile.{OpenFile}
+use Rattle.pua_policy.specs.States.{file_at, held_set, is_directory, is_pledged}
 use Rattle.pua_policy.specs.ReasonLaws.{LackSome}
 use Rattle.pua_calls.specs.Calls.{CallTable, PairRule}
 use Rattle.pua_calls.specs.declared.rules.Rules.{Rules}
@@ -21,7 +23,7 @@ use Rattle.pua_policy.specs.States.{ProcessState, error_frees_exec, pledged_set,
 use Rattle.pua_policy.specs.States.{working_dir, most_places}
 use Rattle.pua_calls.specs.declared.call.Call.TheVariants as call
 use Rattle.pua_script.specs.Limits.{most_processes}
-use Rattle.pua_script.specs.Decide.{Change, CopyAs, Side, Sole, Old, New, given_set, is_unknown, is_whole}
+use Rattle.pua_script.specs.Decide.{Change, CopyAs, TakeFile, Side, Sole, Old, New, given_set, is_unknown, is_whole}
 use Rattle.pua_calls.specs.declared.fits.Misfit.{Misfit}
 use Rattle.pua_calls.specs.declared.fits.Misfit.TheVariants.{Missing, Exists, IsDirectory, IsNoFile, IsNoDirectory, IsNotEmpty, ByDot}
 use Rattle.pua_calls.specs.declared.fits.Misfit.TheVariants.{ByDotDot, ByNothing}
@@ -30,11 +32,13 @@ use Rattle.pua_script.specs.Laws.{LacksRoom}
 use Rattle.pua_script.specs.declared.request.Given.{Given}
 use Rattle.pua_script.specs.declared.request.Action.{Action}
 use Rattle.pua_script.specs.declared.request.Action.TheVariants.{OnPath, Symlink, Rename, Link, Pledge, Unveil, Lock, Fork, Exit, Uses, Comment}
+use Rattle.pua_script.specs.declared.request.Action.TheVariants.{Hold, Close, Fchdir, Take}
 use Rattle.pua_calls.specs.Promises.{lacking}
 use Rattle.pua_policy.specs.declared.reason.Covering.TheVariants.{NoneOver, By}
 use Rattle.pua_policy.specs.Reasons.{covering}
 use Rattle.pua_why.specs.Reasons.{Fault, Ends, LacksPromises, BadTarget, BadPath, Uncovered, LacksLetters, Unfit, Inside, UnknownPromise}
 use Rattle.pua_why.specs.Reasons.{AsksPromises, IsLocked, UnknownLetter, AsksLetters, NoPlaceLeft, NumberTaken, NoProcessLeft, NoRoom}
+use Rattle.pua_why.specs.Reasons.{WrongFile, NotOpen, OpenNoDirectory, NotSent, MayNotSend, SendsDirectory}
 use Rattle.pua_why.specs.Reasons.{beyond, change_or_fault, outcome_in, request_fault}
 use Rattle.pua_why.specs.Facts.{name_trace}
 use Rattle.pua_why.specs.Laws.{CallFaultHolds}
@@ -120,6 +124,16 @@ UnveilFaultHolds whose t h path letters (AsksLetters place given lacks) =
 UnveilFaultHolds whose t h path letters NoPlaceLeft = nat_le most_places (length (veils h)) ≡ true
 UnveilFaultHolds whose t h path letters fault = PromiseFaultHolds h (unveil ∷ []) fault
 
+-- a descriptor of the process that asks
+abbrev pub FileFaultHolds : ProcessState → ℕ → Fault → Type 0
+FileFaultHolds h number (WrongFile (NotOpen n)) = (n ≡ number) × (file_at h.files number ≡ None)
+FileFaultHolds h number _ = ⊥
+
+abbrev pub DirFaultHolds : ProcessState → ℕ → Fault → Type 0
+DirFaultHolds h number (WrongFile (OpenNoDirectory n)) =
+    (n ≡ number) × (file : OpenFile) × (file_at h.files number ≡ Some file) × (is_directory file ≡ false)
+DirFaultHolds h number fault = FileFaultHolds h number fault
+
 -- what a fault of a check says is so
 abbrev pub CheckFaultHolds : CallTable → Tree → ProcessState → Action → Fault → Type 0
 CheckFaultHolds table t h (OnPath call path) fault = CallFaultHolds t table h call path fault
@@ -132,17 +146,39 @@ CheckFaultHolds table t h Lock fault = PromiseFaultHolds h (unveil ∷ []) fault
 CheckFaultHolds table t h (Fork new) fault = PromiseFaultHolds h (proc ∷ []) fault
 CheckFaultHolds table t h Exit fault = ⊥
 CheckFaultHolds table t h (Uses sets) fault = PromiseFaultHolds h sets fault
+CheckFaultHolds table t h (Hold number call path) fault = CallFaultHolds t table h call path fault
+CheckFaultHolds table t h (Close number) fault = FileFaultHolds h number fault
+CheckFaultHolds table t h (Fchdir number) fault = DirFaultHolds h number fault
+CheckFaultHolds table t h (Take number from theirs) fault = PromiseFaultHolds h (recvfd ∷ []) fault
 CheckFaultHolds table t h Comment fault = ⊥
 
 abbrev pub CheckFaultsHold : Type 0
 CheckFaultsHold = (table : CallTable) (t : Tree) (h : ProcessState) (action : Action) (fault : Fault) →
     change_or_fault table t h action ≡ Err fault → CheckFaultHolds table t h action fault
 
+-- what another process has as a descriptor is not there, or is not sent
+pub record HasOpen (w : World) (from theirs : ℕ) (P : ProcessState → OpenFile → Type 0) : Type 0 where
+  pub sender : ProcessState
+  pub made : kept_at w from ≡ Some sender
+  pub lives : is_ended sender ≡ false
+  pub file : OpenFile
+  pub held : file_at sender.files theirs ≡ Some file
+  pub so : P sender file
+
+abbrev pub SentFaultHolds : World → ProcessState → ℕ → ℕ → Fault → Type 0
+SentFaultHolds w h from theirs (WrongFile (NotSent n m)) = (n ≡ from) × (m ≡ theirs) × (HasOpen w from theirs (λ sender file. Unit {0}) → ⊥)
+SentFaultHolds w h from theirs (WrongFile (MayNotSend n)) =
+    (n ≡ from) × HasOpen w from theirs (λ sender file. holds (held_set sender) sendfd ≡ false)
+SentFaultHolds w h from theirs (WrongFile (SendsDirectory n m)) = (n ≡ from) × (m ≡ theirs) ×
+    HasOpen w from theirs (λ sender file. (is_directory file ≡ true) × (is_pledged h || is_pledged sender ≡ true))
+SentFaultHolds w h from theirs _ = ⊥
+
 -- what a fault of a change says is so
 abbrev pub RoomFaultHolds : World → ProcessState → Change → Fault → Type 0
 RoomFaultHolds w h (CopyAs new) (NumberTaken n) = (n ≡ new) × (is_some (kept_at w new) ≡ true)
 RoomFaultHolds w h (CopyAs new) NoProcessLeft = nat_le most_processes (length w.processes) ≡ true
 RoomFaultHolds w h (CopyAs new) _ = ⊥
+RoomFaultHolds w h (TakeFile number from theirs) fault = SentFaultHolds w h from theirs fault
 RoomFaultHolds w h change NoRoom = change_effect w h change ≡ Fails ENOSPC
 RoomFaultHolds w h _ _ = ⊥
 

@@ -1,6 +1,7 @@
 //! The checks of pledges and of locks, and of a further process.
 
 ghost use Rattle.std.specs.Prelude.{◌≡◌, ℕ, IfOk, option_map};
+ghost use Rattle.pua_policy.specs.States.{ProcessState};
 ghost use Rattle.pua_script.specs.Decide.{CopyAs, fork_by, given_set, is_unknown};
 ghost use Rattle.pua_script.specs.Decide.{lock_by, pledge_by, uses_by};
 ghost use Rattle.pua_script.specs.Worlds.{world_of};
@@ -105,8 +106,8 @@ pub(crate) fn process_fault<'s, T: FileTree>(
     world: &World<T>,
     new: u32,
 ) -> Result<Option<Fault<'s>>, OutOfMemory>
-    ensures { IfOk result (λ fault.
-        option_map fault_seen fault ≡ process_fault (world_of world.now) (CopyAs new)) }
+    ensures { IfOk result (λ fault. (asker : ProcessState) →
+        option_map fault_seen fault ≡ process_fault (world_of world.now) asker (CopyAs new)) }
 {
     if world.process(new).is_some() {
         return Ok(Some(Fault::NumberTaken(new)));

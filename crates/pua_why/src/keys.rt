@@ -4,11 +4,12 @@ ghost use Rattle.std.specs.Prelude.{◌≡◌, ◌++◌, ◌∷◌, IfOk, OnOk, 
 ghost use Rattle.pua_path.specs.declared.traced.PathFault.TheVariants as faults;
 ghost use Rattle.pua_tree.specs.Names.{same_bytes};
 ghost use Rattle.pua_calls.specs.Promises.{lacking};
-ghost use Rattle.pua_why.specs.Keys.{exec_key, fault_key, misfit_group, misfit_key, path_key};
+ghost use Rattle.pua_why.specs.Keys.{exec_key, fault_key, file_key, misfit_group, misfit_key};
+ghost use Rattle.pua_why.specs.Keys.{path_key};
 ghost use Rattle.pua_why.specs.Keys.{place_key, reason_key, side_key, text_key};
-ghost use Rattle.pua_why.specs.Seen.{fault_seen, reason_seen, side_seen};
+ghost use Rattle.pua_why.specs.Seen.{fault_seen, file_fault_seen, reason_seen, side_seen};
 
-use crate::told::{Fault, Reason, Side};
+use crate::told::{Fault, FileFault, Reason, Side};
 use pua_calls::{Perms, Promises};
 use pua_path::{PathFault, PathTextFault, Stop};
 use pua_policy::{Misfit, Place};
@@ -119,6 +120,25 @@ fn add_fault(numbers: &mut Vec<u64>, fault: &Fault<'_>) -> Result<(), OutOfMemor
         Fault::NumberTaken(number) => add(numbers, &[14, u64::from(number)]),
         Fault::NoProcessLeft => add(numbers, &[15]),
         Fault::NoRoom => add(numbers, &[16]),
+        Fault::WrongFile(fault) => add_file(numbers, fault),
+    }
+}
+
+/// Adds the numbers of what is wrong with a descriptor.
+fn add_file(numbers: &mut Vec<u64>, fault: FileFault) -> Result<(), OutOfMemory>
+    ensures { OnOk result (numbers.new.items
+        ≡ numbers.old.items ++ 17 ∷ file_key (file_fault_seen fault)) }
+{
+    match fault {
+        FileFault::NotOpen(number) => add(numbers, &[17, 0, u64::from(number)]),
+        FileFault::OpenNoDirectory(number) => add(numbers, &[17, 1, u64::from(number)]),
+        FileFault::NotSent { from, theirs } => {
+            add(numbers, &[17, 2, u64::from(from), u64::from(theirs)])
+        }
+        FileFault::MayNotSend(from) => add(numbers, &[17, 3, u64::from(from)]),
+        FileFault::SendsDirectory { from, theirs } => {
+            add(numbers, &[17, 4, u64::from(from), u64::from(theirs)])
+        }
     }
 }
 

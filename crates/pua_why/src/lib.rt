@@ -6,6 +6,7 @@ mod given;
 mod keys;
 mod laws;
 mod opened;
+mod opens;
 mod pairs;
 mod passed;
 mod reasons;
@@ -22,5 +23,5 @@ pub use opened::{ToldAnswer, opener, push_opener, push_told, run_told, serve_tol
 pub use passed::facts;
 pub use reasons::{checked, reason};
 pub use texts::{letters, push_fact, push_place, push_promises, push_reason, push_since};
-pub use told::{Fact, Fault, Reason, Side};
+pub use told::{Fact, Fault, FileFault, Reason, Side};
 pub use tree_paths::TreePaths;

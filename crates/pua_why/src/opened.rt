@@ -3,7 +3,7 @@
 ghost use Rattle.std.specs.Prelude.{◌≡◌, ◌++◌, IfOk, map, OnErr, OnOk, option_map, Some};
 ghost use Rattle.std.specs.Prelude.{string_bytes};
 ghost use Rattle.pua_script.specs.AnswerTexts.{answer_text as answer_word};
-ghost use Rattle.pua_script.specs.Openings.{opening_seen};
+ghost use Rattle.pua_script.specs.Openings.{opening_of, opening_seen};
 ghost use Rattle.pua_script.specs.Worlds.{apply_to, state_after_all, world_of};
 ghost use Rattle.pua_why.specs.Openings.{if_okay, opener, opener_by, opener_on, ServesFirst};
 ghost use Rattle.pua_why.specs.Openings.{opener_text, told_line, told_text, told_to};
@@ -135,12 +135,32 @@ fn opener_on<T: FileTree>(
     ensures { IfOk result (λ promise. option_map (λ keyword. keyword.now) promise
         ≡ opener_on table.now (T.content tree.now) action.now process.now) }
 {
-    let Action::OnPath(call, path) = action else {
-        return Ok(None);
-    };
-    let text = path.bytes();
-    match opening_of(table, process, *call, text) {
-        Some(row) => opener_past(alloc, tree, table, process, *call, text, row),
+    match action {
+        Action::OnPath(call, path) => {
+            opener_asked(alloc, tree, table, process, *call, path.bytes())
+        }
+        Action::Hold { call, path, .. } => {
+            opener_asked(alloc, tree, table, process, *call, path.bytes())
+        }
+        _ => Ok(None),
+    }
+}
+
+/// The same of a call on a path.
+fn opener_asked<T: FileTree>(
+    alloc: Global,
+    tree: &T,
+    table: &CallTable,
+    process: &Process,
+    call: Call,
+    path: &[u8],
+) -> Result<Option<&'static str>, OutOfMemory>
+    ensures { IfOk result (λ promise. option_map (λ keyword. keyword.now) promise
+        ≡ opener_by table.now (T.content tree.now) process.now call path.now
+        (opening_of table.now process.now call path.now)) }
+{
+    match opening_of(table, process, call, path) {
+        Some(row) => opener_past(alloc, tree, table, process, call, path, row),
         None => Ok(None),
     }
 }

@@ -105,6 +105,11 @@ impl Passed {
             Action::Unveil(path, _) => self.add_unveil(tree, process, path.bytes()),
             Action::Lock => self.add_promises(process, &[Promises::UNVEIL]),
             Action::Fork(_) => self.add_promises(process, &[Promises::PROC]),
+            Action::Hold { call, path, .. } => {
+                self.add_asked(tree, table, process, *call, path.bytes())
+            }
+            Action::Take { .. } => self.add_promises(process, &[Promises::RECVFD]),
+            Action::Close(_) | Action::Fchdir(_) => Ok(()),
             Action::Uses(any) => self.add_promises(process, any.sets()),
             Action::Pledge(_, _) | Action::Exit | Action::Comment => Ok(()),
         }

@@ -1,7 +1,6 @@
 //! Why a request is answered as it is.
 
 ghost use Rattle.std.specs.Prelude.{◌≡◌, IfOk, None, option_map};
-ghost use Rattle.pua_policy.specs.States.{ProcessState};
 ghost use Rattle.pua_script.specs.Decide.{asker_for, asker_past, decide_by};
 ghost use Rattle.pua_script.specs.Openings.{opening_of};
 ghost use Rattle.pua_script.specs.Worlds.{apply_to, world_of};
@@ -12,6 +11,7 @@ ghost use Rattle.pua_why.specs.Seen.{fault_seen, reason_seen};
 
 use crate::checks::{call_fault, fit_fault, object_fault, symlink_fault, unveil_fault};
 use crate::given::{fork_fault, lock_fault, pledge_fault, process_fault, uses_fault};
+use crate::opens::{close_fault, fchdir_fault, receive_fault, take_fault};
 use crate::pairs::{link_fault, rename_fault};
 use crate::told::{Fault, Reason};
 use pua_calls::{Call, CallTable};
@@ -91,31 +91,33 @@ fn request_fault<'w, T: FileTree>(
     action: &'w Action,
 ) -> Result<Option<Fault<'w>>, OutOfMemory>
     ensures { IfOk result (λ fault. option_map fault_seen fault
-        ≡ checks_fault (world_of world.now)
+        ≡ checks_fault (world_of world.now) process.now
         (change_or_fault world.now.table world.now.tree process.now action.now)) }
 {
     match fault_of(alloc, world.tree(), world.table(), process, action) {
-        Ok(None) => further_fault(alloc, world, action),
+        Ok(None) => further_fault(alloc, world, process, action),
         Ok(Some(fault)) => Ok(Some(fault)),
         Err(error) => Err(error),
     }
 }
 
 /// The check that fails of what no other check refused: whether a further process may be made, if
-/// the request makes one.
+/// the request makes one, and whether another process sends what is asked for.
 fn further_fault<'s, T: FileTree>(
     alloc: Global,
     world: &World<T>,
+    process: &Process,
     action: &Action,
 ) -> Result<Option<Fault<'s>>, OutOfMemory>
-    ensures { IfOk result (λ fault. (h : ProcessState) →
-        None ≡ refused_by (change_or_fault world.now.table world.now.tree h action.now) →
+    ensures { IfOk result (λ fault.
+        None ≡ refused_by (change_or_fault world.now.table world.now.tree process.now action.now) →
         option_map fault_seen fault
-        ≡ checks_fault (world_of world.now)
-        (change_or_fault world.now.table world.now.tree h action.now)) }
+        ≡ checks_fault (world_of world.now) process.now
+        (change_or_fault world.now.table world.now.tree process.now action.now)) }
 {
     match action {
         Action::Fork(new) => process_fault(alloc, world, *new),
+        Action::Take { from, theirs, .. } => Ok(take_fault(world, process, *from, *theirs)),
         _ => Ok(None),
     }
 }
@@ -171,6 +173,13 @@ fn fault_of<'s, T: FileTree>(
         Action::Exit | Action::Comment => Ok(None),
         Action::Uses(any) => Ok(uses_fault(process, any.sets())),
         Action::Fork(_) => Ok(fork_fault(process)),
+        Action::Hold { call, path, .. } => {
+            let fault = asked_fault(tree, table, process, *call, path.bytes(), &mut links);
+            Ok(fault)
+        }
+        Action::Close(number) => Ok(close_fault(process, *number)),
+        Action::Fchdir(number) => Ok(fchdir_fault(process, *number)),
+        Action::Take { .. } => Ok(receive_fault(process)),
     }
 }
 

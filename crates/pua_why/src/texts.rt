@@ -5,16 +5,17 @@ ghost use Rattle.std.specs.Prelude.{length, string_bytes};
 ghost use Rattle.pua_calls.specs.Promises.{lacking};
 ghost use Rattle.pua_path.specs.declared.traced.PathFault.TheVariants as faults;
 ghost use Rattle.pua_script.specs.Decide.{New};
-ghost use Rattle.pua_why.specs.Seen.{fact_seen, fault_seen, reason_seen, side_seen};
+ghost use Rattle.pua_why.specs.Seen.{fact_seen, fault_seen, file_fault_seen, reason_seen};
+ghost use Rattle.pua_why.specs.Seen.{side_seen};
 ghost use Rattle.pua_policy.specs.Verdict.{object_of, object_word};
 ghost use Rattle.pua_why.specs.Texts.{covering_dated, fact_dated, fault_text, found_text};
-ghost use Rattle.pua_why.specs.Texts.{joined_words};
+ghost use Rattle.pua_why.specs.Texts.{file_fault_text, joined_words};
 ghost use Rattle.pua_why.specs.Texts.{letters_text, misfit_text, of_exec_text};
 ghost use Rattle.pua_why.specs.Texts.{or_equals, path_fault_text, place_text, promises_text};
 ghost use Rattle.pua_why.specs.Texts.{reason_text, side_text, since_text, spot_text, target_text};
 ghost use Rattle.pua_why.specs.Texts.{text_fault_text, veil_text};
 
-use crate::told::{Fact, Fault, Reason, Side};
+use crate::told::{Fact, Fault, FileFault, Reason, Side};
 use crate::tree_paths::{TreePaths, push_spelled};
 use pua_calls::{Perms, Promises};
 use pua_path::{Found, MOST_PATH, PathFault, PathTextFault, Spot, Stop};
@@ -88,6 +89,7 @@ fn push_fault<T: FileTree>(
         Fault::NumberTaken(number) => write!(text, "process {number} exists"),
         Fault::NoProcessLeft => write!(text, "{MOST_PROCESSES} processes were made"),
         Fault::NoRoom => text.push_str("tree is full"),
+        Fault::WrongFile(ref fault) => push_file_fault(text, fault),
     }
 }
 
@@ -266,6 +268,24 @@ pub(crate) fn push_found<T: FileTree>(
     match found {
         Found::Whole { dir, .. } => paths.push_dir(text, *dir),
         Found::Slot { dir, name, .. } => paths.push_spot(text, *dir, name),
+    }
+}
+
+/// Adds what is wrong with a descriptor.
+fn push_file_fault(text: &mut String, fault: &FileFault) -> Result<(), AllocError>
+    ensures { OnOk result (string_bytes text.new
+        ≡ string_bytes text.old ++ file_fault_text (file_fault_seen fault.now)) }
+{
+    match *fault {
+        FileFault::NotOpen(number) => write!(text, "descriptor {number} is closed"),
+        FileFault::OpenNoDirectory(number) => write!(text, "descriptor {number} is no directory"),
+        FileFault::NotSent { from, theirs } => {
+            write!(text, "process {from} has no descriptor {theirs}")
+        }
+        FileFault::MayNotSend(from) => write!(text, "process {from} has no sendfd"),
+        FileFault::SendsDirectory { from, theirs } => {
+            write!(text, "descriptor {theirs} of process {from} is a directory")
+        }
     }
 }
 

@@ -15,6 +15,22 @@ pub enum Side {
     New,
 }
 
+/// What is wrong with a descriptor.
+#[derive(Clone, Copy)]
+pub enum FileFault {
+    /// A descriptor stands for no open file.
+    NotOpen(u32),
+    /// A descriptor is of no directory.
+    OpenNoDirectory(u32),
+    /// Another process has no such descriptor: there is no such process, it has ended, or the
+    /// descriptor is closed.
+    NotSent { from: u32, theirs: u32 },
+    /// Another process may not send what it has open.
+    MayNotSend(u32),
+    /// What another process has as a descriptor is a directory, and one of both was pledged.
+    SendsDirectory { from: u32, theirs: u32 },
+}
+
 /// Why a living process does not get what it asks for.
 #[derive(Clone, Copy)]
 pub enum Fault<'s> {
@@ -79,6 +95,8 @@ pub enum Fault<'s> {
     NoProcessLeft,
     /// The tree has no room for the change.
     NoRoom,
+    /// A descriptor is not what the request needs.
+    WrongFile(FileFault),
 }
 
 /// Why a request is answered as it is.

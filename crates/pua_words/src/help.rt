@@ -145,6 +145,10 @@ A line of SCRIPT is a process P, a call and its arguments, one blank between:
   P unveil PATH LETTERS           (of r, w, x and c, = is none; `- -` locks)
   P fork Q                        (Q is the number of the new process)
   P exit
+  P hold N open-r|open-w|open-rw PATH
+  P close|fchdir N
+  P take N Q M                    (what process Q has as descriptor M; these
+                                  four with `--rules openbsd` alone)
 
 A fault is a line on standard error. It says, or most often comes from:
   table: bad toml      FILE is no TOML document
@@ -306,6 +310,11 @@ Prints what `pua run` prints, then `objects P`, then the state of process P:
   veil PATH LETTERS   a line for each veil, = for no letters; PATH is where its
                       place stands now, - where the directory was removed
   no veils            where it has none: it touches what is not listed too
+  held N KIND PATH USES
+                      with `--rules openbsd`: a line for each path of what it
+                      has open as descriptor N, or one with - where that has no
+                      name; USES are read, write, chdir, chmod and chown, as the
+                      promises let them, whatever the veils are; = for none
 Then `KIND PATH CALLS` for each object on which a call is allowed. KIND is dir,
 file, prog or link; missing, a name that is not there but has a veil of its own;
 or other, all further names of the directory PATH. The calls stand in one order,
@@ -322,7 +331,8 @@ PATH now, wherever it is moved, and in the end on what they can make: `dir new`,
 `other new` (the names in such a directory), `file new` and `link new`. Of execs
 the state has `exec bounded`, and what they start is in the list, whatever it
 does; or `exec open`, and the list holds until an exec succeeds; or nothing, and
-then no exec of theirs can succeed.
+then no exec of theirs can succeed. With `--rules openbsd` the state can have
+`receive open`: what is open may come from others too.
 It is a list of one process, which can put no veil any more. With `--process
 1,2,..` or `--process all` it is one list of what several can ever touch
 together; those of them that live need the same veils. Then the heading is

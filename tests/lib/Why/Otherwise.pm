@@ -6,6 +6,7 @@ use strict;
 use warnings;
 use Exporter qw(import);
 use Why::Changed qw($NEW same_words_fault told_instead);
+use Why::Files;
 use Why::Processes;
 use Why::Promises;
 use Why::Texts;
@@ -17,7 +18,7 @@ our @EXPORT_OK = qw(words_fault);
 
 my %FAULT_OF = (
     %Why::Promises::FAULT_OF, %Why::Veils::FAULT_OF, %Why::Things::FAULT_OF, %Why::Texts::FAULT_OF,
-    %Why::Processes::FAULT_OF,
+    %Why::Processes::FAULT_OF, %Why::Files::FAULT_OF,
 );
 
 # The kinds of reasons that are about no path.

@@ -49,6 +49,11 @@ my @KINDS = (
     [ 'process exists',  qr/EAGAIN/,        qr/process (\d+) exists/ ],
     [ 'processes',       qr/EAGAIN/,        qr/256 processes were made/ ],
     [ 'full',            qr/ENOSPC/,        qr/tree is full/ ],
+    [ 'closed',            qr/EBADF/,       qr/descriptor (\d+) is closed/ ],
+    [ 'no directory open', qr/ENOTDIR/,     qr/descriptor (\d+) is no directory/ ],
+    [ 'not there',         qr/EBADF/,       qr/process (\d+) has no descriptor (\d+)/ ],
+    [ 'may not send',      qr/EPERM/,       qr/process (\d+) has no sendfd/ ],
+    [ 'sends a directory', qr/EINVAL/,      qr/descriptor (\d+) of process (\d+) is a directory/ ],
 );
 
 # Makes a world of a listing; in %$how, both optional: rules, for --rules, and table, the text of a table of
@@ -127,11 +132,11 @@ sub facts {
     return $world->lines_of($script, 'why', [ '--process', $process ], \@fields);
 }
 
-# The state of a process behind a script: a hash of the first words of its lines, and veils, a list of pairs
-# of a path and letters.
+# The state of a process behind a script: a hash of the first words of its lines, veils, a list of pairs
+# of a path and letters, and held, kinds by descriptor.
 sub state_of {
     my ($world, $script, $process) = @_;
-    return $world->_lists($script)->{$process} || { veils => [] };
+    return $world->_lists($script)->{$process} || { veils => [], held => {} };
 }
 
 # The kinds of all that stands in the tree behind a script, by paths, as OBSERVER sees it.
@@ -147,9 +152,10 @@ sub _lists {
     return $world->{lists}{$key} if $world->{lists}{$key};
     my (%lists, $list);
     for my $line ($world->lines_of($script, 'objects', '--process', 'all')) {
-        $list = $lists{$1} = { veils => [], things => {} } if $line =~ /\Aobjects (\d+)\z/;
+        $list = $lists{$1} = { veils => [], held => {}, things => {} } if $line =~ /\Aobjects (\d+)\z/;
         next if !$list;
         push @{ $list->{veils} }, [ $1, $2 ] if $line =~ /\Aveil (\S+) (\S+)\z/;
+        $list->{held}{$1} = $2 if $line =~ /\Aheld (\d+) (\S+) /;
         $list->{$1} = $2 if $line =~ /\A(process|promises|execpromises|unveil) (\S+)\z/;
         $list->{things}{$2} = $1 if $line =~ /\A(dir|file|prog|link) (\S+) /;
     }

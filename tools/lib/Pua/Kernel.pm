@@ -10,7 +10,8 @@ use Exporter qw(import);
 use Fcntl qw(O_CREAT O_NONBLOCK O_RDONLY O_RDWR O_WRONLY S_ISFIFO S_ISSOCK);
 use POSIX ();
 use Socket qw(AF_UNIX SOCK_STREAM);
-our @EXPORT_OK = qw(%TAKES $MOST_SOCKET answer_of_kernel execute has_pledge has_unveil named);
+our @EXPORT_OK
+    = qw(%TAKES $MOST_SOCKET answer_of_kernel answer_on_files execute has_pledge has_unveil named);
 
 # How many arguments each request of a script has.
 our %TAKES = (
@@ -18,6 +19,7 @@ our %TAKES = (
     (map { $_ => 1 } qw(chmod chdir exec connect bind mknod chown create-rw fchmod fchown fork)),
     (map { $_ => 1 } qw(access statfs truncate chflags utimes mkfifo)),
     (map { $_ => 2 } qw(symlink rename link pledge unveil)), exit => 0,
+    hold => 3, close => 1, fchdir => 1, take => 3,
 );
 
 # How many bytes of path a socket's address holds. Some systems have more; a longer path is asked of
@@ -28,6 +30,8 @@ my %FLAGS = (
     'open-r' => O_RDONLY, 'open-w' => O_WRONLY, 'open-rw' => O_RDWR, create => O_WRONLY | O_CREAT,
     'create-rw' => O_RDWR | O_CREAT,
 );
+
+my $O_PATH = 010000000;    # of Linux: an open that asks nothing of what it opens
 
 my $PLEDGE = eval { require OpenBSD::Pledge; 1 };
 my $UNVEIL = eval { require OpenBSD::Unveil; 1 };
@@ -45,7 +49,7 @@ sub named { my ($number) = @_; return $NAMES{$number} || "E$number" }
 # The numbers of system calls, where perl knows them: its own mkdir and rmdir take slashes away, and
 # its chdir, open and exec know further words.
 my @NUMBERED = qw(stat lstat open mkdir rmdir unlink symlink rename link readlink chmod chdir chown
-    access statfs execve pledge);
+    access statfs execve pledge fchdir pidfd_open pidfd_getfd);
 my %NUMBERS;
 if (eval { local $SIG{__WARN__} = sub { }; require 'sys/syscall.ph'; 1 }) {
     for my $call (@NUMBERED) {
@@ -123,21 +127,69 @@ sub is_started {
     return $is_there || $errno == Errno::ENOEXEC();
 }
 
-# A fifo whose open would wait, and a socket, which no system opens, are files to pua: ok.
-sub opened {
-    my ($call, $path) = @_;
-    my $flags = $FLAGS{$call} | O_NONBLOCK;
+# A fifo whose open would wait, and a socket, which no system opens, are files to pua: ok. The answer,
+# and the descriptor, if there is one.
+sub opening {
+    my ($path, $flags) = @_;
     my $fd;
-    if    (defined $NUMBERS{open}) { $fd = syscall $NUMBERS{open}, $path, $flags, 0666 }
+    if    (defined $NUMBERS{open}) { $fd = syscall $NUMBERS{open}, $path, $flags | O_NONBLOCK, 0666 }
     elsif ($path eq '')            { nothing_there() }
-    else                           { $fd = POSIX::open($path, $flags, 0666) }
-    if (defined $fd && $fd >= 0) { POSIX::close($fd); return 'ok' }
+    else                           { $fd = POSIX::open($path, $flags | O_NONBLOCK, 0666) }
+    return ('ok', $fd) if defined $fd && $fd >= 0;
     my $errno = $! + 0;
     if ($errno == Errno::ENXIO() || $errno == Errno::EOPNOTSUPP()) {
         my @fields = stat $path;
         return 'ok' if @fields && (S_ISFIFO($fields[2]) || S_ISSOCK($fields[2]));
     }
     return named($errno);
+}
+
+sub opened {
+    my ($call, $path) = @_;
+    my ($answer, $fd) = opening($path, $FLAGS{$call});
+    POSIX::close($fd) if defined $fd;
+    return $answer;
+}
+
+# The answer to a call about descriptors of this process, and what else is told: the new descriptor,
+# or of `held` the device, the number and the links of what is open.
+my %ON_FILES = (
+    close  => sub { told(POSIX::close($_[0])) },
+    fchdir => \&enter,
+    take   => \&take,
+    held   => sub { my @fields = POSIX::fstat($_[0]); return @fields ? "ok @fields[0, 1, 3]" : told(0) },
+);
+sub answer_on_files {
+    my ($call, @words) = @_;
+    return hold($1, pack 'H*', substr $words[0], 1) if $call =~ /\Ahold-(.*)/;
+    return $ON_FILES{$call}->(map { $_ + 0 } @words);
+}
+
+# What pua holds and no system opens has a descriptor on Linux alone.
+sub hold {
+    my ($call, $path) = @_;
+    my ($answer, $fd) = opening($path, $FLAGS{$call});
+    ($answer, $fd) = opening($path, $O_PATH) if $answer eq 'ok' && !defined $fd && $^O eq 'linux';
+    return $answer ne 'ok' ? $answer : defined $fd ? "ok $fd" : 'left-out';
+}
+
+sub enter {
+    my ($fd) = @_;
+    return told(syscall($NUMBERS{fchdir}, $fd) != -1) if defined $NUMBERS{fchdir};
+    open my $dir, '<&', $fd or return told(0);
+    return told(chdir $dir);
+}
+
+# Takes a descriptor of another process, as Linux alone lets one that sends nothing.
+sub take {
+    my ($pid, $theirs) = @_;
+    return 'left-out' if grep { !defined $NUMBERS{$_} } qw(pidfd_open pidfd_getfd);
+    my $process = syscall $NUMBERS{pidfd_open}, $pid, 0;
+    return told(0) if $process == -1;
+    my $taken = syscall $NUMBERS{pidfd_getfd}, $process, $theirs, 0;
+    my $answer = $taken == -1 ? told(0) : "ok $taken";
+    POSIX::close($process);
+    return $answer;
 }
 
 # What was opened for reading is changed by its descriptor, to the bits or the owner that it has.

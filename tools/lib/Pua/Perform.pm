@@ -10,10 +10,12 @@ use Fcntl qw(O_CREAT O_WRONLY);
 use File::Temp qw(tempdir);
 use IO::Handle ();
 use POSIX ();
-use Pua::Kernel qw(%TAKES answer_of_kernel execute);
+use Pua::Kernel qw(%TAKES answer_of_kernel answer_on_files execute);
 our @EXPORT_OK = qw(perform requests_of);
 
 my $PATIENCE = 3000;    # hundredths of a second in which a process has to answer
+my $NO_FILE  = 999_999;    # a descriptor that no process has
+my $ON_FILES = qr/\A(?:hold-.*|close|fchdir|take|held)\z/;
 
 # The bytes that a field spells; `=` is the empty text where it is an argument.
 sub bytes { my ($field) = @_; $field =~ s/\\([0-3][0-7][0-7])/chr oct $1/ge; return $field }
@@ -141,14 +143,27 @@ sub walk {
     return;
 }
 
-# What stands below a directory: a line `KIND PATH` for each name, as `pua objects` has them.
+# What stands below a directory: a line `KIND PATH` for each name, as `pua objects` has them; and what
+# is open, `held PROCESS NUMBER PATH` for each of its names, or one line with `-`. @held has process,
+# number, device, number of the node and links.
 sub left {
-    my ($root) = @_;
+    my ($root, @held) = @_;
     chdir $root or die "$root: $!\n";
     my @lines = ('dir /');
-    my $note = sub { my ($path, $name, $kind) = @_; push @lines, "$kind $path/" . spelled($name) };
+    my %paths = (join(' ', (lstat '.')[0, 1]) => ['/']);
+    my $note = sub {
+        my ($path, $name, $kind) = @_;
+        my $whole = "$path/" . spelled($name);
+        push @lines, "$kind $whole";
+        push @{ $paths{ join ' ', (lstat $name)[0, 1] } }, $whole;
+    };
     walk('', $note, sub { });
     chdir '/';
+    for my $file (@held) {
+        my ($process, $number, $device, $node, $links) = @$file;
+        my @paths = $links ? @{ $paths{"$device $node"} || ['?'] } : '-';
+        push @lines, map { "held $process $number $_" } @paths;
+    }
     return join '', map { "$_\n" } sort @lines;
 }
 
@@ -164,8 +179,8 @@ sub clear {
 
 # Performs the text of a script over that of a listing. In %$how, optional: room, where temporary
 # directories are made; helper, a static program made of conform.c, which then makes all calls;
-# left, whether what is left is asked for. Gives a list of the answers, and the lines of what is
-# left.
+# left, whether what is left, and open, is asked for. Gives a list of the answers, and the lines of
+# what is left.
 sub perform {
     my ($listing, $script, $how) = @_;
     my $tree = tree_of($listing);
@@ -173,13 +188,13 @@ sub perform {
     my $case = tempdir('conform.XXXXXXXX', DIR => $how->{room} || '/tmp', CLEANUP => 0);
     my $back = POSIX::getcwd();
     my $mask = umask 0;
-    my ($answers, $left);
+    my ($answers, $left, $held);
     my $is_done = eval {
         mkdir "$case/$_" or die "$case/$_: $!\n" for qw(root stage);
         make_tree($tree, "$case/root", "$case/stage", $how->{helper});
         chdir '/';
-        $answers = answers_to(\@requests, "$case/root", $how->{helper});
-        $left = left("$case/root") if $how->{left};
+        ($answers, $held) = answers_to(\@requests, "$case/root", $how);
+        $left = left("$case/root", @$held) if $how->{left};
         1;
     };
     my $fault = $@;
@@ -190,10 +205,11 @@ sub perform {
     return ($answers, $left);
 }
 
-# The answers to requests in a directory, undef where nobody asks. Each process is told its calls by
-# a pipe of its own, and all of them answer by one; who is gone without an answer was killed.
+# The answers to requests in a directory, undef where nobody asks, and what is open in the end. Each
+# process is told its calls by a pipe of its own, and all of them answer by one; who is gone without
+# an answer was killed.
 sub answers_to {
-    my ($requests, $root, $helper) = @_;
+    my ($requests, $root, $how) = @_;
     local $^F = 255;    # pipes stay open when the helper is started
     local $SIG{PIPE} = 'IGNORE';
     my %to;
@@ -206,15 +222,18 @@ sub answers_to {
     pipe my $from, my $teller or die "pipe: $!\n";
     my $child = fork;
     die "fork: $!\n" unless defined $child;
-    begin($root, $helper, $from, $teller, \%to) if !$child;
+    begin($root, $how->{helper}, $from, $teller, \%to) if !$child;
     close $teller;
     close $_->[0] for values %to;
-    my $run = { pid => { 1 => $child }, used => { 1 => 1 }, to => \%to, from => $from, held => '' };
+    my $run = {
+        pid => { 1 => $child }, used => { 1 => 1 }, files => {}, to => \%to, from => $from, rest => '',
+    };
     my @answers = map { @$_ ? answer_to($run, @$_) : undef } @$requests;
+    my @held = $how->{left} ? held_in($run) : ();
     close $_->[1] for values %to;
     close $from;
     waitpid $child, 0;
-    return \@answers;
+    return (\@answers, \@held);
 }
 
 # Process 1 in its child, which doesn't return.
@@ -245,15 +264,65 @@ sub answer_to {
     return 'gone' unless defined $run->{pid}{$process};
     # A kernel has no such number: this is the tool's, as it is pua's.
     return 'EAGAIN' if $call eq 'fork' && $run->{used}{ $arguments[0] };
-    print { $run->{to}{$process}[1] } join(' ', $call, told_words($call, @arguments)), "\n";
-    my $told = next_answer($run, $process);
-    my ($answer, $pid) = defined $told ? split / /, $told : 'killed';
+    return answer_on($run, $process, $call, @arguments)
+        if $call =~ /\A(?:hold|close|fchdir|take)\z/;
+    my ($answer, $pid) = asked($run, $process, $call, told_words($call, @arguments));
     if ($call eq 'fork' && $answer eq 'ok') {
         $run->{pid}{ $arguments[0] } = $pid;
         $run->{used}{ $arguments[0] } = 1;
+        $run->{files}{ $arguments[0] } = { %{ $run->{files}{$process} || {} } };
     }
-    delete $run->{pid}{$process} if $answer eq 'killed' || $call eq 'exit';
-    return $answer =~ /\A[0-9]+\z/ ? Pua::Kernel::named($answer) : $answer;
+    delete $run->{pid}{$process} if $call eq 'exit';
+    return $answer;
+}
+
+# What a process answers when it is told a call, and what else it tells.
+sub asked {
+    my ($run, $process, @words) = @_;
+    print { $run->{to}{$process}[1] } "@words\n";
+    my $told = next_answer($run, $process);
+    my ($answer, @more) = defined $told ? split / /, $told : 'killed';
+    delete $run->{pid}{$process} if $answer eq 'killed';
+    return ($answer =~ /\A[0-9]+\z/ ? Pua::Kernel::named($answer) : $answer, @more);
+}
+
+# The answer to a request about descriptors. A process has others for those of the script; an exec
+# leaves both. That nothing can be taken of who has it not is this tool's word, as it is pua's.
+sub answer_on {
+    my ($run, $process, $call, $number, @arguments) = @_;
+    my $files = $run->{files}{$process} ||= {};
+    my $own = exists $files->{$number} ? $files->{$number} : $NO_FILE;
+    if ($call eq 'close' || $call eq 'fchdir') {
+        my ($answer) = asked($run, $process, $call, $own);
+        delete $files->{$number} if $call eq 'close' && $answer eq 'ok';
+        return $answer;
+    }
+    my @words = ("hold-$arguments[0]", told_words($call, $arguments[1]));
+    if ($call eq 'take') {
+        my ($from, $theirs) = @arguments;
+        my $file = $run->{files}{$from}{$theirs};
+        return 'EBADF' if !defined $run->{pid}{$from} || !defined $file;
+        @words = ('take', $run->{pid}{$from}, $file);
+    }
+    my ($answer, $new) = asked($run, $process, @words);
+    return $answer if $answer ne 'ok';
+    asked($run, $process, 'close', $own) if $own != $NO_FILE;
+    $files->{$number} = $new;
+    return 'ok';
+}
+
+# What the living processes have open: process and number, and what is told of it.
+sub held_in {
+    my ($run) = @_;
+    my @held;
+    for my $process (sort { $a <=> $b } keys %{ $run->{pid} }) {
+        my $files = $run->{files}{$process} || {};
+        for my $number (sort { $a <=> $b } keys %$files) {
+            my ($answer, @node) = asked($run, $process, 'held', $files->{$number});
+            push @held, [$process, $number, @node] if $answer eq 'ok';
+        }
+    }
+    return @held;
 }
 
 # The arguments as a process is told them: `.` and hexadecimal digits; `-` for NULL.
@@ -269,11 +338,11 @@ sub next_answer {
     my ($run, $process) = @_;
     my ($pid, $is_dead) = ($run->{pid}{$process}, 0);
     for (0 .. $PATIENCE) {
-        return $1 if $run->{held} =~ s/\A([^\n]*)\n//;
+        return $1 if $run->{rest} =~ s/\A([^\n]*)\n//;
         my $ready = '';
         vec($ready, fileno $run->{from}, 1) = 1;
         if (select $ready, undef, undef, $is_dead ? 0 : 0.01) {
-            sysread $run->{from}, $run->{held}, 65_536, length $run->{held} or return;
+            sysread $run->{from}, $run->{rest}, 65_536, length $run->{rest} or return;
             next;
         }
         return if $is_dead;
@@ -301,6 +370,7 @@ sub work {
             else                    { $from = $to->{ $words[0] }[0] }
             next;
         }
+        if ($call =~ $ON_FILES) { $say->(answer_on_files($call, @words)); next }
         $say->(answer_of_kernel($call, map { $_ eq '-' ? undef : pack 'H*', substr $_, 1 } @words));
     }
 }

@@ -79,6 +79,23 @@ fn refused_unveil_locks(world: &mut World<ListTree>, request: &Request, number: 
     }
 }
 
+/// Where memory is refused no descriptor stands for what it didn't.
+fn refused_hold_opens(world: &mut World<ListTree>, request: &Request, process: u32, number: u32) {
+    let before = match world.process(process) {
+        Some(process) => process.file(number).is_some(),
+        None => return,
+    };
+    let Err(_refused) = world.apply(request) else {
+        return;
+    };
+    let Some(process) = world.process(process) else {
+        unreachable!()
+    };
+    if process.file(number).is_some() != before {
+        unreachable!()
+    }
+}
+
 /// The numbers of a new world are not none: process 1 is made.
 fn last_number_left_out(alloc: Global, tree: ListTree) {
     let Ok(world) = World::new(alloc, tree, CallTable::standard()) else {

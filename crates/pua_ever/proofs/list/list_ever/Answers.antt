@@ -18,7 +18,7 @@ returns-clause-rows g c =
     (ap (λ xs. ever_lines_of t table h (flat_map both_of xs ++ made_left (Some Dir)))
     (ap (items_told t []) same ∙ given.items) ∙ lines_first t table h)
     (c.in-Ok-add_made.ensures.told t table h c.deref.result.now found
-    (c.in-Ok-rows_of.ensures.told t c.known.ensures (c.why_refused.ensures.none c.in_default.is) found
+    (c.in-Ok-rows_of.ensures.told c.known.ensures (c.why_refused.ensures.none c.in_default.is) found
     (subst (AllByRecursion (IsToldIn t c.args.process.now)) (sym same) given.told) (subst (AreNear []) (sym same) given.near)))
 
 pub returns-clause-items : goal.returns-clause-items

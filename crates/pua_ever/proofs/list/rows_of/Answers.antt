@@ -10,8 +10,9 @@ use Rattle.pua_ever.proofs.RowsTell.{near_at, told_at}
 use Rattle.pua_ever.proofs.list.rows_of.Goals as goal
 
 pub loop-item-preserved : goal.loop-item-preserved
-loop-item-preserved c = record {
-  told = λ t fits needs found all near.
+loop-item-preserved g c = record {
+  told = λ fits needs found all near.
+      let t = g.T.FileTree.content c.args.tree.now in
       let h = c.args.process.now in
       let table = c.args.table.now in
       let items = c.args.items.now in
@@ -22,14 +23,14 @@ loop-item-preserved c = record {
       let now : AreRowsSoFar t table h items (take i items) (item ∷ drop (i + 1) items) rows =
       subst (λ left. AreRowsSoFar t table h items (take i items) left rows)
       (drop_more items i item within ∙ ap (λ x. x ∷ drop (i + 1) items) (sym c.item-item.is))
-      (c.loop-item.invariant.told t fits needs found all near) in
+      (c.loop-item.invariant.told fits needs found all near) in
       let taken : take (i + 1) items ≡ take i items ++ item ∷ [] =
       ap (λ n. take n items) (add-one i) ∙ take-suc items i item within ∙ ap (λ x. take i items ++ x ∷ []) (sym c.item-item.is) in
       let here : IsToldIn t h item = subst (IsToldIn t h) (sym c.item-item.is) (told_at (IsToldIn t h) items i item all within) in
       let close : item.depth ≤ length (last_word [] (take i items)) =
       subst (λ (x : ListItem). x.depth ≤ length (last_word [] (take i items))) (sym c.item-item.is) (near_at [] items i item near within) in
       subst (λ so_far. AreRowsSoFar t table h items so_far (drop (i + 1) items) c.add_rows.new.rows.items) (sym taken)
-      (c.in_ok-add_rows.ensures.told t items (take i items) (drop (i + 1) items) fits needs found here close now);
+      (c.in_ok-add_rows.ensures.told items (take i items) (drop (i + 1) items) fits needs found here close now);
   items = λ t fits all.
       let h = c.args.process.now in
       let items = c.args.items.now in
@@ -40,7 +41,8 @@ loop-item-preserved c = record {
 }
 
 pub returns-clause-told : goal.returns-clause-told
-returns-clause-told c = λ t fits needs found all near.
+returns-clause-told g c = λ fits needs found all near.
+    let t = g.T.FileTree.content c.args.tree.now in
     let h = c.args.process.now in
     let table = c.args.table.now in
     let items = c.args.items.now in
@@ -50,4 +52,4 @@ returns-clause-told c = λ t fits needs found all near.
     (ever_lines_of t table h (flat_map both_of (items_told t [] items) ++ made_left (Some Dir)))
     (ever_lines_of t table h (flat_map both_of (items_told t word left) ++ made_left (Some Dir))))
     (drop_of_length-le items (omega (arith, c.loop-item-test.false)))
-    (c.loop-item.invariant.told t fits needs found all near).told
+    (c.loop-item.invariant.told fits needs found all near).told

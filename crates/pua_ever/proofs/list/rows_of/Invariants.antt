@@ -7,9 +7,10 @@ use Rattle.pua_ever.specs.Prospects.{IsProspects}
 use Rattle.pua_ever.proofs.list.rows_of.Given as goal
 
 abbrev pub invariant-loop-item : goal.invariant-loop-item
-invariant-loop-item l = record {
-  told : (t : Tree) → WellFormed t → EditsNeedC l.table → IsProspects t l.table l.process l.prospects →
-      AllByRecursion (IsToldIn t l.process) l.items → AreNear [] l.items →
-      AreRowsSoFar t l.table l.process l.items (take l.item-index l.items) (drop l.item-index l.items) l.rows.items;
+invariant-loop-item g l = record {
+  told : WellFormed (g.T.FileTree.content l.tree) → EditsNeedC l.table →
+      IsProspects (g.T.FileTree.content l.tree) l.table l.process l.prospects →
+      AllByRecursion (IsToldIn (g.T.FileTree.content l.tree) l.process) l.items → AreNear [] l.items →
+      AreRowsSoFar (g.T.FileTree.content l.tree) l.table l.process l.items (take l.item-index l.items) (drop l.item-index l.items) l.rows.items;
   items : (t : Tree) → WellFormed t → AllByRecursion (IsToldIn t l.process) l.items → AllByRecursion (IsRowOn t l.process) l.rows.items;
 }

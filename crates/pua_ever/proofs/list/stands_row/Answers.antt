@@ -4,10 +4,10 @@ use Rattle.pua_ever.specs.EverList.{IsStandingOn, subject_at}
 use Rattle.pua_ever.proofs.list.stands_row.Goals as goal
 
 pub returns-clause-about : goal.returns-clause-about
-returns-clause-about c = λ t. ap (option_map Stands) ((λ i. subject_at t (c.name.ensures i) c.place_of.result) ∙ c.place_of.ensures t)
+returns-clause-about g c = λ t. ap (option_map Stands) ((λ i. subject_at t (c.name.ensures i) c.place_of.result) ∙ c.place_of.ensures t)
 
 pub returns-clause-on : goal.returns-clause-on
-returns-clause-on c = λ t h told.
+returns-clause-on g c = λ t h told.
     let item = c.args.item.now.item in
     subst (λ (o : Option Subject). IfSome o (IsStandingOn t h item.object item.cover))
     (sym ((λ i. subject_at t (c.name.ensures i) c.place_of.result) ∙ c.place_of.ensures t))

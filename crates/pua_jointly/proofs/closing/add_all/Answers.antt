@@ -1,4 +1,5 @@
-use Rattle.pua_jointly.proofs.Common.{◌≡◌, ◌<◌, ◌∙◌, ℕ, sym, subst, List, false≢true}
+use Rattle.pua_jointly.proofs.Common.{◌≡◌, ◌<◌, ◌∙◌, ℕ, arith, length, sym, subst, List, false≢true}
+use Rattle.std.proofs.lemmas.Grind.{common_steps}
 use Rattle.pua_jointly.specs.Closing.{knows, room}
 use Rattle.pua_jointly.proofs.Gaining.{closed_to, still_fewer}
 use Rattle.pua_jointly.proofs.closing.add_all.Goals as goal
@@ -22,11 +23,12 @@ loop-at-preserved g c =
       }
       | else-add_word w ↦
           let same : new ≡ told = c.add_word.ensures.same w.if-add_word.false in
+          let low : at < length new = grind (arith, common_steps) in
           record {
             full = c.add_word.ensures.full ∙ inv.full;
             reached = λ from. c.add_word.ensures.reached (inv.reached from);
             same = λ no. same ∙ inv.same (sym w.is_changed-is ∙ no);
-            closed = λ no. closed_to follows new at (c.add_word.ensures.closed w.if-add_word.false)
+            closed = λ no. closed_to follows new at (c.add_word.ensures.closed w.if-add_word.false low)
                 (subst (λ xs. (a : ℕ) → a < at → (bit : ℕ) → follows xs a bit → knows xs a bit) (sym same)
                 (inv.closed (sym w.is_changed-is ∙ no)));
             fewer = λ yes. subst (λ xs. room xs < room c.args.told.now.items) (sym same) (inv.fewer (sym w.is_changed-is ∙ yes));

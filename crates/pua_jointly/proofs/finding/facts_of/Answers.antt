@@ -8,10 +8,6 @@ use Rattle.pua_jointly.proofs.JointTabled.{table_law}
 use Rattle.pua_jointly.proofs.JointWorked.{count_is}
 use Rattle.pua_jointly.proofs.finding.facts_of.Goals as goal
 
-pub close-requires-clause-count : goal.close-requires-clause-count
-close-requires-clause-count g c =
-    c.in-Some.ensures ∙ count_is (g.T.FileTree.content c.args.tree.now) c.args.table.now c.in_ok-crew.crew c.in_ok-crew.ensures.worked
-
 pub returns : goal.returns
 returns g c =
     let t = g.T.FileTree.content c.args.tree.now in
@@ -28,6 +24,6 @@ returns g c =
           c.in_ok-told.ensures.closed c.in_ok-told.ensures.reached;
       held = subst (λ (es : List Entry). AreMarked (stays_in crew c.in_ok-told.told.items) es (dirs_of crew) c.in_ok-held.held.items)
           c.deref.ensures.value c.in_ok-held.ensures.held;
-      turned = subst (λ (es : List Entry). AreMarked (turns_in table crew c.in_ok-told.told.items) es (dirs_of crew) c.in_ok-held.turned.items)
+      turned = subst (λ (es : List Entry). AreMarked (turns_in crew c.in_ok-told.told.items) es (dirs_of crew) c.in_ok-held.turned.items)
           c.deref.ensures.value c.in_ok-held.ensures.turned;
     }

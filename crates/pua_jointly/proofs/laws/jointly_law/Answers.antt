@@ -3,7 +3,7 @@ use Rattle.pua_jointly.proofs.JointlyDone.{jointly_within, jointly_complete, joi
 use Rattle.pua_jointly.proofs.JointlyLasts.{jointly_lasts}
 use Rattle.pua_jointly.proofs.JointLasting.{jointly_told}
 use Rattle.pua_jointly.proofs.JointlyGrows.{joint_lists_grow, jointly_grows}
-use Rattle.pua_jointly.proofs.JointTurning.{joint_starts_listed}
+use Rattle.pua_jointly.proofs.JointTurning.{joint_held_listed, joint_starts_listed}
 use Rattle.pua_jointly.proofs.laws.jointly_law.Goals as goal
 
 pub returns-clause-within : goal.returns-clause-within
@@ -29,6 +29,9 @@ returns-clause-lists c = joint_lists_grow
 
 pub returns-clause-starts : goal.returns-clause-starts
 returns-clause-starts c = joint_starts_listed
+
+pub returns-clause-held : goal.returns-clause-held
+returns-clause-held c = joint_held_listed
 
 pub returns-clause-told : goal.returns-clause-told
 returns-clause-told c = jointly_told

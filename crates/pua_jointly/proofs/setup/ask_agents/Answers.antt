@@ -16,18 +16,18 @@ loop-place-preserved c =
     let members = c.args.members.now in
     let place : ℕ = c.loop-place.place in
     let agents : List Agent = c.loop-place.agents.items in
-    let agent : Agent = c.agent.result in
+    let agent : Agent = c.in_ok-agent.agent in
     let inv = c.loop-place.invariant in
     let low : place < length members = c.loop-place-test.true in
     let items : c.push.new.self.items ≡ agents ++ agent ∷ [] = c.in_ok-push.ensures.items in
     let count : length agents ≡ place =
     as_many (λ (agent : Agent). agent.process.now) (λ (p : Bor ProcessState). p.now) agents members place inv.crew (omega (arith, low)) in
     let here : IsAgent table (last + 1) many place agent.process.now agent =
-    subst (λ b. IsAgent table (last + 1) many place b agent) (sym c.agent.ensures.process) c.agent.ensures.is in
+    subst (λ b. IsAgent table (last + 1) many place b agent) (sym c.in_ok-agent.ensures.process) c.in_ok-agent.ensures.is in
     record {
       crew = ap (map (λ (agent : Agent). agent.process.now)) items
           ∙ map_more (λ (agent : Agent). agent.process.now) (λ (p : Bor ProcessState). p.now) agents members place agent
-          c.index-members-place.result low c.index-members-place.is inv.crew c.agent.ensures.process;
+          c.index-members-place.result low c.index-members-place.is inv.crew c.in_ok-agent.ensures.process;
       each = subst (Each (λ i agent. IsAgent table (last + 1) many i agent.process.now agent)) (sym items)
           (each_more (λ i agent. IsAgent table (last + 1) many i agent.process.now agent) agents agent inv.each
           (subst (λ k. IsAgent table (last + 1) many k agent.process.now agent) (sym count) here));

@@ -33,6 +33,7 @@ returns-clause-worked g c =
       entries = c.in_ok-entries.entries;
       marks = c.in_ok-marks.marks;
       watches = c.in_ok-watches.watches;
+      watch_columns = c.in_ok-watches.watch_columns;
     } in
     let same : crew_told crew ≡ states members = c.in_ok-agents.ensures.crew ∙ ap states c.deref-6.ensures.value in
     let all_are : map veil_now lent ≡ flat_map veils (crew_told crew) = c.in_ok-veils.ensures
@@ -58,7 +59,7 @@ returns-clause-worked g c =
     (subst (λ (es : List Entry). AreMarksOf t es (map veil_now c.deref-9.result.now) c.in_ok-marks.marks.items) c.deref-8.ensures.value
     c.in_ok-marks.ensures))
     (subst (λ (vs : List (Bor Place × Bor ℕ)). AreWatched t c.len.result (c.last_number.result + 1) (map veil_now vs) c.in_ok-watches.watches.items)
-    c.deref-5.ensures.value c.in_ok-watches.ensures) c.in_ok-seats.ensures
+    c.deref-5.ensures.value c.in_ok-watches.ensures.watches) c.in_ok-watches.ensures.columns c.in_ok-seats.ensures
     (in_order t.rows c.in_ok-entries.entries.items c.known.ensures.rows_in_order c.in_ok-entries.ensures.rows)
 
 pub find_marks-requires : goal.find_marks-requires

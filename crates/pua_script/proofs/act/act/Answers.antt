@@ -42,6 +42,23 @@ returns-in-Uses-clause-exact g c =
     ∙ sym (ap (decide c.args.table.now t c.args.process.now) c.in-Uses.is)) _ _
     c.answer-in-Uses.result c.answer-in-Uses.ensures.exact
 
+pub returns-in-Close-clause-exact : goal.returns-in-Close-clause-exact
+returns-in-Close-clause-exact g c =
+    let t = g.T.FileTree.content c.args.tree.now in
+    acts c.args.table.now t c.args.process.now c.args.action.now c.decide_close-granted.result
+    (c.decide_close-granted.ensures ∙ sym (ap (decide c.args.table.now t c.args.process.now) c.in-Close.is)) _ _
+    c.answer-in-Close.result c.answer-in-Close.ensures.exact
+
+pub returns-in-Fchdir-clause-exact : goal.returns-in-Fchdir-clause-exact
+returns-in-Fchdir-clause-exact g c =
+    let t = g.T.FileTree.content c.args.tree.now in
+    acts c.args.table.now t c.args.process.now c.args.action.now c.decide_fchdir-granted.result
+    (c.decide_fchdir-granted.ensures ∙ sym (ap (decide c.args.table.now t c.args.process.now) c.in-Fchdir.is)) _ _
+    c.answer-in-Fchdir.result c.answer-in-Fchdir.ensures.exact
+
+pub returns-in-Hold-clause-exact : goal.returns-in-Hold-clause-exact
+returns-in-Hold-clause-exact g c = rw (c.in-Hold.is, ← c.bytes-in-Hold.ensures) c.hold.ensures.exact
+
 pub returns-in-Comment-clause-exact : goal.returns-in-Comment-clause-exact
 returns-in-Comment-clause-exact g c =
     let t = g.T.FileTree.content c.args.tree.now in

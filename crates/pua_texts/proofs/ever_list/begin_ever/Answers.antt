@@ -1,4 +1,4 @@
-use Rattle.pua_texts.proofs.Common.{◌++◌, ◌∙◌, [], ap, subst, sym}
+use Rattle.pua_texts.proofs.Common.{◌++◌, ◌∙◌, [], ap, subst, sym, Tree}
 use Rattle.pua_ever.specs.EverList.{AreEverTold}
 use Rattle.pua_ever.specs.Through.{ever_lasting}
 use Rattle.pua_texts.specs.EndingsState.{EndingsState}
@@ -9,9 +9,10 @@ use Rattle.pua_texts.proofs.Outcomes.{if_ok}
 use Rattle.pua_texts.proofs.ever_list.begin_ever.Goals as goal
 
 pub returns : goal.returns
-returns c = if_ok c.list_with.result (λ lists are t table lasting.
+returns g c = if_ok c.list_with.result (λ lists are table lasting.
+    let t : Tree = g.T.FileTree.content c.args.tree.now in
     let h = c.args.process.now in
     let lines = ap (λ (s : EndingsState). lines_text s [] c.in_ok-lines.lines.items) c.plain-columns.ensures ∙
     c.in_ok-lines.ensures t (ever_lasting t table h)
     (subst (λ rows. AreEverTold t [] rows (ever_lasting t table h) []) (sym c.as_slice.ensures.value) lasting.rows) in
-    are t ∙ (λ j. head_lines t (heading_ever c.args.rules (lasting.execs j) c.args.number) h ++ lines j)) c.list_with.ensures
+    are ∙ (λ j. head_lines t (heading_ever c.args.rules (lasting.execs j) c.args.number) h ++ lines j)) c.list_with.ensures

@@ -1,11 +1,15 @@
 use Rattle.pua_texts.proofs.Common.{◌++◌, err_from_is_err_and, refl, string_bytes}
-use Rattle.pua_texts.specs.States.{execs_told, openings_told, unveiled_line}
+use Rattle.pua_texts.specs.States.{execs_told, openings_told, receives_told, unveiled_line}
 use Rattle.pua_texts.proofs.Outcomes.{ok_text}
 use Rattle.pua_texts.proofs.States.{text_more}
 use Rattle.pua_texts.proofs.state.push_bounds.Goals as goal
 
 pub returns-in_err-push_execs : goal.returns-in_err-push_execs
 returns-in_err-push_execs c = rw (err_from_is_err_and c.from_residual.result c.from_residual.ensures.1).1 tt
+
+pub returns-in_err-push_receives : goal.returns-in_err-push_receives
+returns-in_err-push_receives c =
+    rw (err_from_is_err_and c.from_residual-in_err-push_receives.result c.from_residual-in_err-push_receives.ensures.1).1 tt
 
 pub returns-in_err-push_opened : goal.returns-in_err-push_opened
 returns-in_err-push_opened c = rw (err_from_is_err_and c.from_residual-in_err-push_opened.result c.from_residual-in_err-push_opened.ensures.1).1 tt
@@ -15,9 +19,13 @@ returns c =
     let h = c.args.process.now in
     let old = string_bytes c.args.text.now in
     let execs = string_bytes c.push_execs.new.text in
+    let received = string_bytes c.push_receives.new.text in
     let opened = string_bytes c.push_opened.new.text in
     let told = execs_told c.args.time in
+    let receives = receives_told c.args.rules c.args.time h in
     let opening = openings_told c.args.rules c.args.time h in
     ok_text c.push_unveiled.result (string_bytes c.push_unveiled.new.text)
-    (text_more old (told ++ opening) (unveiled_line h) opened _
-    (text_more old told opening execs opened c.in_ok-push_execs.ensures c.in_ok-push_opened.ensures) refl) c.push_unveiled.ensures
+    (text_more old (told ++ receives ++ opening) (unveiled_line h) opened _
+    (text_more old (told ++ receives) opening received opened
+    (text_more old told receives execs received c.in_ok-push_execs.ensures c.in_ok-push_receives.ensures) c.in_ok-push_opened.ensures) refl)
+    c.push_unveiled.ensures

@@ -13,5 +13,5 @@ returns g c = if_ok c.begin_beside.result (λ list told.
     let h : ProcessState = c.args.member.now.process.now in
     list_told c.args.rules c.args.table.now t (c.args.member.now.number, h) (named_by c.args.others.now) (is_ended h) c.in_ok-found.found
     (list_text t list) c.in_ok-found.ensures
-    (λ lines are. told t lines (subst (λ (rows : List EverRow). AreEverTold t [] rows lines []) (sym c.as_slice.ensures.value) are)))
+    (λ lines are. told lines (subst (λ (rows : List EverRow). AreEverTold t [] rows lines []) (sym c.as_slice.ensures.value) are)))
     c.begin_beside.ensures

@@ -59,5 +59,5 @@ returns g c =
     (answers_told g.S.Sink.written g.S.Sink.failed (unless_reason n (refusal done.table h) (text h)) (text h) c.put_lists.result c.args.sink.now
     c.put_lists.new.sink (ap (λ reason. unless_reason n reason (text h)) listed)
     (subst (λ (text : List ℕ). AnswersTo g.S.Sink.written g.S.Sink.failed (Ok text) c.put_lists.result c.args.sink.now c.put_lists.new.sink)
-    ((λ i. front i ++ c.in_ok-lists.ensures c.tree-tree.result.now wide lasting i)
+    ((λ i. front i ++ c.in_ok-lists.ensures wide lasting i)
     ∙ (λ i. answer_lines 1 done.answers ++ ever_list c.args.rules (ruled i) (c.tree-tree.ensures i) n h)) c.put_lists.ensures))

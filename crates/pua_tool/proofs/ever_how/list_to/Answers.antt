@@ -97,7 +97,7 @@ returns g c =
     ap (λ told. answer_lines 1 (map line_seen told)) c.as_slice-2.ensures.value in
     let told : List ℕ = ever_list_with behind.rules table done.world.tree n h lines.told in
     let text : List ℕ = answer_lines 1 done.answers ++ told in
-    let listed = c.in_ok-lists.ensures t wide lines.told lasting.execs (subst (λ (t : Tree). AreToldWith t [] rows texts lines.told) (sym at) lines.are) in (
+    let listed = c.in_ok-lists.ensures wide lines.told lasting.execs (subst (λ (t : Tree). AreToldWith t [] rows texts lines.told) (sym at) lines.are) in (
       Ok text,
       list_after behind.rules done n h told (Ok text) (sym c.in-Some.ensures) none
           (record { lines = lines.told; are = lines.lines_are; columns = own; is = refl }) refl,

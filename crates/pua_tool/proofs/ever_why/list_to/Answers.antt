@@ -105,7 +105,7 @@ returns g c = λ read is.
     map (λ (line : EverLine). (line, with_end (column_by p n h (holder_by table h execs) execs line))) (ever_lasting (world_left p).tree table h) in
     let told = told_columns p n h (holder_by table h list.execs) list.execs [] rows texts (ever_lasting (world_left p).tree table h)
     there.rows columns in
-    let listed = c.in_ok-lists.ensures t wide (behind list.execs) lasting.execs
+    let listed = c.in_ok-lists.ensures wide (behind list.execs) lasting.execs
     (subst (λ (t : Tree). AreToldWith t [] rows texts (behind list.execs)) (sym at) told) in
     let front : c.as_str.result.now ≡ reason_lines p = c.as_str.ensures.value ∙ dated.0 in
     let text = λ (h : ProcessState). reason_lines p ++ ever_why_list rules p n h in

@@ -45,6 +45,6 @@ returns g c = λ live none.
     let named = named_by c.args.members.now in
     let whose = subst (IsBoundedExecOf of one) (sym c.as_ref.ensures.value) c.in_ok-both.ensures in
     subst (λ (text : List ℕ). AnswersTo g.S.Sink.written g.S.Sink.failed (Ok text) c.put_lists.result c.args.sink.now c.put_lists.new.sink)
-    (ap (λ text. c.args.front.now ++ text) (c.in_ok-lists.ensures c.tree-tree.result.now of
+    (ap (λ text. c.args.front.now ++ text) (c.in_ok-lists.ensures of
     (record { is = sym c.in_ok-one.ensures ∙ ap (one_for of) live; lasting = c.in-Ok.ensures.list whose }))
     ∙ (λ i. c.args.front.now ++ together_list c.args.rules (ruled i) (c.tree-tree.ensures i) named)) c.put_lists.ensures

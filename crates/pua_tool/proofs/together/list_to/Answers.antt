@@ -76,5 +76,5 @@ returns g c =
     (ap (λ fault. unless_fault fault (together_lines c.args.rules done named)) (fault_veils done.table named none
     ∙ ap other_veils (sym live) ∙ c.in_ok-check_veils.ensures.alike))
     (subst (λ (text : List ℕ). AnswersTo g.S.Sink.written g.S.Sink.failed (Ok text) c.put_lists.result c.args.sink.now c.put_lists.new.sink)
-    ((λ i. front i ++ c.in_ok-lists-in-None.ensures c.tree.result.now tmp (record { is = ap (one_for tmp) nobody; lasting = tt }) i)
-    ∙ (λ i. answer_lines 1 done.answers ++ together_list c.args.rules tmp (c.tree.ensures i) named)) c.put_lists.ensures)
+    ((λ i. front i ++ c.in_ok-lists-in-None.ensures tmp (record { is = ap (one_for tmp) nobody; lasting = tt }) i)
+    ∙ (λ i. answer_lines 1 done.answers ++ together_list c.args.rules tmp (c.tree-tree.ensures i) named)) c.put_lists.ensures)

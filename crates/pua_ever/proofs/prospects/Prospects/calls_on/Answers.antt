@@ -5,7 +5,8 @@ use Rattle.pua_ever.proofs.Named.{name_calls}
 use Rattle.pua_ever.proofs.prospects.Prospects.calls_on.Goals as goal
 
 pub returns-in-Root : goal.returns-in-Root
-returns-in-Root c = λ t about well needs found fits on call.
+returns-in-Root g c = λ about well needs found fits on call.
+    let t = g.T.FileTree.content c.args.tree.now in
     let h = c.args.process.now in
     let same : At (Whole 0 Top) ≡ about = sym (ap (subject_given t) c.in-Root.is) ∙ on.subject in
     c.on_dir.ensures t Top needs found well.root refl
@@ -15,7 +16,8 @@ returns-in-Root c = λ t about well needs found fits on call.
     ∙ ap (λ s. is_ever_allowed t c.args.table.now h s call) same
 
 pub returns-in-Dir : goal.returns-in-Dir
-returns-in-Dir c = λ t about well needs found fits on call.
+returns-in-Dir g c = λ about well needs found fits on call.
+    let t = g.T.FileTree.content c.args.tree.now in
     let h = c.args.process.now in
     let dir = c.in-Dir.dir in
     let way = Named c.in-Dir.field-1 c.in-Dir.field-2.now in
@@ -28,14 +30,16 @@ returns-in-Dir c = λ t about well needs found fits on call.
     ∙ ap (λ s. is_ever_allowed t c.args.table.now h s call) same
 
 pub returns-in-Name : goal.returns-in-Name
-returns-in-Name c = λ t about well needs found fits on call.
+returns-in-Name g c = λ about well needs found fits on call.
+    let t = g.T.FileTree.content c.args.tree.now in
     let h = c.args.process.now in
-    let dir = c.in-Name.field-0 in
-    let name = c.in-Name.field-1.now in
+    let dir = c.in-Name.dir in
+    let name = c.in-Name.name.now in
     let same : At (Slot dir name (look t dir name)) ≡ about = sym (ap (subject_given t) c.in-Name.is) ∙ on.subject in
     name_calls t well c.args.table.now h dir name (look t dir name) (subst (SubjectFits t) (sym same) fits) c.args.item.now.object
-    c.args.item.now.cover c.on_name.result
+    c.is_turned_at-turned.result c.args.item.now.cover c.on_name.result
     (on.object ∙ ap (object_on t) (sym same))
+    (c.is_turned_at-turned.ensures h found.turned)
     (on.cover ∙ ap (cover_on t h) (sym same))
     (λ kind seen call. c.on_name.ensures t kind found seen call)
     call

@@ -15,9 +15,9 @@ not_missing Link e = cc
 pub returns-then-eq : goal.returns-then-eq
 returns-then-eq c = λ t kind found sees call.
     let h = c.args.process.now in
-    let is : c.args.object ≡ see.Missing = search rules in
-    elim kind as (λ k. c.args.object ≡ object_seen empty_tree (object_of_kind k) → has c.allowed.result call
-    ≡ can_allow c.args.table.now h (kind_covers t c.args.table.now h c.args.cover.now k) (object_of_kind k) call) [
+    let is : c.args.item.now.object ≡ see.Missing = search rules in
+    elim kind as (λ k. c.args.item.now.object ≡ object_seen empty_tree (object_of_kind k) → has c.allowed.result call
+    ≡ can_allow c.args.table.now h c.args.turned (kind_covers t c.args.table.now h c.args.item.now.cover k) (object_of_kind k) call) [
       | None ↦ λ sees. (let allowed = c.allowed.ensures empty_tree IsMissing sees call in search (rules, allowed))
       | Some k ↦ λ sees. absurd (not_missing k (sym is ∙ sees))
     ] sees
@@ -25,8 +25,8 @@ returns-then-eq c = λ t kind found sees call.
 pub returns : goal.returns
 returns c = λ t kind found sees call.
     let h = c.args.process.now in
-    elim kind as (λ k. c.args.object ≡ object_seen empty_tree (object_of_kind k) → has c.on_thing.result call
-    ≡ can_allow c.args.table.now h (kind_covers t c.args.table.now h c.args.cover.now k) (object_of_kind k) call) [
+    elim kind as (λ k. c.args.item.now.object ≡ object_seen empty_tree (object_of_kind k) → has c.on_thing.result call
+    ≡ can_allow c.args.table.now h c.args.turned (kind_covers t c.args.table.now h c.args.item.now.cover k) (object_of_kind k) call) [
       | None ↦ λ sees. search (rules, tests)
       | Some k ↦ λ sees. c.on_thing.ensures t k found sees call
     ] sees

@@ -1,6 +1,7 @@
 use Rattle.pua_jointly.proofs.Common.{◌∙◌, ap, empty_tree, refl, sym}
-use Rattle.pua_ever.specs.Ever.{is_made_by}
-use Rattle.pua_policy.specs.Verdict.{IsMissing}
+use Rattle.std.specs.List.{list_any}
+use Rattle.pua_policy.specs.Verdict.{IsFile, IsMissing}
+use Rattle.pua_ever.specs.Ever.{is_made_by, turning_calls}
 use Rattle.pua_ever.specs.EverLines.{new_of}
 use Rattle.pua_jointly.specs.JointCovers.{does}
 use Rattle.pua_jointly.proofs.doing.Doing.is_done.Goals as goal
@@ -10,3 +11,9 @@ returns-in-Making c =
     c.is_made_by.ensures
     ∙ (λ z. is_made_by (λ call. c.allowed.ensures empty_tree IsMissing refl call z) (new_of c.in-Making.made))
     ∙ ap (λ doing. does c.args.table.now c.args.process.now doing c.args.cover) (sym c.in-Making.is)
+
+pub returns-in-Turning : goal.returns-in-Turning
+returns-in-Turning c =
+    c.can_turn.ensures
+    ∙ (λ z. list_any (λ call. c.allowed-in-Turning.ensures empty_tree IsFile refl call z) turning_calls)
+    ∙ ap (λ doing. does c.args.table.now c.args.process.now doing c.args.cover) (sym c.in-Turning.is)

@@ -1,6 +1,6 @@
 use Rattle.pua_jointly.proofs.Common.{◌∙◌, and_from, ap, and_parts, false≢true, lasting_dir, not, refl, removable_dir, sym}
 use Rattle.std.specs.Prelude.{◌==◌}
-use Rattle.pua_jointly.proofs.JointTold.{dir_word, emptied_calls, held_is, lasting_calls, not_root, other_than, under_by}
+use Rattle.pua_jointly.proofs.JointTold.{calls_known, dir_word, emptied_calls, held_is, lasting_calls, not_root, other_than, under_by}
 use Rattle.pua_jointly.proofs.facts.Facts.calls_on_dir.Goals as goal
 
 pub returns-then-not-is_removable : goal.returns-then-not-is_removable
@@ -13,7 +13,7 @@ returns-then-not-is_removable c = λ t crew a way is lives.
     (λ other free. false≢true (sym c.if-not-is_removable.true ∙ c.is_removable.ensures ∙ and_from (not (dir == 0)) _ (not_root dir other)
     (ap not (held_is t table crew facts a of is dir lives) ∙ free)))
     (under_by table of.process.now a c.on_dir-covers.result (dir_word t table crew facts a of is dir) lasting_dir c.calls_under-lasting.result
-    is.process c.on_dir-covers.ensures (c.calls_under-lasting.ensures lasting_dir refl))
+    is.process c.on_dir-covers.ensures (c.calls_under-lasting.ensures (calls_known t table crew facts a of is) lasting_dir refl))
 
 pub returns : goal.returns
 returns c = λ t crew a way is lives.
@@ -25,7 +25,7 @@ returns c = λ t crew a way is lives.
     emptied_calls t table crew facts a of is dir way c.calls_under-lasting.result c.calls_under-emptied.result c.union.result lives
     (other_than dir both.0) (ap not (sym (held_is t table crew facts a of is dir lives)) ∙ both.1)
     (under_by table of.process.now a c.on_dir-covers.result (dir_word t table crew facts a of is dir) lasting_dir c.calls_under-lasting.result
-    is.process c.on_dir-covers.ensures (c.calls_under-lasting.ensures lasting_dir refl))
+    is.process c.on_dir-covers.ensures (c.calls_under-lasting.ensures (calls_known t table crew facts a of is) lasting_dir refl))
     (under_by table of.process.now a c.on_dir-covers.result (dir_word t table crew facts a of is dir) removable_dir c.calls_under-emptied.result
-    is.process c.on_dir-covers.ensures (c.calls_under-emptied.ensures removable_dir refl))
+    is.process c.on_dir-covers.ensures (c.calls_under-emptied.ensures (calls_known t table crew facts a of is) removable_dir refl))
     c.union.ensures

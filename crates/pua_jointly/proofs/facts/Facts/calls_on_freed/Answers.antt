@@ -2,13 +2,24 @@ use Rattle.pua_jointly.proofs.Common.{◌≡◌, ◌∙◌, ap, false, None≢So
 use Rattle.pua_calls.proofs.ForCallers.{has_none}
 use Rattle.pua_jointly.specs.JointCalls.{AreFreeCalls, AreOwnCalls}
 use Rattle.pua_jointly.specs.JointRounds.{is_taken}
-use Rattle.pua_jointly.proofs.JointTold.{as_freed, as_held, none_found, own_stands}
+use Rattle.pua_jointly.proofs.JointNames.{no_name_kept}
+use Rattle.pua_jointly.proofs.JointTold.{as_freed, as_held, named_known, none_found, own_stands, unnamed_calls}
 use Rattle.pua_ever.proofs.ForCallers.{own_name_is}
 use Rattle.pua_jointly.proofs.facts.Facts.calls_on_freed.Goals as goal
 
 pub returns-in_default : goal.returns-in_default
 returns-in_default c = λ t crew a about is fits on.
     subst (λ (o : Option Spot). AreOwnCalls t c.args.table.now crew a o 0) c.in_default.ensures has_none
+
+pub returns-then-not-of : goal.returns-then-not-of
+returns-then-not-of c = λ t crew a about is fits on.
+    let table = c.args.table.now in
+    let facts = c.args.self.now in
+    let of = c.args.of.now in
+    let spot : Spot = (c.in-Some.own.0, c.in-Some.own.1.now) in
+    subst (λ (o : Option Spot). AreOwnCalls t table crew a o 0) c.in-Some.ensures
+    (unnamed_calls t table crew facts a of is spot.0 spot.1
+    (no_name_kept a of.named (named_known t table crew facts a of is) c.if-not-of.true spot.0 spot.1) 0 has_none)
 
 pub returns-in_default-entry : goal.returns-in_default-entry
 returns-in_default-entry c = λ t crew a about is fits on.

@@ -1,28 +1,30 @@
-use Rattle.pua_jointly.proofs.Common.{◌∙◌, sym, ap, Tree}
+use Rattle.pua_jointly.proofs.Common.{◌∙◌, sym, ap, subst, Tree}
 use Rattle.std.specs.Prelude.{◌==◌}
 use Rattle.std.specs.Int.{bit_at}
 use Rattle.pua_jointly.specs.JointFacts.{watches}
-use Rattle.pua_jointly.specs.JointSetup.{crew_told, spots_told, guarded_told}
+use Rattle.pua_jointly.specs.JointSetup.{FollowsTold, RoundsState, crew_told, spots_told, guarded_told}
 use Rattle.pua_jointly.specs.declared.crew.Crew.{Crew}
 use Rattle.pua_jointly.proofs.JointSteps.{step_only, step_all}
 use Rattle.pua_jointly.proofs.finding.RoundsSteps.next.Goals as goal
 
 pub returns-clause-only : goal.returns-clause-only
 returns-clause-only g c = λ bit held.
-    let t : Tree = g.T.FileTree.content c.args.self.now.tree.now in
-    let k : Crew = c.args.self.now.crew.now in
-    let out = c.requires.known in
-    step_only t out.0 c.args.self.now.table.now (crew_told k) (watches t (crew_told k)) (spots_told k) (guarded_told k) k out.1 c.args.told.now c.args.at
+    let t : Tree = g.T.FileTree.content c.self.inside.tree.now in
+    let k : Crew = c.self.inside.crew.now in
+    let out = c.self.invariant in
+    subst (λ (s : RoundsState). FollowsTold s.tree s.table s.crew c.args.told.now c.args.at bit) c.self.view_is
+    (step_only t out.0 c.self.inside.table.now (crew_told k) (watches t (crew_told k)) (spots_told k) (guarded_told k) k out.1 c.args.told.now c.args.at
     c.row.result c.part.result (c.row.ensures (crew_told k) (spots_told k) (sym out.1.many))
-    (c.part.ensures (crew_told k) (guarded_told k) (sym out.1.many)) c.requires.within bit
-    (ap (λ w. bit_at w bit == 1) (sym c.part-2.ensures) ∙ held)
+    (c.part.ensures (crew_told k) (guarded_told k) (sym out.1.many)) bit
+    (ap (λ w. bit_at w bit == 1) (sym c.part-2.ensures) ∙ held))
 
 pub returns-clause-all : goal.returns-clause-all
 returns-clause-all g c = λ bit new.
-    let t : Tree = g.T.FileTree.content c.args.self.now.tree.now in
-    let k : Crew = c.args.self.now.crew.now in
-    let out = c.requires.known in
+    let t : Tree = g.T.FileTree.content c.self.inside.tree.now in
+    let k : Crew = c.self.inside.crew.now in
+    let out = c.self.invariant in
     ap (λ w. bit_at w bit == 1) c.part-2.ensures
-    ∙ step_all t out.0 c.args.self.now.table.now (crew_told k) (watches t (crew_told k)) (spots_told k) (guarded_told k) k out.1 c.args.told.now
+    ∙ step_all t out.0 c.self.inside.table.now (crew_told k) (watches t (crew_told k)) (spots_told k) (guarded_told k) k out.1 c.args.told.now
     c.args.at c.row.result c.part.result (c.row.ensures (crew_told k) (spots_told k) (sym out.1.many))
-    (c.part.ensures (crew_told k) (guarded_told k) (sym out.1.many)) bit new
+    (c.part.ensures (crew_told k) (guarded_told k) (sym out.1.many)) bit
+    (subst (λ (s : RoundsState). FollowsTold s.tree s.table s.crew c.args.told.now c.args.at bit) (sym c.self.view_is) new)

@@ -1,4 +1,5 @@
 use Rattle.pua_script.proofs.Common.{sym, ◌∙◌, Fork}
+use Rattle.pua_script.specs.declared.request.Action.TheVariants.{Take}
 use Rattle.pua_script.proofs.Serving.{answered, answered_okay, at_these, on_these, world_kept, processes_kept, as_asked}
 use Rattle.pua_script.proofs.world.World.answer.Goals as goal
 
@@ -18,6 +19,25 @@ returns-in-Fork-clause-memory g c =
 
 pub returns-in-Fork-clause-unchanged : goal.returns-in-Fork-clause-unchanged
 returns-in-Fork-clause-unchanged g c = processes_kept c.fork.result _ _ _ _ _ c.self.view_is c.fork.ensures.unchanged
+
+pub returns-in-Take-clause-served : goal.returns-in-Take-clause-served
+returns-in-Take-clause-served g c =
+    let t = g.T.FileTree.content c.self.inside.tree in
+    answered c.take.result _ t _ (record { process = c.process-number.result; action = Take c.in-Take.descriptor c.in-Take.from c.in-Take.theirs })
+    _ _ c.self.view_is
+    (λ i. record { process = c.process-number.ensures.process i; action = (sym c.in-Take.is ∙ c.action-action.ensures.action) i }) t _
+    (at_these c.take.result _ t c.self.inside.table c.take.ensures.served)
+
+pub returns-in-Take-clause-memory : goal.returns-in-Take-clause-memory
+returns-in-Take-clause-memory g c =
+    let t = g.T.FileTree.content c.self.inside.tree in
+    answered_okay c.take.result _ t _ (record { process = c.process-number.result; action = Take c.in-Take.descriptor c.in-Take.from c.in-Take.theirs })
+    _ _ c.self.view_is
+    (λ i. record { process = c.process-number.ensures.process i; action = (sym c.in-Take.is ∙ c.action-action.ensures.action) i })
+    (on_these c.take.result _ t c.self.inside.table c.take.ensures.memory)
+
+pub returns-in-Take-clause-unchanged : goal.returns-in-Take-clause-unchanged
+returns-in-Take-clause-unchanged g c = processes_kept c.take.result _ _ _ _ _ c.self.view_is c.take.ensures.unchanged
 
 pub returns-in_default : goal.returns-in_default
 returns-in_default g c =
