@@ -115,7 +115,8 @@ sub test_lists {
     my ($process, %lines);
     for (split /\n/, $text) {
         $process = $1 if /\Aobjects (\d+)\z/;
-        push @{ $lines{$process} }, $_ if m{\A[a-z]+ /\S* [a-z,-]+\z} && !/\A(?:veil|opening) /;
+        $world->{roots}{$process} = $1 if /\Aroot (\S+) (?:closed|open)\z/;
+        push @{ $lines{$process} }, $_ if m{\A[a-z]+ /\S* [a-z,-]+\z} && !/\A(?:veil|opening|root) /;
     }
     $count{states}  += @processes;
     $count{objects} += @$_ for values %lines;
@@ -178,10 +179,18 @@ sub test_beside {
         my $subject = $model->subject($audit->{process}, $call, $path);
         push @faults, "not among the objects: $_ ($subject)" unless ($calls{$subject} || '') =~ /,\Q$call\E,/;
     }
-    push @faults, unfound($audit, $lines) if $audit->{base} eq 'root';
+    push @faults, unfound($audit, below_root($world->{roots}{ $audit->{process} }, $lines)) if $audit->{base} eq 'root';
     is_faultless(\@faults, "$world->{name}: the audit of process $audit->{process} beside its objects",
         $world->{files}, @{ $audit->{front} }, @{ $audit->{end} });
     return;
+}
+
+# The lines of what stands below the root of a process, with its paths from there; all lines where the root is that of the
+# tree. The root itself is left out: no path from there names it by its name.
+sub below_root {
+    my ($root, $lines) = @_;
+    return $lines unless defined $root;
+    return [ map { s{ \Q$root\E(?=/)}{ }r =~ s{\Aother \Q$root\E }{other / }r } grep { m{ \Q$root\E/|\Aother \Q$root\E } } @$lines ];
 }
 
 # The calls of those objects that an audit from the root is deep enough for which are no pairs of it. The further

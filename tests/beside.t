@@ -42,6 +42,9 @@ my @PLEDGES = (
     'rpath,cpath,exec,tmppath -', 'rpath,exec,tmppath rpath', 'rpath,fattr,exec,proc rpath',
 );
 
+# What files each has open by OpenBSD's rules, as far as it doesn't close them.
+my @FDS = (3, 4);
+
 # What its veils give.
 my @PERMISSIONS = qw(rwxc rwc wc rc rc xc c c c r r rw rx x w =);
 
@@ -108,14 +111,19 @@ sub drawn {
     }
 }
 
-# A script that makes the witness, lets process 1 edit the tree of a model and fork the others; and lets each put its
-# veils, and then no more.
+# A script that makes the witness, lets process 1 edit the tree of a model and fork the others; by OpenBSD's rules they have
+# some files open; and lets each put its veils, and then no more.
 sub first_script {
     my ($model, @members) = @_;
     my @edits = grep { !/ (?:fork|exit|exec|unveil|pledge) / } $worlds->requests($worlds->number(3), 1);
     my @rows  = Things::rows($model);
-    my @lines = ("1 fork $WITNESS", (map { "1 fork $_" } grep { $_ != 1 } @members));
+    my @files = $model->{openbsd} ? grep { $_->{kind} eq 'file' } @rows : ();
+    my @holds = map { "1 hold $_ " . $worlds->pick(qw(open-r open-w open-rw)) . ' ' . $worlds->pick(@files)->{path} }
+        @files ? @FDS : ();
+    my @lines = ("1 fork $WITNESS", @holds);
+    push @lines, map { "1 fork $_" } grep { $_ != 1 } @members;
     for my $member (@members) {
+        push @lines, map { $worlds->number(2) ? "$member close $_" : () } @files ? @FDS : ();
         push @lines, map { veil($member, @rows) } 0 .. 1 + $worlds->number(3);
         push @lines, "$member unveil - -" if $worlds->number(3);
         push @lines, "$member pledge " . pledged() if $worlds->number(4);

@@ -7,10 +7,10 @@
 # processes and real calls in a directory of their own, as tools/conform.pl does. It has to be root; where it isn't, or
 # chroot(2) is refused, all is passed over.
 #
-# - The program's answers, the names that it lists afterwards, and what it says that a process has open, are those of the
-#   plain model (tests/lib/Linux.pm without any of its rules).
-# - The kernel's answers, what stands there afterwards, and what is open then and where, are those of that model with all
-#   rules.
+# - The program's answers, the names that it lists afterwards, and what it says that a process has open and of its root, are
+#   those of the plain model (tests/lib/Linux.pm without any of its rules).
+# - The kernel's answers, what stands there afterwards, what is open then and where, and whether a process can come out of its
+#   root, are those of that model with all rules.
 # - Each answer that is another is so by one to three of the rules, and each rule is needed for some.
 # - Each wrong model of the table is noticed.
 use strict;
@@ -26,6 +26,7 @@ use Storable qw(dclone);
 use Tables qw(content);
 use Test::More;
 use Tried qw(may_chroot);
+use WrongRoots qw(with_wrong);
 use Worlds qw(answer_of program_in worlds_told);
 
 plan skip_all => 'the rules are those of Linux' if $^O ne 'linux';
@@ -36,6 +37,7 @@ plan skip_all => 'chroot(2) is refused here' if !may_chroot($room);
 my $PROGRAM = program_in(@ARGV);
 my $CASES = 600;
 my $HELD  = 200;       # about descriptors
+my $ROOTS = 300;       # about roots and descriptors
 my $SEED  = 20;
 my $MOST_RULES = 3;    # by which one difference may be explained
 
@@ -55,9 +57,9 @@ my @WRONG = (
         my ($right, $linux, $from, $text, @rest) = @_;
         return grep({ length == 255 } split m{/}, $text) ? 'ENAMETOOLONG' : $right->($linux, $from, $text, @rest);
     }],
-    ['the root has a directory above', 'Linux::_parent', sub {
-        my ($right, $linux, $dir) = @_;
-        return $dir == 0 ? -1 : $right->($linux, $dir);
+    ['the root has a directory above', 'Tree::_parent_in', sub {
+        my ($right, $linux, $root, $dir) = @_;
+        return $dir == 0 ? -1 : $right->($linux, $root, $dir);
     }],
     ['lstat follows a link', 'Linux::resolve', followed('lstat', 1)],
     ['stat keeps a link', 'Linux::resolve', followed('stat', 0)],
@@ -85,9 +87,9 @@ my @WRONG = (
     ['rename beside a second name takes the first away', 'Linux::_rename', sub {
         my ($right, $linux, $process, @paths) = @_;
         my $from = Tree::unspelled($paths[0]);
-        my $node = (($linux->resolve($process->{dir}, $from, 0, 1))[1] || {})->{node};
+        my $node = (($linux->resolve($process, $from, 0, 1))[1] || {})->{node};
         my $answer = $right->($linux, $process, @paths);
-        my ($errno, $old) = $linux->resolve($process->{dir}, $from, 0, 1);
+        my ($errno, $old) = $linux->resolve($process, $from, 0, 1);
         my $stands = $answer eq 'ok' && !$errno && defined $old->{node} && $old->{node} == $node;
         $linux->_untie(@$old{qw(in name)}) if $stands;
         return $answer;
@@ -117,9 +119,9 @@ my @WRONG = (
     ['what is open has one name', 'Model::_paths_of', sub { my ($right, @rest) = @_; return ($right->(@rest))[0] || () }],
     ['a directory that is made again is the old one', 'Linux::resolve', sub {
         my ($right, $linux, $from, @rest) = @_;
-        my $over = exists $linux->{dead}{$from} ? $linux->{dead}{$from} : undef;
+        my $over = exists $linux->{dead}{ $from->{dir} } ? $linux->{dead}{ $from->{dir} } : undef;
         my ($again) = defined $over ? grep { $linux->{kind}{$_} eq 'dir' } values %{ $linux->{rows}{$over} || {} } : ();
-        return $right->($linux, defined $again ? $again : $from, @rest);
+        return $right->($linux, defined $again ? { %$from, dir => $again } : $from, @rest);
     }],
     ['a file can be executed', 'Linux::_misfit', sub {
         my ($right, $linux, $call, $found) = @_;
@@ -144,10 +146,14 @@ my (@cases, @wrong, %found, %count);
 my $cases = Cases->new($SEED);
 try_case("case $_", $cases->next_case($Cases::KINDS[ $_ % @Cases::KINDS ])) for 0 .. $CASES - 1;
 try_case("case $_ about descriptors", $cases->next_case('files')) for 1 .. $HELD;
+my $may_move = (perform("tree 1\n0 dir\n", "1 chroot /\n", { room => $room }))[0][0] eq 'ok';
+note 'no process can be kept in a directory whose root a script moves: such scripts are passed over' if !$may_move;
+try_case("case $_ about roots", $cases->next_case('roots')) for 1 .. ($may_move ? $ROOTS : 0);
 for my $folder (glob "$Bin/../examples/*") {
     my @files = grep { -f "$folder/$_" } qw(listing script) or next;
     my @lines = map { s/(?:\A| +)#.*//r } split /^/m, content("$folder/script");
     my $script = join '', grep { !/\A(?:[0-9]+ (?:pledge|unveil|uses) |$)/ } @lines;
+    next if !$may_move && $script =~ / chroot /;
     try_case($folder =~ s{.*/}{}r, content("$folder/listing"), $script);
 }
 is(join('', splice @wrong, 0, 5), '', "$count{cases} cases with $count{calls} calls: the kernel's answers");
@@ -155,13 +161,15 @@ cmp_ok($count{calls}, '>', 15 * $CASES, "$count{same} of them are the program's 
 cmp_ok($count{trees}, '>', $CASES / 2, "the names afterwards: in $count{trees} cases they are the program's too");
 cmp_ok($count{held}, '>', $HELD, "$count{held} open files, $count{nameless} of which have no name, $count{taken} taken");
 cmp_ok($count{$_}, '>', $HELD / 20, "$count{$_} $_") for qw(nameless taken entered);
+cmp_ok($count{$_} || 0, '>', $ROOTS / 20, ($count{$_} || 0) . " roots $_") for $may_move ? qw(moved closed open removed) : ();
 for my $rule (@Linux::RULES) {
     my ($name, $mark, $text) = @$rule;
+    next if $name eq 'dead-root' && !$may_move;
     my $found = $found{$name} || {};
     ok($found->{calls}, sprintf '%s (%s): %s; %d calls, ok here alone %d, there alone %d', $name, $mark, $text,
         map { $found->{$_} || 0 } qw(calls pua kernel));
 }
-test_wrong(@$_) for @WRONG;
+test_wrong(@$_) for @WRONG, $may_move ? @WrongRoots::WRONG : ();
 done_testing;
 
 # Tries one case, and keeps it with what the kernel said.
@@ -176,6 +184,8 @@ sub try_case {
     $count{cases}++;
     $count{held} += () = $left =~ /^held /mg;
     $count{nameless} += () = $left =~ /^held .* -$/mg;
+    for my $word (qw(closed open)) { $count{$word} += () = $left =~ /^root .* $word$/mg }
+    $count{removed} += () = $left =~ /^root [0-9]+ - /mg;
     explained($name, $listing, \@lines, $answers);
     return;
 }
@@ -204,12 +214,16 @@ sub is_program {
     return "the program answers otherwise than the plain model\n$out" if index($out, $answers) != 0;
     return '' unless defined $living;
     my $names = join '', sort map { m{\A((?:dir|file|prog|link) /\S*) }m ? "$1\n" : () } split /\n/, $out;
-    my $left_by = join '', $plain->names_left;
+    my $process = $plain->{processes}{$living};
+    my $left_by = join '', $plain->names_left($plain->is_enclosed($process) ? $process->{root} : 0);
     return "the program lists\n$names--- and not\n$left_by" if $names ne $left_by;
     my $held = join '', sort map { /\Aheld ([0-9]+) \S+ (\S+) / ? "held $living $1 $2\n" : () } split /\n/, $out;
     my $wanted = join '', sort $plain->held_by($living);
     return "the program says\n$held--- and not\n$wanted" if $held ne $wanted;
-    $count{trees}++ if $names eq $left =~ s/^held .*\n//gmr;
+    my $root = $out =~ /^(root .*\n)/m ? $1 : '';
+    my $wanted_root = join '', $plain->rooted($process);
+    return "the program says $root, and not $wanted_root" if $root ne $wanted_root;
+    $count{trees}++ if $names eq $left =~ s/^(?:held|root) .*\n//gmr;
     return '';
 }
 
@@ -224,6 +238,7 @@ sub explained {
         $count{calls}++;
         $count{taken}++ if $request[1] eq 'take' && $said eq 'ok';
         $count{entered}++ if $request[1] eq 'fchdir' && $said eq 'ok';
+        $count{moved}++ if $request[1] eq 'chroot' && $said eq 'ok';
         if ($plain eq $said) { $count{same}++ }
         else {
             my @rules = fewest($world, $said, @request);
@@ -255,11 +270,7 @@ sub fewest {
 # Tests that a wrong model is noticed.
 sub test_wrong {
     my ($name, $place, $wrong) = @_;
-    no strict 'refs';
-    no warnings 'redefine';
-    my $right = \&$place;
-    local *$place = sub { $wrong->($right, @_) };
-    my $noticed = first { is_noticed(@{ $cases[$_] }) } 0 .. $#cases;
+    my $noticed = with_wrong($place, $wrong, sub { return first { is_noticed(@{ $cases[$_] }) } 0 .. $#cases });
     ok(defined $noticed, "noticed: $name") and note "by case $noticed";
     return;
 }

@@ -5,7 +5,7 @@
 # is started isn't bounded, and else whatever is started, so that a future goes on. Things are followed through renames
 # by a model (Model.pm) of which the same is requested. The list for ever is that of a plain model, too (EverModel.pm),
 # so it isn't too long; and what can have no such list is refused. So it is of two processes together, with other
-# promises and the same veils.
+# promises and the same veils; and of two that have files open, each its own.
 use strict;
 use warnings;
 use FindBin qw($Bin);
@@ -25,6 +25,7 @@ use Worlds qw(answer_of program_in worlds_told);
 
 my $WORLDS = 40;
 my $PAIRS  = 15;
+my $OPEN   = 12;
 my $PLAYS  = 12;
 
 # A process that the first line of each script forks, and that asks for nothing: it has no veils and all
@@ -54,6 +55,12 @@ my @TEMPORARY = (
     '1 pledge rpath,exec,tmppath rpath', '1 pledge rpath,exec,proc rpath,tmppath', '1 pledge rpath,cpath,tmppath,proc -',
 );
 
+# What two pledge that have files open: a program is made of one by who holds fattr, and started by who holds exec.
+my @STARTING = (
+    'stdio,exec,proc -', 'rpath,exec -', 'stdio,fattr,proc -', 'stdio,exec,fattr -', 'exec,rpath rpath', 'exec,proc fattr', 'stdio -',
+    'stdio,rpath,proc -', 'exec -',
+);
+
 # What its veils give.
 my @PERMISSIONS = qw(rwxc rwxc rwc wc rc xc c c r r rw rx x w =);
 
@@ -75,8 +82,8 @@ for my $number (1 .. $WORLDS) {
     ok(!is_told($world, beyond_ever($world)), "world $number: it has what can be touched in $PLAYS futures");
     ok(!$world->{stray}, "world $number: no exec succeeds where it has none");
 }
-for my $number (1 .. $PAIRS) {
-    my $world = pair($number);
+for my $number (1 .. $PAIRS + $OPEN) {
+    my $world = $number > $PAIRS ? open_pair($number) : pair($number);
     ok(!is_told($world, beyond_alone($world)), "pair $number: what each can ever touch is in the list of both");
     is(states_told($world), states_wanted($world), "pair $number: the states");
     is(exec_word($world), exec_wanted($world), "pair $number: whether what they start is bounded");
@@ -118,6 +125,42 @@ sub pair {
         next if $number % 3 && !grep { / new / } EverModel::lasting(EverModel::joined($model, 1, $CHILD), 0);
         return with_lists($world, 1, $CHILD);
     }
+}
+
+# The same by OpenBSD's rules, where both have some of three files open. In two of three it tells what of these the child has.
+sub open_pair {
+    my ($number) = @_;
+    $worlds->by('openbsd');
+    while (1) {
+        my $files = { listing => $worlds->listing, table => '' };
+        my $model = Model->new($files->{listing}, { rules => 'openbsd' });
+        $files->{script} = open_script($model);
+        $model->run($files->{script});
+        next if grep { $model->state($_) !~ /^unveil (?:locked|given-up)$/m } 1, $CHILD;
+        next if $number % 3 && !is_by_child($model);
+        return with_lists({ program => $PUA, files => $files, rules => [ '--rules', 'openbsd' ], model => $model }, 1, $CHILD);
+    }
+}
+
+sub open_script {
+    my ($model) = @_;
+    my @rows  = Things::rows($model);
+    my @files = grep { $_->{kind} eq 'file' } @rows;
+    my @holds = map { "1 hold $_ " . $worlds->pick(qw(open-r open-w open-rw)) . ' ' . $worlds->pick(@files)->{path} }
+        @files ? 3 .. 5 : ();
+    my @veils = map { veil(@rows) } 0 .. $worlds->number(2);
+    push @veils, '1 unveil ' . $worlds->pick('/', map { $_->{path} } @files) . ' x';
+    my @close = map { $worlds->pick(1, 1, $CHILD) . " close $_" } @holds ? 3 .. 5 : ();
+    my @pledges = map { "$_ pledge " . join ' ', map { $worlds->promises($_) } split / /, $worlds->pick(@STARTING) } 1, $CHILD;
+    return join '', map { "$_\n" } "1 fork $WITNESS", @holds, @veils, '1 unveil - -', "1 fork $CHILD", @close, @pledges;
+}
+
+# Whether a list of both would be another one, if it were of what the first has open alone.
+sub is_by_child {
+    my ($model) = @_;
+    my @lines = EverModel::lasting(EverModel::joined($model, 1, $CHILD), 0);
+    local $model->{processes}{$CHILD}{files} = {};
+    return "@lines" ne join ' ', EverModel::lasting(EverModel::joined($model, 1, $CHILD), 0);
 }
 
 # A world with the lists of now, and the one for ever of these processes.
@@ -255,8 +298,8 @@ sub states_wanted {
     my ($states, $veils) = ('');
     for my $process (@{ $world->{members} }) {
         my ($own, $rest) = $world->{model}->state($process) =~ /\A(.*?^unveil \S+\n)(.*)\z/ms;
-        $states .= $own =~ s/\Aprocess /process $process /r;
-        $veils = $rest =~ s/^opening .*\n//gmr;
+        $states .= join '', $own =~ s/\Aprocess /process $process /r, $rest =~ /^((?:root|held) .*\n)/gm;
+        $veils = $rest =~ s/^(?:opening|root|held) .*\n//gmr;
     }
     return $states . $veils;
 }

@@ -3,7 +3,8 @@
 # A process that can put no veil any more is allowed nothing further by its own requests, and just the same after
 # those of others, over the tree that there is then; a child is allowed what its parent is; and each name on which
 # the veils of those who ask give no c stays. What a process was before some requests is asked of its mirrors
-# (Mirrors.pm).
+# (Mirrors.pm). One that moves its root, or comes out of it, may name more than before: who pledged without id, and has no
+# directory outside of its root, can't, as long as nobody else asks.
 use strict;
 use warnings;
 use FindBin qw($Bin);
@@ -21,6 +22,7 @@ use Worlds qw(answer_of program_in worlds_told);
 my $SEED   = 11;
 my $WORLDS = 24;
 my $HELD   = 8;     # with descriptors, by OpenBSD's rules
+my $ROOTS  = 12;    # with roots too
 my $CUTS   = 8;
 
 # How many lines a script has behind those that make its processes, and how many of them are drawn at once.
@@ -45,10 +47,11 @@ my @CLAIMS = (
 my %EDITS = map { $_ => 1 } qw(create mkdir rmdir unlink symlink bind mknod create-rw rename link);
 
 my $worlds = Worlds->new($SEED, { openings => 1 });
-my %counts = map { $_ => 0 } qw(edits opened files lists alike audits children names);
+my %counts = map { $_ => 0 } qw(edits opened files lists alike audits children names roots kept left);
 
-for my $number (1 .. $WORLDS + $HELD) {
+for my $number (1 .. $WORLDS + $HELD + $ROOTS) {
     $worlds = Worlds->new($SEED, { files => 1 }) if $number == $WORLDS + 1;
+    $worlds = Worlds->new($SEED, { files => 1, roots => 1 }) if $number == $WORLDS + $HELD + 1;
     my $world = world($number % 3 && $number <= $WORLDS ? {} : { rules => 'openbsd' });
     my @cuts  = map { cut($world, $_ % 4) } 1 .. $CUTS;
     for my $claim (@CLAIMS) {
@@ -60,7 +63,8 @@ for my $number (1 .. $WORLDS + $HELD) {
 note("$counts{edits} edits; $counts{files} requests on descriptors; $counts{opened} answers by a promise; ",
     "$counts{lists} lists within those of before, of which $counts{alike} are the same after ",
     "requests of others; $counts{audits} audits; $counts{children} lists of children; ",
-    "$counts{names} names without c");
+    "$counts{names} names without c; $counts{roots} roots were moved, $counts{kept} lists are of one that can't be left, ",
+    "and $counts{left} of one that was");
 done_testing();
 
 # --- Worlds ---
@@ -73,7 +77,7 @@ sub world {
         while $worlds->number(5) && !grep { /c/ } values %{ $model->{processes}{1}{letters} };
     my $futures = Futures->new($worlds, calls(), { proc => 1, exec => 1 }, 10);
     for (1 .. $LINES / $AT_ONCE) {
-        my @askers = (1, 1, 2, 3, grep { $_ != $WITNESS } $model->living);
+        my @askers = (1, 1, 2, 3, $worlds->roots ? (4, 4, 5) : (), grep { $_ != $WITNESS } $model->living);
         my $is_drawn = $worlds->files ? $worlds->number(4) == 0 : $worlds->number(4);
         my @lines = $is_drawn ? drawn($futures, $model, @askers) : $worlds->requests($AT_ONCE, @askers);
         chomp @lines;
@@ -102,10 +106,19 @@ sub begun {
     my $script = $worlds->script({ veils => 3, locks => 1, lines => 0, ends => 0 });
     my @veils  = grep { $_ ne '1 fork 2' } split /\n/, $script;
     unshift @veils, $worlds->opening_pledge(1) if $worlds->opens && $worlds->number(3);
-    $world->{lines} = [ "1 fork $WITNESS", '1 fork 2', @veils, '1 fork 3' ];
+    $world->{lines} = [ "1 fork $WITNESS", '1 fork 2', @veils, '1 fork 3', $worlds->roots ? jailed() : () ];
     my $model = Model->new($world->{listing}, $how);
     answers_of($model, @{ $world->{lines} });
     return ($world, $model);
+}
+
+# Lines of process 4, which has a root of its own that it mostly can't leave, and of a child of it.
+sub jailed {
+    my $jail = $worlds->jail;
+    my @holds = $worlds->number(4) ? () : '4 hold 5 open-r ' . $worlds->pick('/', $jail);
+    my $pledge = '4 pledge stdio,rpath,wpath,cpath,fattr,proc' . ($worlds->number(4) ? '' : ',id') . ' -';
+    my $exit = $worlds->number(5) ? '4 chdir /' : '4 stat /';
+    return ('2 fork 4', @holds, "4 chroot $jail", $exit, $worlds->number(5) ? $pledge : (), '4 fork 5');
 }
 
 # --- Cuts ---
@@ -163,12 +176,12 @@ sub further {
     return @lines;
 }
 
-# Serves the lines behind a cut, up to an exec that succeeds, and notes who asked, who forked whom, and who changed
-# the directory.
+# Serves the lines behind a cut, up to an exec that succeeds, and notes who asked, who forked whom, who changed the directory,
+# and who moved its root.
 sub serve_rest {
     my ($cut) = @_;
     $cut->{end} = dclone($cut->{model});
-    $cut->{$_} = {} for qw(askers origins moved);
+    $cut->{$_} = {} for qw(askers origins moved rooted);
     for my $place (0 .. $#{ $cut->{rest} }) {
         my ($asker, $call, @words) = split / /, $cut->{rest}[$place];
         my $is_exec = $call eq 'exec' && is_ok(dclone($cut->{end}), $asker, $call, @words);
@@ -177,6 +190,7 @@ sub serve_rest {
         next if !is_ok($cut->{end}, $asker, $call, @words);
         $cut->{origins}{ $words[0] } = origin($cut, $asker) if $call eq 'fork';
         $cut->{moved}{$asker} = 1 if $call eq 'chdir' || $call eq 'fchdir';
+        $cut->{rooted}{ origin($cut, $asker) } = 1, $counts{roots}++ if $call eq 'chroot';
         $counts{edits} += $EDITS{$call} || 0;
         $counts{files}++ if $call =~ /\A(?:hold|close|fchdir|take)\z/;
     }
@@ -263,6 +277,10 @@ sub list_fault {
     my $then = $cut->{then};
     for my $process (grep { $confined{ origin($cut, $_) } } $cut->{end}->processes) {
         my ($list, $before) = ($then->{$process}, $then->{ twin(origin($cut, $process)) });
+        my $is_kept = is_kept($cut, origin($cut, $process));
+        return "process $process leaves its root" if $is_kept && Listed::is_alive($list) && !is_in($list, $before);
+        $counts{kept} += $is_kept;
+        $counts{left}++, next if root_line($before) =~ / closed\z/ && !is_in($list, $before);
         my $fault = Listed::beyond($list, $before);
         return "process $process gets further: $fault" if defined $fault;
         return "process $process can put veils again" if !Listed::is_confined($list);
@@ -274,10 +292,28 @@ sub list_fault {
     return;
 }
 
-# The same of the audits of one such process, from the root and from its working directory, if it didn't change that.
+# Whether a process can't come out of a root of its own behind a cut: it is enclosed there, has pledged without id, and nobody
+# else asks, who could move away what it works in.
+sub is_kept {
+    my ($cut, $process) = @_;
+    my ($model, $is) = ($cut->{model}, $cut->{model}{processes}{$process});
+    return 0 if $is->{root} == 0 || !$model->is_enclosed($is) || !$is->{promises} || $is->{promises}{id};
+    return !grep({ origin($cut, $_) != $process } keys %{ $cut->{askers} }) || 0;
+}
+
+# What a list says of the root of its process, and whether that of another one is the same, out of which nothing leads.
+sub root_line { return (grep({ /\Aroot / } @{ $_[0]{state} }), '')[0] }
+
+sub is_in {
+    my ($list, $other) = @_;
+    return root_line($list) eq root_line($other) && root_line($list) =~ / closed\z/;
+}
+
+# The same of the audits of one such process, from the root and from its working directory, if it didn't change that, nor the
+# root.
 sub audit_fault {
     my ($cut) = @_;
-    my @confined = confined($cut);
+    my @confined = grep { !$cut->{rooted}{$_} } confined($cut);
     return if !@confined;
     my $process = $worlds->pick(@confined);
     my $base    = $cut->{moved}{$process} || $worlds->number(2) ? 'root' : 'cwd';

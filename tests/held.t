@@ -1,45 +1,63 @@
 #!/usr/bin/perl
-# Tests of what processes have open, over random worlds by a fixed seed: perl tests/held.t [PROGRAM [SEED]]
+# Tests of what processes have open and of their roots, over random worlds by a fixed seed:
 #
-# By OpenBSD's rules random scripts open files and keep them, close them, go where they lead, and take them of other
-# processes, while others make, move and remove what they stand for, fork, start programs, pledge and unveil. Each answer,
-# and each line of the list of each process, its lines `held` too, is that of a plain model (Model.pm); and so are lists for
-# ever, which say whether files may still be received.
+#     perl tests/held.t [PROGRAM [SEED]]
+#
+# By OpenBSD's rules random scripts open files and keep them, close them, go where they lead, take them of other processes, and
+# move their roots, while others make, move and remove what they stand for, fork, start programs, pledge and unveil. Each
+# answer, and each line of the list of each process, its lines `held` and `root` too, is that of a plain model (Model.pm); and
+# so are lists for ever, which say whether files may still be received. Of some wrong models of roots each is noticed.
 use strict;
 use warnings;
 use FindBin qw($Bin);
 use lib "$Bin/lib";
+use List::Util qw(first);
 use Test::More;
 use EverModel;
 use Model;
 use Openings qw(openings_of);
 use Pua::Calls qw(%OPENINGS);
 use Worlds qw(answer_of program_in worlds_told);
+use WrongRoots qw(with_wrong);
 
 my $PUA  = program_in(@ARGV);
 my $SEED = @ARGV > 1 ? $ARGV[1] : 89;
 
-# How many worlds are tried, of which each second has paths that promises open; and how many make a test.
-my $WORLDS = 400;
+# How many worlds are tried, of which each second has paths that promises open, and half are about roots too; and how many
+# make a test.
+my $WORLDS = 800;
 my $IN_ONE = 20;
 
-# How often each answer to a line on descriptors has to be met, each kind of a line `held`, and a list for ever with a program
-# that is made of what is open: of the process alone, and through execs.
+# How often each answer to a line on descriptors or a root has to be met, each kind of a line `held` or `root`, and a list for
+# ever with a program that is made of what is open: of the process alone, and through execs. With other seeds each was met more
+# than twice as often, too.
 my %LEAST = (
-    'hold ok' => 150, 'hold ENOENT' => 50, 'hold EACCES' => 10, 'hold EISDIR' => 10, 'hold killed' => 1, 'hold ENOSYS' => 5,
-    'close ok' => 20, 'close EBADF' => 50, 'fchdir ok' => 20, 'fchdir EBADF' => 50, 'fchdir ENOTDIR' => 10,
-    'take ok' => 20, 'take EBADF' => 50, 'take EPERM' => 1, 'take EINVAL' => 2, 'take killed' => 1, 'take ENOSYS' => 2,
-    'by a promise' => 1, 'of a directory' => 50, 'of a program' => 20, 'of no name' => 10, 'of several names' => 5,
-    'of no use' => 5, 'for ever' => 20, 'received' => 2, 'made a program' => 10, 'made a program later' => 5,
+    'hold ok' => 300, 'hold ENOENT' => 150, 'hold EACCES' => 20, 'hold EISDIR' => 40, 'hold killed' => 6, 'hold ENOSYS' => 20,
+    'close ok' => 40, 'close EBADF' => 100, 'fchdir ok' => 20, 'fchdir EBADF' => 120, 'fchdir ENOTDIR' => 25,
+    'take ok' => 30, 'take EBADF' => 120, 'take EPERM' => 3, 'take EINVAL' => 4, 'take killed' => 15, 'take ENOSYS' => 20,
+    'chroot ok' => 120, 'chroot ENOENT' => 120, 'chroot ENOTDIR' => 40, 'chroot EACCES' => 15, 'chroot killed' => 15,
+    'chroot ENOSYS' => 30, 'by a promise' => 3, 'of a directory' => 80, 'of a program' => 25, 'of no name' => 10,
+    'of several names' => 80, 'of no use' => 200, 'for ever' => 300, 'received' => 60, 'made a program' => 20,
+    'made a program later' => 30, 'closed' => 30, 'open' => 40, 'removed' => 2, 'cut' => 30, 'rooted for ever' => 25,
 );
 my %count = map { $_ => 0 } keys %LEAST;
 
-my @worlds = map { Worlds->new($SEED + $_, { files => 1, openings => $_ })->by('openbsd') } 0, 1;
+# Each world that is about roots: its listing and its script, and what the model tells of them.
+my @rooted;
+
+my @kinds  = map { my $openings = $_; map { { files => 1, openings => $openings, roots => $_ } } 0, 1 } 0, 1;
+my @worlds = map { Worlds->new($SEED + $_, $kinds[$_])->by('openbsd') } 0 .. $#kinds;
 for my $number (1 .. $WORLDS / $IN_ONE) {
-    my ($fault) = grep { defined } map { fault_of($worlds[ $_ % 2 ]) } 1 .. $IN_ONE;
+    my ($fault) = grep { defined } map { fault_of($worlds[ $_ % @worlds ]) } 1 .. $IN_ONE;
     ok(!defined $fault, "worlds $number: answers, states and lists are those of the model") or diag($fault);
 }
 cmp_ok($count{$_}, '>=', $LEAST{$_}, $_) for sort keys %LEAST;
+for (@WrongRoots::WRONG) {
+    my ($name, $place, $wrong) = @$_;
+    my $is_told = sub { my ($listing, $script, $told) = @{ $_[0] }; return told_by_model($listing, $script) eq $told };
+    my $noticed = with_wrong($place, $wrong, sub { return first { !$is_told->($rooted[$_]) } 0 .. $#rooted });
+    ok(defined $noticed, "noticed: $name") and note "by world $noticed";
+}
 done_testing();
 
 # A script by which process 1 has plain files open, and at last can start what is under some veil.
@@ -75,12 +93,21 @@ sub fault_of {
     counted($files->{script}, $answers);
     my $lists = join '', map { $model->list($_) } $model->processes;
     counted_held($lists);
+    push @rooted, [ @$files{qw(listing script)}, $answers . $lists ] if $worlds->roots;
     my $fault = otherwise($files, $answers . $lists, 'objects', '--process', 'all');
     for my $process (grep { $model->state($_) =~ /^unveil (?:locked|given-up)$/m } $model->processes) {
         last if defined $fault;
         $fault = otherwise($files, $answers . ever($model, $process), 'objects', '--ever', '--process', $process);
     }
     return $fault;
+}
+
+# What a model tells of a listing and a script: the answers, and the list of each process.
+sub told_by_model {
+    my ($listing, $script) = @_;
+    my $model = Model->new($listing, { rules => 'openbsd' });
+    my $answers = $model->run($script);
+    return join '', $answers, map { $model->list($_) } $model->processes;
 }
 
 # What is told otherwise than by the model; undef where nothing is.
@@ -105,9 +132,9 @@ sub ever {
     my $execs = $given ? "exec bounded\n" : grep({ EverModel::has_exec($_) } EverModel::lines($model, $process)) ? "exec open\n" : '';
     my $receives = is_held('recvfd', @holders) ? "receive open\n" : '';
     my @openings = openings_of(grep { is_held($_, @holders) } keys %OPENINGS);
-    my $state = $model->state($process) =~ s/^opening .*\n//gmr;
-    $state =~ s/^(unveil \S+\n)/join '', $1, $execs, $receives, @openings/em;
+    my $state = $model->state($process, { bounds => [ $execs, $receives ], openings => \@openings });
     $count{'for ever'}++;
+    $count{'rooted for ever'}++ if $state =~ /^root /m;
     $count{$execs}++ if $execs;
     $count{received}++ if $receives;
     my @lines = EverModel::lasting($model, $process);
@@ -127,24 +154,28 @@ sub is_held {
     return scalar grep { Model::_holds($_, $promise) } @holders;
 }
 
-# Counts the answers to lines on descriptors.
+# Counts the answers to lines on descriptors and roots.
 sub counted {
     my ($script, $answers) = @_;
     my @answers = map { (split / /, $_, 2)[1] } split /\n/, $answers;
     for my $line (split /\n/, $script) {
         my ($answer, $call) = (shift @answers, (split / /, $line)[1]);
-        next if $call !~ /\A(?:hold|close|fchdir|take)\z/;
+        next if $call !~ /\A(?:hold|close|fchdir|take|chroot)\z/;
         $count{'by a promise'}++ if $answer =~ s/ by .*//;
         $count{"$call $answer"}++;
     }
     return;
 }
 
-# Counts the kinds of lines `held`.
+# Counts the kinds of lines `held` and `root`, and lists of a root alone.
 sub counted_held {
     my ($lists) = @_;
     for my $list (split /^(?=objects )/m, $lists) {
         my %of;
+        my ($root, $word) = $list =~ /^root (\S+) (\S+)$/m;
+        $count{$word}++ if defined $word;
+        $count{removed}++ if ($root // '') eq '-';
+        $count{cut}++ if ($word // '') eq 'closed' && $list =~ m{^[a-z]+ \Q$root\E(?:/\S*)? }m;
         for (grep { /\Aheld / } split /\n/, $list) {
             my (undef, $number, $kind, $path, $uses) = split / /;
             $count{'of a directory'}++ if $kind eq 'dir';

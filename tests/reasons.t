@@ -185,18 +185,28 @@ my @files   = (
     '1 hold 3 open-r /none', '2 hold 3 open-r /a', '3 unveil /f r', '3 hold 3 open-r /a', '3 close 3', '3 hold 3 open-r /f', '2 exit',
     '3 take 6 2 6', '3 exec /p', '3 close 3', '3 close 3', '3 fchdir 6', '3 pledge error,recvfd -', '3 take 1 1 4', '3 take 1 1 3',
 );
+my @roots   = (
+    '1 fork 2', '1 fork 3', '1 fork 4', '1 chroot /f', '1 chroot /none', '1 chroot =', '1 chroot /l1', '1 chroot /a', '1 stat /f', '1 stat f',
+    '1 chdir /b', '1 open-r /../f', '1 chroot /a', '1 mkdir /', '1 rmdir /', '1 unlink /', '1 rename /b /', '1 chroot ..', '1 chroot /a', '1 chdir /',
+    '1 stat ../f', '1 readlink ../b', '1 exec /b', '2 pledge error,rpath -', '2 chroot /a', '2 pledge rpath -', '3 unveil /a wc', '3 chroot /a', '3 chroot /g',
+    '3 unveil /g r', '3 chroot /g', '3 mkdir /x', '3 stat /x', '3 stat /../f', '3 unveil - -', '3 unveil /x r', '3 chroot /x', '4 chroot /e',
+    '4 chroot /e', '1 fork 5', OBSERVER . ' rmdir /e', '4 stat /', '4 stat /x', '4 chroot /', '4 rename /x y',
+    '4 stat x', '4 stat l1', '5 stat /f', OBSERVER . ' rename /a /x', '5 stat /f', '1 stat /f', '5 chroot /b', '5 chroot ../..', '4 chroot .',
+    '4 stat /e', '2 chroot /a', '2 exit', '2 chroot /', '9 chroot /',
+);
 my @by_hand = (
     [ 'each kind', $listing, $each ],
     [ 'many veils', $empty, [ '1 fork ' . OBSERVER, @veils ] ],
     [ 'many processes', $empty, [ '1 fork ' . OBSERVER, @forks ] ],
     [ 'calls without a path', $empty, [ '1 fork ' . OBSERVER, @uses ], 'openbsd' ],
     [ 'descriptors', $listing, [ '1 fork ' . OBSERVER, @files ], 'openbsd' ],
+    [ 'roots', $listing, [ '1 fork ' . OBSERVER, @roots ], 'openbsd' ],
     [ 'what promises open', $opened, [ '1 fork ' . OBSERVER, @opened ], 'openbsd' ],
 );
 for (@by_hand) {
     my ($name, $tree, $script, $rules) = @$_;
     my $world = Why::World->new($PROGRAM, $tree, { rules => $rules });
-    ask($world, "world of $name", $script, $name !~ /many|descriptors/);
+    ask($world, "world of $name", $script, $name !~ /many|descriptors|roots/);
     list($world, "world of $name", $script, \%NEEDS) if $name eq 'each kind';
     add_counts($world->counts);
 }

@@ -31,7 +31,7 @@ $SEED   = $ARGV[2] if @ARGV > 2;
 # Of so few words all that can be left out is tried.
 my $FEW = 6;
 
-my $worlds = Worlds->new($SEED, { openings => 1, files => 1 });
+my $worlds = Worlds->new($SEED, { openings => 1, files => 1, roots => 1 });
 my %count = map { $_ => 0 } qw(words left least lines fewer ever bounded runs);
 
 # What is wrong with what the program prints of some lines, in words; the empty text where nothing is.

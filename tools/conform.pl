@@ -10,10 +10,11 @@
 #     conform.pl [options] --trials DIR > report
 #
 # The tree of the listing is made in a fresh directory, which becomes `/` by chroot(2): so it has to
-# be root, and nothing outside of that directory is touched. Each process of the script is a process
-# of the system, and each request a call. pledge and unveil go through OpenBSD::Pledge and
-# OpenBSD::Unveil; where there are none, their lines are answered `left-out`, and trials that have
-# such lines are passed over.
+# be root, and nothing outside of that directory is touched. On Linux it becomes the root of all for a
+# script that has chroot itself, in a name space of mounts of its own; elsewhere chroot(2) could lead
+# out of it, and is made for trials alone. Each process of the script is a process of the system, and each request a call. pledge
+# and unveil go through OpenBSD::Pledge and OpenBSD::Unveil; where there are none, their lines are
+# answered `left-out`, and trials that have such lines are passed over.
 #
 #     --builtins     makes calls by perl's own functions, even where the numbers of the system calls
 #                    are known; these take slashes away from the ends of some paths.
@@ -21,18 +22,20 @@
 #                    copy of it, which goes on with the script after an exec, and pledge(2) has its
 #                    execpromises. Without it a `prog` is a file that no system can start: where
 #                    execve(2) says ENOEXEC, the answer is ok, and the process goes on as it is.
-#     --left         prints what stands in the tree afterwards too, a line `KIND PATH` each, and what
-#                    is open, a line `held PROCESS NUMBER PATH` for each of its names, or with `-`.
+#     --left         prints what stands in the tree afterwards too, a line `KIND PATH` each; what is
+#                    open, a line `held PROCESS NUMBER PATH` for each of its names, or with `-`; and of
+#                    a script that has chroot `root PROCESS PATH` of who has a root of its own, with
+#                    `closed`, or with `open` where a directory outside of it is its own or open.
 #     --room DIR     makes the fresh directories in DIR, and not in TMPDIR or /tmp.
 #     --help         prints this.
 #
-# Words of its own among the answers: `left-out`, also for take on other systems than Linux, and where
-# the numbers of its calls aren't known, and for the hold of what no system opens; `too-long` for bind and connect with a path of
-# more than 103 bytes, which no address of a socket holds; `no-answer` of a process that is silent
-# for half a minute. `stdio` is added to all promises and execpromises, since the answers have to be
-# told. The open of a fifo that would wait, and that of a socket, is `ok`, as of the files that pua
-# has in their place. A fork to a number that was used is EAGAIN, and a process that ended is gone,
-# as in pua.
+# Words of its own among the answers: `left-out`, also for take and chroot on other systems than
+# Linux, and where the numbers of their calls aren't known or these are refused, and for the hold of
+# what no system opens; `too-long` for bind and connect with a path of more than 103 bytes, which no
+# address of a socket holds; `no-answer` of a process that is silent for half a minute. `stdio` is
+# added to all promises and execpromises, since the answers have to be told. The open of a fifo that
+# would wait, and that of a socket, is `ok`, as of the files that pua has in their place. A fork to a
+# number that was used is EAGAIN, and a process that ended is gone, as in pua.
 #
 # Status 0: it was performed, whatever the answers are. Status 1: a file can't be read, or isn't of
 # the right form, or this process isn't root. Status 2: the words do not fit.
@@ -130,7 +133,7 @@ sub report_on {
         my $why = passed_over($trial, $how);
         my $answers;
         if ($why eq '') {
-            ($answers) = eval { perform(listing_of($trial), script_of($trial), $how) };
+            ($answers) = eval { perform(listing_of($trial), script_of($trial), { %$how, trusted => 1 }) };
             $why = $@ =~ s/\n\z//r if !$answers;
         }
         my @told = told_of($trial, $answers);

@@ -188,6 +188,40 @@ for my $way ([], defined $helper ? ['--helper', $helper] : ()) {
     is(join(' ', (split / /, answers($out))[-7 .. -1]), 'ok EBADF ok ok ok ok EBADF', "what is taken, as Linux lets it @$way") or diag $err;
     is(join('', $out =~ /^(held .*\n)/mg), "held 1 3 /tmp/etc\nheld 1 6 -\nheld 1 7 -\n", "and what is open at last @$way");
 }
+for my $way ([], ['--builtins'], defined $helper ? ['--helper', $helper] : ()) {
+    last if $^O ne 'linux';
+    my ($status, $out, $err) = conform('--room', "$room/cases", @$way, '--left', put('t', $LISTING), put('s', <<'END_SCRIPT'));
+1 fork 2
+1 hold 3 open-r /
+1 hold 4 open-r /etc
+1 hold 5 open-r /etc/passwd
+1 chroot /etc
+1 stat /passwd
+1 stat /../passwd
+1 stat ../../../../../../../proc
+1 chdir /
+1 stat ../t
+1 fchdir 3
+1 stat ../t
+2 mkdir /d
+2 fork 3
+3 chroot d
+2 rmdir /d
+3 stat /..
+3 create /x
+2 chroot /tmp
+2 exec /sh
+2 stat /again
+2 chdir /
+2 chroot /none
+2 chroot again
+END_SCRIPT
+    if ($out =~ /left-out/) { note 'no root can be moved here'; last }
+    is(answers($out), join(' ', ('ok') x 7, 'ENOENT', 'ok', 'ENOENT', ('ok') x 7, 'ENOENT', ('ok') x 4, 'ENOENT', 'ENOTDIR'),
+        "a root that is moved @$way") or diag $err;
+    is(join('', $out =~ /^(root .*\n)/mg), "root 1 /etc open\nroot 2 /tmp closed\nroot 3 - open\n", "and who is in it @$way");
+    is(join(' ', glob "$room/cases/*"), '', "nothing is left behind @$way");
+}
 my $name = 'd' x 200;
 answered('a deep tree', join("\n", 'tree 1', '0 dir', map({ "$_ dir " . ($_ - 1) . " $name" } 1 .. 40), ''),
     "1 stat /$name\n1 chdir $name/$name/$name/$name\n1 chdir $name/$name/$name/$name\n", 'ok ok ok');

@@ -6,12 +6,15 @@
 # of the script that trace.pl makes of these records are done in a tree that is made anew at the
 # same place. Each has to be answered as its call was, and the two trees have to end alike: a path
 # that was followed wrongly leads elsewhere. With PUA=PROGRAM that pua runs the script too, over a
-# listing that list.pl makes before the calls: it has to answer `ok` where the system did.
+# listing that list.pl makes before the calls: it has to answer `ok` where the system did. And, if the
+# user may change roots, conform.pl performs the script that trace.pl makes with -h, which says what is
+# held and who has which root, over that listing: each line has to be answered as its call was.
 #
 # Half of the trees have symbolic links, and nothing is moved or removed in them: a directory that
 # was opened through a link, and moved by another path since then, is one that trace.pl doesn't
 # follow. In the others children change their root, if the user may; from then on they use no
-# `..`, of which trace.pl says that it leads elsewhere.
+# `..`, of which trace.pl says that it leads elsewhere, and both paths of a call begin in one place:
+# from two descriptors it can't be written where these are outside of the root.
 use strict;
 use warnings;
 use Config;
@@ -22,14 +25,15 @@ use File::Path qw(make_path remove_tree);
 use FindBin qw($Bin);
 use lib "$Bin/lib";
 use POSIX ();
+use Pua::Kernel qw(%TAKES);
 use Test::More;
-use Tried qw(enter_room put);
+use Tried qw(content enter_room may_chroot put);
 
 plan skip_all => 'the numbers of calls are those of Linux on x86-64'
     unless $Config{archname} =~ /\Ax86_64-linux/;
 
 my ($SEED, $COUNT) = (@ARGV, (71, 24)[@ARGV .. 1]);
-my ($LIST, $TRACE) = map { "$Bin/$_.pl" } qw(list trace);
+my ($LIST, $TRACE, $CONFORM) = map { "$Bin/$_.pl" } qw(list trace conform);
 my $PUA   = defined $ENV{PUA} ? abs_path($ENV{PUA}) : undef;
 my $room  = abs_path(enter_room());
 my $tree  = "$room/tree" . '/s' x 12;    # deep, so that `..` doesn't lead out of what is made anew
@@ -155,6 +159,7 @@ sub make_any {
     my $call = pick(@STAYING, $moves ? @MOVING : 'symlinkat');
     return if !@$open && $call =~ /\A(?:dup2?|close)\z/ || ($call eq 'close' && @$open < 5);
     my ($at, $to) = map { pick(@$open, 'AT_FDCWD', 'AT_FDCWD') } 1, 2;
+    $to = $at if $in_root;
     my ($from, $into) = map { $_ eq 'AT_FDCWD' ? $HERE : $_ } $at, $to;
     return if grep { is_removed($_) } $from, $into;
     my @numbers = map { @$open ? pick(@$open) : 9999 } 1, 2;
@@ -226,6 +231,22 @@ sub done {
     die "a line of a script: $call @words";
 }
 
+# Performs the script with what is held, and counts its lines.
+my $performs = may_chroot($room) && $TAKES{chroot};
+my %performed = map { $_ => 0 } qw(hold close fchdir chroot);
+sub test_performed {
+    my ($number) = @_;
+    my $said = `$^X -w $TRACE -h -d $tree -e answers.held trace 2>&1 > script.held`;
+    is($? . (() = $said =~ / at \S+ line [0-9]+\.$/mg), '00', "$number: it is read with -h") or diag $said;
+    my @answers = `$^X -U $CONFORM listing script.held`;
+    my @lines = split /^/, content('script.held');
+    my @told  = split /^/, content('answers.held');
+    my @differ = map { $answers[$_] eq $told[$_] ? () : "$lines[$_]$told[$_]now $answers[$_]" } 0 .. $#lines;
+    is(join('', @differ), '', "$number: each line with -h is answered as its call was");
+    for (@lines) { $performed{$1}++ if / (hold|close|fchdir|chroot) / }
+    return;
+}
+
 my $done = 0;    # lines of scripts
 for my $number (1 .. $COUNT) {
     my $moves = $number % 2;
@@ -233,8 +254,7 @@ for my $number (1 .. $COUNT) {
     make_tree(!$moves);
     open $log, '>>', "$room/trace" or die "trace: $!";
     truncate $log, 0;
-    is(system("$^X $LIST $room/tree > listing 2> said"), 0, "$number: it is listed")
-        if defined $PUA;
+    is(system("$^X $LIST $room/tree > listing 2> said"), 0, "$number: it is listed");
     chdir $tree or die "$tree: $!";
     make_calls(150, $moves);
     close $log or die "trace: $!";
@@ -244,6 +264,7 @@ for my $number (1 .. $COUNT) {
     is($? . (() = $said =~ / at \S+ line [0-9]+\.$/mg), '00', "$number: the trace is read")
         or diag $said;
 
+    test_performed($number) if $performs;
     make_tree(!$moves);
     if (defined $PUA) {
         my @ran = map { s/ E\w+$/ refused/r } `$PUA run --rules openbsd listing script`;
@@ -275,5 +296,7 @@ for my $number (1 .. $COUNT) {
     $done += $.;
 }
 cmp_ok($done, '>', 150 * $COUNT, 'lines of scripts');
+cmp_ok($performed{$_}, '>=', $COUNT / 4, "lines of $_ that were performed: $performed{$_}")
+    for $performs ? sort keys %performed : ();
 chdir '/';
 done_testing;

@@ -10,13 +10,13 @@
 #
 # The line of a process has its veils and its lock, and how many lines of objects have something
 # that can be read, written, executed, made and removed; more than one of them may be about one
-# name. Below it stands, as far as it is so: what it has open, with what it may do with that; that
-# it takes descriptors from others; that it has no veils at all, that it never pledged,
-# that it can put further veils; that programs which it starts have no sandbox; which sockets it
-# can connect to and where it can bind one; its promises
-# for the network; what its promises open past the veils, beside what stdio opens for every
-# process: /dev/null, /etc/localtime and /usr/share/zoneinfo; and which veils it can move below
-# another one, where a kernel may go on by what covered them before.
+# name. Below it stands, as far as it is so: which root it has, and whether it gets out of that; what
+# it has open, with what it may do with that; that it takes descriptors from others; that it has no
+# veils at all, that it never pledged, that it can put further veils; that programs which it starts
+# have no sandbox; which sockets it can connect to and where it can bind one; its promises for the
+# network; what its promises open past the veils, beside what stdio opens for every process:
+# /dev/null, /etc/localtime and /usr/share/zoneinfo; and which veils it can move below another one,
+# where a kernel may go on by what covered them before.
 #
 # Of a list for ever with the help of others, as `ever 2 beside 1`, where the list of the same
 # process without it is there too, one line alone says what the help adds, below all others:
@@ -172,6 +172,16 @@ sub about_moves {
     return 'can move below another veil, where a kernel may go by the old place: ' . some(@moved);
 }
 
+# What is to be said of a root. Without a pledge, and with `id`, a process can enter another one, and
+# so get out of this.
+sub about_root {
+    my ($state) = @_;
+    my ($path, $is) = @{ $state->{root} || return };
+    my $root = $path eq '-' ? 'a root that was removed' : "the root $path";
+    return "has $root, and gets out of it" if $is eq 'open';
+    return "has $root" . (holds($state, 'id') ? ', and can get out of it by a further chroot' : '');
+}
+
 # What is to be said of open files.
 sub about_files {
     my ($state) = @_;
@@ -193,7 +203,7 @@ sub lines_about {
         . (defined $list->{beside} ? " beside $list->{beside}" : '');
     return "$name: ended" if $state->{ended};
     my $veils = @{ $state->{veils} };
-    my @says = about_files($state);
+    my @says = (about_root($state), about_files($state));
     push @says, 'no veils at all: it touches what is not listed too'
         if !$veils && grep { holds($state, $_) } @ABOUT_PATHS;
     push @says, 'it never pledged: it holds all promises' if !$state->{promises};

@@ -459,6 +459,35 @@ END
     is("$status $err", '0 ', 'what is open: the status');
 }
 
+# The root stands before what is open; a line of it is none of an object.
+{
+    my @state = ('process alive', 'rules openbsd', 'execpromises -', 'unveil locked', 'veil /srv r');
+    file('list', 'objects 1', @state, 'promises rpath,stdio', 'root /srv open', 'held 3 dir / read,chdir', 'dir /srv stat',
+        'objects 2', @state, 'promises rpath,stdio', 'root /srv closed', 'dir /srv stat',
+        'objects 3', @state, 'promises id,stdio', 'root /srv/www closed',
+        'ever 4', @state, 'promises recvfd,rpath,stdio', 'receive open', 'root - open', 'dir /srv stat',
+        'objects 5', @state, 'promises -', 'root /srv closed');
+    my ($status, $out, $err) = glance('list');
+    is($out, <<'END', 'roots');
+answers: none
+process 1: veils 1, locked; read 1, written 0, executed 0, made 0, removed 0
+    has the root /srv, and gets out of it
+    holds open / (read,chdir)
+process 2: veils 1, locked; read 1, written 0, executed 0, made 0, removed 0
+    has the root /srv
+process 3: veils 1, locked; read 0, written 0, executed 0, made 0, removed 0
+    has the root /srv/www, and can get out of it by a further chroot
+process 4 ever: veils 1, locked; read 1, written 0, executed 0, made 0, removed 0
+    has a root that was removed, and gets out of it
+    takes descriptors from others: the list holds until it receives one
+process 5: veils 1, locked; read 0, written 0, executed 0, made 0, removed 0
+    has the root /srv, and can get out of it by a further chroot
+    it never pledged: it holds all promises
+    programs that it starts have no sandbox, though none that is listed can be executed
+END
+    is("$status $err", '0 ', 'roots: the status');
+}
+
 # Regions. A directory begins one where another veil covers it, where its calls are others, and where
 # the one that it is in has no line; a veil on a file begins none, and is told with its calls.
 {
@@ -589,7 +618,7 @@ for my $output (glob "$Bin/../examples/*/*{objects,all,ever}*-output") {
     my @told = $out =~ /^process [0-9]+/mg;
     is("$status $err" . @told, '0 ' . @processes, ($output =~ m{([^/]*/[^/]*)\z})[0]);
     ($status, $out, $err) = glance('-d', $output);
-    my @objects = $text =~ m{^(?!veil |opening |promises |execpromises )[a-z]+ (?:/\S*|new) \S}mg;
+    my @objects = $text =~ m{^(?!veil |opening |root |promises |execpromises )[a-z]+ (?:/\S*|new) \S}mg;
     my ($in_regions, $in_groups) = (0, 0);
     $in_regions += $_ for $out =~ /^    (?:below \S+ \(.*?\)|what is made): ([0-9]+) line/mg;
     for my $group ($out =~ /^ {8}(.*)/mg) {

@@ -17,8 +17,8 @@
 # exec that was answered `ok`, before an unveil that was, if the line of the process before it is no
 # such one, and `before its end`, an exit or a request that was answered `killed`. So what a process
 # could do for a while stands there too. Where a process never pledged, has neither veils nor a lock
-# and gave no execpromises its list is one line, `unrestricted`. No line has the number of a line of
-# SCRIPT, so a line that is put in there changes no other one.
+# nor a root of its own, and gave no execpromises its list is one line, `unrestricted`. No line has the
+# number of a line of SCRIPT, so a line that is put in there changes no other one.
 #
 #     -c KEPT     makes all this once more, by the options that the first line of the file KEPT
 #                 names, and prints each line that it has no longer, after a `-`, and each that it
@@ -51,7 +51,9 @@ my ($NAME) = $0 =~ m{([^/]*)\z};
 my $USAGE = "usage: $NAME [-ln] [-c KEPT] [-p PROGRAM] [-r RULES] [-t TABLE] TREE SCRIPT\n";
 
 # How many arguments a call has, where it isn't one.
-my %ARGUMENTS = (exit => 0, map { $_ => 2 } qw(symlink rename link pledge unveil));
+my %ARGUMENTS = (
+    exit => 0, (map { $_ => 2 } qw(symlink rename link pledge unveil)), hold => 3, take => 3,
+);
 
 my $program = 'pua';
 my $room;    # a directory for the files that programs are given
@@ -129,7 +131,7 @@ sub turns {
 sub is_unrestricted {
     my ($state) = @_;
     return !$state->{ended} && !@{ $state->{veils} } && $state->{unveil} eq 'open'
-        && !grep { $state->{$_} } qw(promises execpromises);
+        && !grep { $state->{$_} } qw(promises execpromises root);
 }
 
 # The lines of a list, after a heading.

@@ -325,6 +325,10 @@ changed(@$_) for @changes;
         'objects 1 objects 2 before unveil 1 objects 3 before pledge 1', 'what is not restricted');
     like($out, qr/^objects 2: unveil locked\n(?s:.*)^objects 3: execpromises stdio$/m,
         'a lock and execpromises are restrictions');
+    file('script', '1 hold 3 open-r /etc # it stays', '1 fork 2', '2 chroot /etc # a root', '2 take 4 1 3 # and more');
+    ($status, $out, $err) = keep('front.listing', 'script');
+    like($out, qr{^run 1: hold 3 open-r /etc: ok\nrun 1: fork 2: ok\nrun 2: chroot /etc: ok\nrun 2: take 4 1 3: ok
+objects 1: unrestricted\nobjects 2: process alive\n(?s:.*)^objects 2: root /etc open$}m, 'files and roots, of which one is a restriction');
 }
 
 # A line that is put in or taken away changes no line but what comes of it.

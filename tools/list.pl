@@ -25,9 +25,10 @@
 #                then one below ROOT. With no PATH, SCRIPT or PATHS, all of ROOT is listed.
 #     -s SCRIPT  lists what a script for pua can be about: for each path that it names the
 #                directories on the way, the links and what they lead to, and what stands there.
-#                Of a directory that it veils, opens, renames or removes, or to whose name it
-#                renames something, all that is in it is listed too. A relative path is taken from
-#                where the process is by then, and from the root at first. A script that is made
+#                Of a directory that it veils, opens, enters by chroot, renames or removes, or to
+#                whose name it renames something, all that is in it is listed too. A relative path is
+#                taken from where the process is by then, and from the root at first; any other one,
+#                and the target of a link, from the root that it has by then. A script that is made
 #                of a trace exists after its run alone: list by it on a machine where that run
 #                wasn't.
 #     -v         reports each link that leads out of the listing by itself.
@@ -50,8 +51,8 @@
 # how much; with -n how many files aren't listed, and in how many directories; with -s what the
 # script names in vain, each name once and no name that the script makes, how many relative paths
 # are taken from the root, and each process that is left without a veil and holds a promise about
-# paths, and how many names aren't listed. To count these, -s reads the directories below the root
-# then, up to 100,000 names.
+# paths, and how many names aren't listed, but for one that entered a root of its own and went to a
+# path in it. To count these, -s reads the directories below the root then, up to 100,000 names.
 #
 # Status 0: the listing was printed. Status 1: a file, a directory, a link, the script or PATHS
 # can't be read, the script isn't one, a line of PATHS is no path, there are more than 1,000,000
@@ -86,14 +87,16 @@ my @ABOUT_PATHS = qw(rpath wpath cpath dpath tmppath exec fattr chown unix);
 my %arguments = (
     (map { $_ => ['path'] } qw(stat lstat readlink unlink chmod chdir exec connect chown)),
     (map { $_ => ['path'] } qw(fchmod fchown access statfs truncate chflags utimes)),
-    (map { $_ => ['tree'] } qw(open-r open-w open-rw rmdir)),
+    (map { $_ => ['tree'] } qw(open-r open-w open-rw rmdir chroot)),
     (map { $_ => ['new path'] } qw(create create-rw mkdir bind mknod mkfifo)),
     symlink => ['text', 'new path'],
     rename  => ['tree', 'new tree'],
     link    => ['path', 'new path'],
     unveil  => ['tree', 'text'],
     pledge  => ['text', 'text'],
-    fork    => ['text'],
+    hold    => ['text', 'text', 'tree'],
+    take    => ['text', 'text', 'text'],
+    (map { $_ => ['text'] } qw(fork uses close fchdir)),
     exit    => [],
 );
 
@@ -321,15 +324,17 @@ sub take_way {
 }
 
 # Follows a path on the disk, and takes the links by which it leads on. With $follows a link at
-# its end leads on too. Answers the path of what is there, and nothing where a -x left it out;
-# where the path leads nowhere, how far it leads, at which path it doesn't go on and why, and the
-# error of the system there.
+# its end leads on too. Where a process follows it that has a root of its own, $top is that: `..`
+# doesn't lead out of it, and targets of links begin there. Answers the path of what is there, and
+# nothing where a -x left it out; where the path leads nowhere, how far it leads, at which path it
+# doesn't go on and why, and the error of the system there.
 sub follow {
-    my ($operand, $follows) = @_;
+    my ($operand, $follows, $top) = @_;
+    $top //= '';
     my ($path, $links, @parts) = ('', 0, parts(whole($operand)));
     while (defined(my $part = shift @parts)) {
         if ($part eq '..') {
-            $path = above($path);
+            $path = above($path) if $path ne $top;
             next;
         }
         my $next = "$path/$part";
@@ -340,7 +345,7 @@ sub follow {
             take_way($next);
             return ($path) if take($next) ne 'link';
             my $target = target($next);
-            $path = '' if $target =~ m{\A/};
+            $path = $top if $target =~ m{\A/};
             unshift @parts, grep { $_ ne '.' } parts($target);
         } elsif (-d _ || !@parts) {
             $path = $next;
@@ -386,11 +391,11 @@ sub take_lines {
     return;
 }
 
-# Takes what a script names by a path, in the role that the table of arguments has for it. Answers
-# why it leads nowhere, if nothing is there that has to be.
+# Takes what a script names by a path, in the role that the table of arguments has for it, and from
+# the root of its process. Answers why it leads nowhere, if nothing is there that has to be.
 sub take_named {
-    my ($named, $role) = @_;
-    my ($path, $at, $why, $error) = follow($named, 1);
+    my ($named, $role, $top) = @_;
+    my ($path, $at, $why, $error) = follow($named, 1, $top);
     return unless defined $path;
     take_way($path);
     take($path);
@@ -449,11 +454,12 @@ sub requests {
 # make it.
 sub take_script {
     my (%made, %in_vain, @named, %relative);
-    my %directory;    # by process: where it went
+    my %has;    # by process: its root, where it went, and by their numbers the paths that it holds
     for my $request (@_) {
         my ($where, $process, $call, @words) = @$request;
-        my $here = $directory{$process};
-        $directory{ $words[0] } = $here if $call eq 'fork';
+        my $has = $has{$process} ||= { root => '' };
+        follow_files(\%has, $process, $call, @words);
+        my ($number, $here, $root) = ($words[0], @$has{qw(directory root)});
         next if $call eq 'unveil' && $words[0] eq '-';
         for my $role (@{ $arguments{$call} }) {
             my $word = shift @words;
@@ -461,12 +467,16 @@ sub take_script {
             my $path = unspelled($word);
             fail("$where: bad path") unless defined $path;
             next if $path eq '';
-            $relative{$path} = 1 if $path !~ m{\A/} && !defined $here;
-            my $whole = $path =~ m{\A/} ? $path : (defined $here ? $here : '') . "/$path";
+            my $is_whole = $path =~ m{\A/};
+            $relative{$path} = 1 if !$is_whole && !defined $here;
+            my $whole = ($is_whole ? $root : $here // '') . "/$path";
             my $place = join '', map { "/$_" } grep { $_ ne '.' } parts($whole);
             $made{$place} = 1 if $role =~ /new/;
-            $directory{$process} = $whole if $call eq 'chdir';
-            my $fault = take_named($whole, $role);
+            $has->{directory} = $whole if $call eq 'chdir';
+            $has->{files}{$number} = $whole if $call eq 'hold';
+            my $fault = take_named($whole, $role, $root);
+            $has->{root} = (follow($whole, 1, $root))[0] // $root
+                if $call eq 'chroot' && !defined $fault;
             next if !defined $fault || $in_vain{$place}++;
             push @named, [$path, $place, $fault];
         }
@@ -484,6 +494,22 @@ sub take_script {
     return;
 }
 
+# What a fork, a take, a close and an fchdir do to what processes have.
+sub follow_files {
+    my ($has, $process, $call, $number, $other, $theirs) = @_;
+    my ($mine, $files) = ($has->{$process}, $has->{$process}{files} ||= {});
+    if ($call eq 'fork') {
+        $has->{$number} = { %$mine, files => {%$files} };
+    } elsif ($call eq 'take') {
+        $files->{$number} = $has->{$other}{files}{$theirs};
+    } elsif ($call eq 'close') {
+        delete $files->{$number};
+    } elsif ($call eq 'fchdir') {
+        $mine->{directory} = $files->{$number} if defined $files->{$number};
+    }
+    return;
+}
+
 # What a process holds after a pledge: the promises of its first or second word, none where it is
 # `-`.
 sub held_by {
@@ -494,7 +520,7 @@ sub held_by {
 # The processes that a script leaves without a veil, though they may touch something by a path, as
 # far as its text shows: each with its promises about paths. Each request is taken to succeed. An
 # exec drops the veils where no execpromises were set, and else they are the promises from then
-# on.
+# on. All below a root that was entered is listed: who went to a path from there is none of them.
 sub unveiled {
     my %state = (1 => { veils => 0 });
     for my $request (@_) {
@@ -505,6 +531,10 @@ sub unveiled {
         } elsif ($call eq 'pledge') {
             $state->{promises} = held_by($words[0]) if $words[0] ne '-';
             $state->{next}     = held_by($words[1]) if $words[1] ne '-';
+        } elsif ($call eq 'chroot') {
+            @$state{qw(root inside)} = (1, 0);
+        } elsif ($call eq 'chdir') {
+            $state->{inside} = 1 if $state->{root} && $words[0] =~ m{\A/};
         } elsif ($call eq 'exec') {
             $state->{veils} = 0 unless $state->{next};
             $state->{promises} = delete $state->{next};
@@ -515,7 +545,7 @@ sub unveiled {
         }
     }
     my %unveiled;
-    for my $process (grep { !$state{$_}{veils} } keys %state) {
+    for my $process (grep { !$state{$_}{veils} && !$state{$_}{inside} } keys %state) {
         my $promises = $state{$process}{promises};
         my @held = grep { !$promises || $promises->{$_} } @ABOUT_PATHS;
         $unveiled{$process} = $promises ? join ',', @held : 'it never pledged' if @held;

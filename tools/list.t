@@ -472,6 +472,40 @@ SKIP: {
     refuses('a directory as a script', ['-s', $root], 1, qr/\Alist\.pl: \S+: \S.*\n\z/);
 }
 
+# What is open, and roots of processes.
+{
+    my $root = room();
+    make_path('jail/in/deep', 'out', 'real/a');
+    file($_) for 'jail/in/deep/f', 'jail/g', 'out/h', 'real/a/f';
+    symlink '/in', 'jail/link' or die;
+    symlink 'jail', 'to' or die;
+    my $script = "$room/script";
+    my $try = sub {
+        my ($what, $text, $lines, @reports) = @_;
+        open my $out, '>', $script or die;
+        print $out $text;
+        close $out;
+        return lists("a script: $what", ['-r', $root, '-s', $script], $lines, @reports);
+    };
+    my @jail = ('1 dir 0 jail', '2 file 1 g', '3 dir 1 in', '4 dir 3 deep', '5 file 4 f', '6 link 1 link /in');
+    $try->('it enters a root, from which links and `..` lead', "1 chroot /jail # its site\n1 chdir /\n1 stat /../link/deep/f\n1 stat ../g\n"
+        . "1 fork 2\n2 stat /link\n1 pledge stdio,rpath -\n", \@jail);
+    $try->('it enters one by a link, and stays where it was', "1 chroot to\n1 stat /in/deep\n1 stat out/h\n1 create /in/new\n1 stat /in/new\n",
+        [@jail, '7 dir 0 out', '8 file 7 h', '9 link 0 to jail'], 'relative paths of the script are taken from /, where no chdir is before them: 2',
+        'process 1 has no veil, and may touch all by path (it never pledged); names that are not listed: 3');
+    $try->('a root in a root', "1 chroot /jail\n1 chroot /in\n1 chdir /deep\n1 stat /deep/f\n1 stat f\n1 stat /g\n",
+        \@jail, 'the script names /g, which leads nowhere: /jail/in/g: No such file or directory');
+    $try->('what is open', "1 hold 3 open-r /real\n1 fork 2\n2 fchdir 3 # there\n2 stat a/f\n2 take 4 1 3\n2 close 3\n1 fchdir 9\n2 fchdir 4\n"
+        . "2 stat a\n1 uses id\n1 unveil /none r\n2 unveil /real r\n",
+        ['1 dir 0 real', '2 dir 1 a', '3 file 2 f'], 'the script names /none, which leads nowhere: /none: No such file or directory');
+    for my $bad ('1 chroot', '1 hold 3 /jail', '1 close', '1 take 3 1') {
+        open my $to, '>', $script or die;
+        print $to "$bad\n";
+        close $to;
+        refuses("a script: $bad", ['-r', $root, '-s', $script], 1, qr/\Alist\.pl: \S+: line 1: bad call\n\z/);
+    }
+}
+
 # A directory that can't be read, by a user who is not root.
 SKIP: {
     my $root = room();

@@ -6,12 +6,12 @@
 # TREE is the listing that `pua tree` prints, of the tree behind the script, and OBJECTS the output
 # of `pua objects`, of now or with `--ever`; standard input if it is left out. What is written is
 # one HTML file, without scripts, that loads nothing. For each list of OBJECTS, of which `--process
-# all` prints several, it has the state of the process, if there are lines about it, what it has open
-# before all else, and the tree: beside each name what can be read, written, executed, made and
-# removed there, the veil whose place stands there now, what a promise opens there by itself, and what
-# is open there. A directory is folded where nothing
-# below it can be touched and no veil stands, and so are more than four such names beside others. An
-# open-rw stands in two columns, a create of what is there among what is written, and a connect too.
+# all` prints several, it has the state of the process, if there are lines about it, its root and what
+# it has open before all else, and the tree: beside each name what can be read, written, executed, made
+# and removed there, the veil whose place stands there now, what a promise opens there by itself, what
+# is open there, and whether it is the process's root. A directory is folded where nothing below it can
+# be touched and none of this stands, and so are more than four such names beside others. An open-rw
+# stands in two columns, a create of what is there among what is written, and a connect too.
 #
 # With -d each directory that has DEPTH names or more in its path is folded too, and has how many
 # names in it can be touched. With --help this text is printed.
@@ -223,6 +223,9 @@ sub says {
     my ($line, $state, $can_start) = @_;
     return $STATES{$line} if $STATES{$line};
     return 'its directory was removed' if $line =~ /\Aveil - /;
+    return ($1 eq '-' ? 'it was removed; ' : '')
+        . ($2 eq 'open' ? 'the process gets out of its root' : 'no path of now leads out of it')
+        if $line =~ /\Aroot (\S+) (\S+)\z/;
     return 'open, and no veil hides it' . ($1 eq '-' ? '; it has no name left' : '')
         if $line =~ /\Aheld \S+ \S+ (\S+) \S+\z/;
     return $can_start ? 'unset: a program that it starts has no veils, and all promises but error'
@@ -243,12 +246,14 @@ sub add_state {
     my $state = state_of($list);
     my $can_start = holds($state, 'exec')
         && grep { $_->[2] =~ /(?:\A|,)exec(?:,|\z)/ } @{ $list->{objects} };
-    my $is_first = qr/\A(?:held|receive) /;
-    my @lines = ((grep { /$is_first/ } @{ $list->{state} }), grep { !/$is_first/ } @{ $list->{state} });
+    my @told = @{ $list->{state} };
+    my $is_open = qr/\A(?:held|receive) /;
+    my @lines = ((grep { /\Aroot / } @told), (grep { /$is_open/ } @told),
+        grep { !/\Aroot |$is_open/ } @told);
     push @$page, "<ul>\n";
     push @$page, "<li><code>no lines on the state of the process</code> </li>\n" unless @lines;
     for my $line (@lines) {
-        my $class = $line =~ /\A(?:unveil open|process ended|no veils|exec open|receive open|held .*)\z/
+        my $class = $line =~ /\A(?:(?:unveil|exec|receive|root \S+) open|process ended|no veils|held .*)\z/
             ? ' class="alarm"' : '';
         push @$page, "<li><code$class>" . text($line) . '</code> '
             . text(says($line, $state, $can_start)) . "</li>\n";
@@ -264,6 +269,8 @@ sub add_state {
         for @{ $state->{openings} };
     push @{ node($tree, $_->[2])->{badges} }, ['alarm', "held $_->[0] $_->[3]"]
         for grep { $_->[2] ne '-' } @{ $state->{held} };
+    push @{ node($tree, $_->[0])->{badges} }, [$_->[1] eq 'open' ? 'alarm' : 'veil', "root $_->[1]"]
+        for grep { $_ && $_->[0] ne '-' } $state->{root};
     return;
 }
 

@@ -172,6 +172,22 @@ my @site = ('1 dir 0 www', '2 dir 1 site', '3 file 2 index', '4 file 1 key', '5 
     is_deeply([grep { /etc|passwd/ } rows($page)], ['1 | etc/', '2 | passwd file held 3 read'], 'and where it is in the tree');
 }
 
+# So does the root, before it; where the process gets out of it, that is marked.
+{
+    my $told = sub {
+        my $page = page_of('a root', \@site, ['objects 1', 'process alive', 'promises stdio', 'unveil locked', @_, 'dir /www stat']);
+        my @state = map { m{<li><code( class="alarm")?>([^<]*)</code> ([^<]*)</li>} ? ($1 ? '! ' : '') . "$2: $3" : () } split /^/, $page;
+        my @marks = map { m{<b class="(\w+)">(root[^<]*)</b>} ? "$1 $2" : () } split /^/, $page;
+        return [@state[0, 1], @marks];
+    };
+    is_deeply($told->('veil /www r', 'held 3 dir / read,chdir', 'root /www open'), ['! root /www open: the process gets out of its root',
+        '! held 3 dir / read,chdir: open, and no veil hides it', 'alarm root open'], 'an open root stands first');
+    is_deeply($told->('root /www closed', 'veil /www r'), ['root /www closed: no path of now leads out of it', 'process alive: ',
+        'veil root closed'], 'a closed one');
+    is_deeply($told->('root - open', 'veil /www r'), ['! root - open: it was removed; the process gets out of its root', 'process alive: '],
+        'one that was removed');
+}
+
 # Names beside those that can be touched are folded where there are more than four; what a listing lacks stands
 # there.
 {
@@ -332,8 +348,8 @@ for my $output (glob "$Bin/../examples/*/{objects,all,openbsd}-output") {
     my ($story, $text) = (dirname($output), content($output));
     my ($status, $page, $err) = page("$story/listing", $output);
     my @counts = map { my $pattern = $_; scalar(() = $page =~ /$pattern/g) } 'class="row">', '<li>', '<b class="veil">';
-    my @lines = map { my $pattern = $_; scalar(() = $text =~ /$pattern/mg) } '^(?!veil |opening )[a-z]+ /',
-        '^(?:process|rules|promises|execpromises|unveil|receive|opening|no|veil|held) ', '^(?:veil|opening) /';
+    my @lines = map { my $pattern = $_; scalar(() = $text =~ /$pattern/mg) } '^(?!veil |opening |root )[a-z]+ /',
+        '^(?:process|rules|promises|execpromises|unveil|receive|root|opening|no|veil|held) ', '^(?:(?:veil|opening) /|root .* closed$)';
     is("$status $err@counts", "0 @lines", 'objects, states and veils: ' . ($output =~ m{([^/]*/[^/]*)\z})[0]);
 }
 done_testing;

@@ -20,7 +20,7 @@
 #   perl tools/touched.pl Action.Rename                # a request of scripts
 #   perl tools/touched.pl -t prog Kind.Prog IsProg     # a kind of node
 #   perl tools/touched.pl -t '' TieRow AddNode         # a change that requests make
-#   perl tools/touched.pl -t '' ROOT start_of          # the root of a process, as by chroot(2)
+#   perl tools/touched.pl -t '' ToRoot root_dir        # the root of a process
 #   perl tools/touched.pl -t 'bad number' BadNumber    # a fault of a listing or script
 #   perl tools/touched.pl -t '' Fault.LacksLetters     # a reason: a check that fails
 #   perl tools/touched.pl -t '' Misfit.Exists          # what is wrong with an object

@@ -22,9 +22,10 @@
 #     -h             writes what an open leaves open as a line `hold`, with a number from 3 on that no
 #                    other open file of the process has, a line `close` where its last descriptor is
 #                    closed, and `fchdir` where it is entered. One that is closed before any other
-#                    line stays an open. By its rules of OpenBSD alone pua knows these lines; it
-#                    prints what each process has open. With -c what was opened outside of ROOT has
-#                    no line.
+#                    line stays an open. A chroot(2) is a line `chroot`, and paths are those of its
+#                    process from then on. By its rules of OpenBSD alone pua knows these lines; it
+#                    prints what each process has open, and its root. With -c what was opened outside
+#                    of ROOT has no line, nor has a chroot.
 #     -k             writes connect, bind, mknod (mkfifo too), chown, create-rw (an open with
 #                    O_RDWR and O_CREAT), and fchmod and fchown by a descriptor that was opened for
 #                    reading, as lines of their own, which `pua` knows as calls by `--rules openbsd`
@@ -42,7 +43,9 @@
 # renamed or removed by the same path since then is followed too. Where such a path isn't known the
 # call is left out.
 #
-# After chroot(2) paths are written with the new root before them, without -c.
+# After chroot(2) paths are written with the new root before them, without -c and -h. With -h a path that
+# begins at the descriptor of a directory outside of its process's root is written with two fchdir, there
+# and back, where that directory is held and no veil is in the way; else the call is left out.
 #
 # Two kinds of calls are left out since pua would end the process for them, and answer all its later
 # lines `gone`: without -h and -k, what a promise opens by itself, such as /etc/resolv.conf for dns; and
@@ -75,7 +78,7 @@ use Pua::Calls qw(%ABOUT %ASKS %BITS %CALLS %FLAGS_AT %FROM %FURTHER $HERE %LIKE
     %NEIGHBOURS %OPENINGS asks descriptor domain_of flags flags_of_open is_null opens promises);
 use Pua::Help qw(help_of);
 use Pua::Kdump;
-use Pua::Process qw($START moved plain tidy);
+use Pua::Process qw($START climbs moved plain tidy);
 use Pua::Reports qw($WRONG $MATTERS $REST spelled);
 
 my ($NAME) = $0 =~ m{([^/]*)\z};
@@ -112,6 +115,7 @@ my @entries;       # what becomes the lines of the script
 my $number_of = 2; # the last number of what is held: an open file has one, whichever descriptors it has
 my %roots = ('/' => 1);    # those that a process had
 my $reports = Pua::Reports->new;
+my $tells_roots;   # whether the script has lines `chroot`: -h without -c
 
 sub report { print STDERR "$NAME: @_\n"; return }
 
@@ -149,12 +153,37 @@ sub refused {
 # Whether the script has what a process does now.
 sub is_told { my ($has) = @_; return !defined $only || (!$has->{lost} && $has->{root} eq $only) }
 
-# A whole path from the root of the script; undef where it isn't below that.
-sub from_only {
-    my ($path) = @_;
-    return $path unless defined $only;
-    return unless $path =~ s{\A\Q$only\E(?=/|\z)}{};
+# A whole path as a process of the script has it, from the root of the script, or from its own where
+# the script has that; undef where it isn't below that root.
+sub inside {
+    my ($has, $path) = @_;
+    my $root = $only // ($tells_roots ? $has->{root} : '');
+    return if $tells_roots && $has->{lost};
+    return $path if $root eq '';
+    my $above = plain($root);
+    return if $tells_roots && plain($path) !~ m{\A\Q$above\E(?:/|\z)};
+    return unless $path =~ s{\A\Q$root\E(?=/|\z)}{};
+    return if $tells_roots && climbs($path);
     return $path eq '' ? '/' : $path;
+}
+
+# The same of what a text names that doesn't begin at that root: no path from there has this root for
+# its last component.
+sub named_inside {
+    my ($has, $path) = @_;
+    my $inside = inside($has, $path);
+    return if $tells_roots && $has->{root} ne '' && ($inside // '') eq '/';
+    return $inside;
+}
+
+# Where it isn't, in words.
+sub outside { return defined $only ? "outside of $only" : "outside of its process's root" }
+
+# Whether a path from the root of a process is so in the script too.
+sub is_from_root {
+    my ($has) = @_;
+    return !$has->{root_astray} if $tells_roots;
+    return !$has->{lost} && (defined $only || $has->{root} eq '');
 }
 
 # The texts of a call that are paths, and as many as are asked for; none where it is left out.
@@ -199,9 +228,11 @@ sub written {
     my ($call, $text, $place) = @_;
     my ($name, $has) = ($call->{name}, $call->{process}{has});
     return $text if $text eq '' || ($call->{as} eq 'symlink' && $place == 0);
-    my ($is_here, $is_whole) = (!defined begins_from($call, $place), $text =~ m{\A/});
-    return $text if $is_whole && !$has->{lost} && (defined $only || $has->{root} eq '');
-    my $whole = whole($call, $text, $place);
+    my $from = begins_from($call, $place);
+    my ($is_here, $is_whole) = (!defined $from, $text =~ m{\A/});
+    return $text if $is_whole && is_from_root($has);
+    return $text if $call->{enters} && !$is_here && $from eq $call->{enters}{from};
+    my $whole = $is_whole && $tells_roots ? undef : whole($call, $text, $place);
     if (!defined $whole) {
         return leave_out($call, 'a path from the root of a process, since that root is not known')
             if $is_whole;
@@ -212,13 +243,42 @@ sub written {
         return leave_out($call,
             "$name from a directory's descriptor, of which the path is not known");
     }
-    my $inside = from_only($whole);
-    return leave_out($call, "$name outside of $only", spelled($whole)) unless defined $inside;
+    my $inside = named_inside($has, $whole);
+    my $is_near = $is_here && !$is_whole && !$has->{astray} && !$call->{enters};
+    return leave_out($call, "$name " . outside(), spelled($whole))
+        unless defined $inside || $tells_roots && ($is_near || refused($call));
     $call->{relative} = 1 if $whole =~ /\A$START/;
-    return $text if $is_here && !$is_whole && !$has->{astray};
+    return $text if $is_near || !defined $inside;
     return leave_out($call, "$name, of which the whole path is too long")
         if length $inside > $MOST_PATH;
     return $inside;
+}
+
+# The directory that a process enters for a call, of which a path begins there, and which no path from
+# its root names: the descriptor that it is `from`, and the number under which it is held. Nothing where
+# there is none, or it can't be entered and left again.
+sub entered {
+    my ($call, @texts) = @_;
+    my $has = $call->{process}{has};
+    return if !$tells_roots || $call->{answer} ne 'ok' || $has->{veiled} || !$has->holds('rpath')
+        || !defined $has->{directory};
+    for my $place (0 .. $#texts) {
+        my ($from, $whole) = (begins_from($call, $place), $call->{whole}[$place]);
+        next if !defined $from || !defined $whole || defined named_inside($has, $whole);
+        my $file = $has->file($from);
+        return { from => $from, number => $file->{hold} } if $file && $file->{hold};
+    }
+    return;
+}
+
+# The lines before and after a call for which its process enters a directory.
+sub lines_around {
+    my ($call) = @_;
+    my $enters = delete $call->{enters} or return ([], []);
+    my $here = next_number($call->{process}{has}) // $MOST_NUMBER;
+    my @lines = map { { %$call, fields => $_, answer => 'ok' } }
+        ['hold', $here, 'open-r', '.'], ['fchdir', $enters->{number}], ['fchdir', $here], ['close', $here];
+    return ([@lines[0, 1]], [@lines[2, 3]]);
 }
 
 # The first paths of a call, as many as are asked for; none where it is left out.
@@ -226,6 +286,7 @@ sub paths {
     my ($call, $count) = @_;
     my @texts = texts($call, $count) or return;
     $call->{whole} = [map { tidy(whole($call, $texts[$_], $_)) } 0 .. $count - 1];
+    $call->{enters} = entered($call, @texts);
     my @written;
     for my $place (0 .. $count - 1) {
         my $text = written($call, $texts[$place], $place);
@@ -245,8 +306,8 @@ sub path_of_descriptor {
     return leave_out($call, "$name, of which the path is not known")
         unless $file && defined $file->{path};
     $call->{whole} = [$file->{path}];
-    my $inside = from_only($file->{path});
-    return leave_out($call, "$name outside of $only", spelled($file->{path}))
+    my $inside = inside($has, $file->{path});
+    return leave_out($call, "$name " . outside(), spelled($file->{path}))
         unless defined $inside;
     return leave_out($call, "$name, which asks for fewer promises than by a path", path($inside))
         if $call->{as} ne 'chdir' && !refused($call) && !$has->holds(@{ $NEEDS{ $call->{as} } });
@@ -379,13 +440,17 @@ sub fields {
     my ($call) = @_;
     return pledge_fields($call) if $call->{as} eq 'pledge';
     return unveil_fields($call) if $call->{as} eq 'unveil';
-    if ($call->{as} eq 'exec' && $call->{answer} ne 'ok' && !refused($call)) {
-        note($REST, $call->{line}, 'left out: an execve that failed');
+    if ($call->{as} =~ /\A(?:exec|chroot)\z/ && $call->{answer} ne 'ok' && !refused($call)) {
+        my $what = $call->{as} eq 'exec' ? 'an execve' : 'a chroot';
+        note($REST, $call->{line}, "left out: $what that failed");
         return;
     }
-    my ($as, @paths) = path_fields($call) or return;
     my $entered = $call->{name} eq 'fchdir' && $call->{process}{has}->file(descriptor($call, 0));
-    return ('fchdir', $entered->{hold}) if $entered && $entered->{hold};
+    if ($entered && $entered->{hold} && $call->{answer} !~ $NO_DIRECTORY) {
+        $call->{whole} = [$entered->{path}];
+        return ('fchdir', $entered->{hold});
+    }
+    my ($as, @paths) = path_fields($call) or return;
     if (is_loaders($call, $as) && !$loaders) {
         note($REST, $call->{line}, 'left out: what ld.so opens (-l keeps it)');
         return;
@@ -458,9 +523,10 @@ sub follow_getcwd {
 }
 
 sub follow_chroot {
-    my ($has, $call) = @_;
+    my ($has, $call, $is_told) = @_;
     my ($path) = @{ $call->{paths} };
     my $root = defined $path ? tidy($has->whole($path, $has->{directory})) : undef;
+    $has->{root_astray} = $tells_roots && !$is_told;
     $has->{lost} = !defined $root;
     return unless defined $root;
     $has->{root} = $root eq '/' ? '' : $root;
@@ -473,9 +539,9 @@ sub follow_chroot {
     return;
 }
 
-# What a call that succeeded does to its process.
+# What a call that succeeded does to its process, whether the script has a line for it or not.
 sub follow {
-    my ($call) = @_;
+    my ($call, $is_told) = @_;
     my ($process, $as, $path, $new) = (@$call{qw(process as)}, @{ $call->{whole} || [] });
     my $has = $process->{has};
     if ($as eq 'open') {
@@ -484,7 +550,9 @@ sub follow {
         my $file = $mode && { path => $path, mode => $mode };
         $has->opens($call->{value}, $file, ($flags || 0) & $BITS{O_CLOEXEC});
     } elsif ($as eq 'chdir') {
-        @$has{qw(directory astray)} = ($path, 0);
+        @$has{qw(directory astray)} = ($path, !$is_told);
+    } elsif ($as eq 'chroot') {
+        follow_chroot($has, $call, $is_told);
     } elsif ($as eq 'rename' && defined $path && defined $new) {
         my @all = map { $_->{has} } @processes;
         moved($new, undef, @all) if plain($new) ne plain($path);
@@ -579,13 +647,16 @@ sub take_line {
     $reports->be_quiet(!is_told($has));
     my @fields = fields($call);
     $reports->be_quiet(0);
-    push @entries, { %$call, fields => \@fields } if @fields && is_told($has);
+    delete $call->{enters} if !@fields;
+    my ($before, $after) = lines_around($call);
+    push @entries, @$before, { %$call, fields => \@fields } if @fields && is_told($has);
     note($WRONG, $call->{line},
         'may be wrong: paths below ' . spelled($has->{root})
-            . ', after chroot(2): links and .. may lead elsewhere (see -c)')
-        if @fields && !defined $only && $has->{root} ne '' && grep { ref } @fields;
-    follow($call) if $call->{answer} eq 'ok';
+            . ', after chroot(2): links and .. may lead elsewhere (see -c, -h)')
+        if @fields && !defined $only && !$tells_roots && $has->{root} ne '' && grep { ref } @fields;
+    follow($call, scalar @fields) if $call->{answer} eq 'ok';
     hold($call) if $holds && $call->{answer} eq 'ok' && $call->{as} eq 'open' && @fields && is_told($has);
+    push @entries, @$after;
     return;
 }
 
@@ -651,7 +722,8 @@ sub take {
 sub take_one {
     my ($call) = @_;
     my $process = $call->{process} or return;
-    $call->{as}    = $CALLS{ $call->{name} };
+    $call->{as} = $CALLS{ $call->{name} };
+    $call->{as} = 'chroot' if $tells_roots && $call->{name} eq 'chroot';
     my $killed = ($call->{answer} || '') eq 'killed';
     if (!$process->{has}) {
         leave_out($call, "process $process->{pid} (" . spelled($process->{command} || '')
@@ -779,6 +851,7 @@ if (!$understood || @ARGV > 1 || grep({ $_ eq '' } @ARGV, grep { defined } $answ
     exit 2;
 }
 ($only = tidy($only)) =~ s{\A/\z}{} if defined $only;
+$tells_roots = $holds && !defined $only;
 my $in = \*STDIN;
 if (@ARGV) {
     open $in, '<', $ARGV[0] or fail(spelled($ARGV[0]) . ": $!");

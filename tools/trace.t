@@ -842,7 +842,7 @@ gives('calls that pua lacks', <<'END');
 --
 1 stat /var/w\040w/a : ok
 --
-line 14: may be wrong: paths below /var/w\040w, after chroot(2): links and .. may lead elsewhere (see -c) (1 in all)
+line 14: may be wrong: paths below /var/w\040w, after chroot(2): links and .. may lead elsewhere (see -c, -h) (1 in all)
 line 1: left out: chown, which pua has by its rules of OpenBSD alone (-k writes it): /a, /var/w\040w/b (2 in all)
 line 4: left out: fchdir, of which the path is not known (1 in all)
 line 20: left out: revoke, which pua lacks: /dev/tty (1 in all)
@@ -910,8 +910,8 @@ gives('roots', <<'END');
 1 fork 3 : ok
 1 stat /w : ok
 --
-line 9: may be wrong: paths below /r/s, after chroot(2): links and .. may lead elsewhere (see -c) (4 in all)
-line 24: may be wrong: paths below /r/s/t, after chroot(2): links and .. may lead elsewhere (see -c) (1 in all)
+line 9: may be wrong: paths below /r/s, after chroot(2): links and .. may lead elsewhere (see -c, -h) (4 in all)
+line 24: may be wrong: paths below /r/s/t, after chroot(2): links and .. may lead elsewhere (see -c, -h) (1 in all)
 line 27: left out: fchdir, of which the path is not known (1 in all)
 line 34: left out: a path from the root of a process, since that root is not known (1 in all)
 END
@@ -1132,6 +1132,122 @@ END
     (undef, $out, $err) = trace('-h');
     is_deeply([ $out =~ /hold (\d+)/g ], [3 .. 1_023], 'as many as a process holds');
     is(said_of_lines($err), "trace.pl: line 3064: open is not held: the process has too much open (1 in all)\n", 'and one more');
+}
+
+# With -h the script has roots: paths are those of the process, from its root or its directory. What begins at the
+# descriptor of a directory that no path from there names is asked in that directory.
+{
+    put('trace', kdump(<<'END'));
+7 chdir(0x1c60) = 0 "/srv"
+7 open(0x1c60,0x20000<O_RDONLY|O_DIRECTORY>) = 3 "/etc"
+7 open(0x1c60,0x20000<O_RDONLY|O_DIRECTORY>) = 4 "www/in"
+7 fork() = 8
+8 chroot(0x1c60) = -1 errno 2 No such file or directory "/none"
+8 chroot(0x1c60) = 0 "www"
+8 stat(0x1c60,0x1d60) = 0 "/../in/x"
+8 stat(0x1c60,0x1d60) = 0 "../etc"
+8 openat(4,0x1c60,0<O_RDONLY>) = 5 "y"
+8 openat(3,0x1c60,0<O_RDONLY>) = 6 "passwd"
+8 renameat(3,0x1c60,4,0x1d60) = 0 "a" "b"
+8 renameat(3,0x1c60,AT_FDCWD,0x1d60) = 0 "a" "b"
+8 fchmod(6,0600) = 0
+8 fchmod(5,0600) = 0
+8 chdir(0x1c60) = 0 "/"
+8 fork() = 9
+9 chroot(0x1c60) = 0 "in"
+9 stat(0x1c60,0x1d60) = 0 "/y"
+9 openat(4,0x1c60,0<O_RDONLY>) = 7 "."
+8 CALL  unveil(0x1c60,0x1d60)
+8 STRU  flags="r"
+8 NAMI  "/in"
+8 RET   unveil 0
+8 openat(3,0x1c60,0<O_RDONLY>) = 7 "group"
+8 CALL  pledge(0x1c60,0)
+8 STRU  promise="stdio rpath error"
+8 RET   pledge 0
+8 CALL  chroot(0x1c60)
+8 PLDG  chroot, "id", errno 78 Function not implemented
+8 RET   chroot -1 errno 78 Function not implemented
+8 CALL  openat(3,0x1c60,1<O_WRONLY>)
+8 NAMI  "x"
+8 PLDG  openat, "wpath", errno 78 Function not implemented
+8 RET   openat -1 errno 78 Function not implemented
+7 fchdir(9) = 0
+7 fork() = 10
+10 chroot(0x1c60) = 0 "u"
+10 stat(0x1c60,0x1d60) = 0 "/v"
+10 fchdir(3) = 0
+10 stat(0x1c60,0x1d60) = 0 "w"
+10 chroot(0x1c60) = 0 "."
+10 stat(0x1c60,0x1d60) = 0 "/hosts"
+7 rmdir(0x1c60) = 0 "/srv/www/in"
+9 stat(0x1c60,0x1d60) = -1 errno 2 No such file or directory "/y"
+9 openat(3,0x1c60,0<O_RDONLY>) = 8 "hosts"
+END
+    my ($status, $out, $err) = trace('-hv', '-e', 'answers');
+    is($status . $out, <<'END', 'roots with -h: the script');
+01 chdir /srv
+1 hold 3 open-r /etc
+1 hold 4 open-r www/in
+1 fork 2
+2 chroot www
+2 stat /../in/x
+2 stat ../etc
+2 hold 5 open-r /in/y
+2 hold 6 open-r .
+2 fchdir 3
+2 hold 7 open-r passwd
+2 fchdir 6
+2 close 6
+2 hold 8 open-r .
+2 fchdir 3
+2 rename a /in/b
+2 fchdir 8
+2 close 8
+2 chmod /in/y
+2 chdir /
+2 fork 3
+3 chroot in
+3 stat /y
+3 hold 9 open-r .
+3 fchdir 4
+3 hold 10 open-r .
+3 fchdir 9
+3 close 9
+2 unveil /in r
+2 pledge stdio,rpath,error -
+2 chroot =
+2 open-w x
+1 fork 4
+4 fchdir 3
+4 stat w
+4 chroot .
+4 stat /hosts
+1 rmdir /srv/www/in
+3 stat /y
+3 hold 11 open-r .
+3 fchdir 3
+3 hold 12 open-r hosts
+3 fchdir 11
+3 close 11
+END
+    is(said_of_lines($err) =~ s/^trace\.pl: //gmr, <<'END', 'roots with -h: the reports');
+line 34: left out: renameat outside of its process's root: /srv/b (1 in all)
+line 38: left out: fchmod outside of its process's root: /etc/passwd (1 in all)
+line 60: left out: openat outside of its process's root: /etc/group (1 in all)
+line 73: left out: fchdir, of which the path is not known (1 in all)
+line 77: left out: a relative path, since the working directory is not known any more (1 in all)
+line 80: left out: a path from the root of a process, since that root is not known (1 in all)
+line 4: open with O_DIRECTORY is written without it (2 in all)
+line 12: left out: a chroot that failed (1 in all)
+line 40: fchmod is written chmod, which asks the veils too (1 in all)
+line 66: chroot was answered ENOSYS before its path was recorded: it is written = (1 in all)
+END
+    is(content('answers') =~ s/^[0-9]+ //gmr =~ tr/\n/ /r, join(' ', ('ok') x 30, 'ENOSYS', 'ENOSYS', ('ok') x 6, 'ENOENT', ('ok') x 5, ''),
+        'roots with -h: the answers');
+    is(system("$PUA run --rules openbsd tree out > ran"), 0, 'roots with -h: pua reads it') if defined $PUA;
+    my ($whole) = (trace('-hc', '/srv/www'))[1];
+    unlike($whole, qr/ chroot /, 'roots with -h and -c: there is no chroot');
 }
 
 # Lines that are no records.

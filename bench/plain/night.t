@@ -25,7 +25,7 @@ my $PLAIN = "$room/plain";
 is(system('rustc', '-O', '--edition', '2024', '-o', $PLAIN, "$Bin/pua.rs"), 0, 'the plain program is built') or BAIL_OUT('no rustc');
 
 my %count = map { $_ => 0 } qw(commands bytes refused lasting differ);
-my $worlds = Worlds->new($SEED, { openings => 1, files => 1 });
+my $worlds = Worlds->new($SEED, { openings => 1, files => 1, roots => 1 });
 for my $number (1 .. $WORLDS) {
     my $rules = $number % 2 ? 'profile' : 'openbsd';
     $worlds->by($rules);

@@ -160,6 +160,13 @@ struct Node {
     target: Box<[u8]>,
 }
 
+/// Where a path starts: a text that begins with a slash at the root, and else at the directory.
+#[derive(Clone, Copy, Default)]
+struct Start {
+    root: u32,
+    dir: u32,
+}
+
 /// Numbers of nodes are places in `nodes`, and are not used again.
 struct Tree {
     nodes: Vec<Node>,
@@ -254,9 +261,28 @@ impl Tree {
         }
     }
 
-    /// What a path names from a directory, and how many links were followed.
-    fn resolve<'a>(&'a self, from: u32, text: &'a [u8], follow: bool) -> Result<(Found<'a>, u8), Errno> {
-        let (mut dir, mut way, mut links) = (from, Way::Top, 0);
+    /// The root that links and `..` lead to: of one that was removed the root of all.
+    fn seen_root(&self, root: u32) -> u32 {
+        if self.node(root).links == 0 { ROOT } else { root }
+    }
+
+    /// The directory above another, as a process with this root sees it.
+    fn above(&self, root: u32, dir: u32) -> u32 {
+        if dir == root { root } else { self.node(dir).parent }
+    }
+
+    /// Whether a directory is another one, or below it.
+    fn is_in(&self, over: u32, dir: u32) -> bool {
+        let mut at = dir;
+        while at != over && at != ROOT {
+            at = self.node(at).parent;
+        }
+        at == over
+    }
+
+    /// What a path names from a root and a directory, and how many links were followed.
+    fn resolve<'a>(&'a self, from: Start, text: &'a [u8], follow: bool) -> Result<(Found<'a>, u8), Errno> {
+        let (root, mut dir, mut way, mut links) = (from.root, from.dir, Way::Top, 0);
         let mut later: Vec<&[u8]> = Vec::new();
         let mut rest = trimmed(text);
         loop {
@@ -270,7 +296,7 @@ impl Tree {
                 way = Way::Dot;
                 continue;
             } else if part == b".." {
-                (dir, way) = (self.node(dir).parent, Way::DotDot);
+                (dir, way) = (self.above(root, dir), Way::DotDot);
                 continue;
             }
             let is_last = rest.is_empty() && later.is_empty();
@@ -289,7 +315,7 @@ impl Tree {
                         later.push(rest);
                     }
                     if node.target[0] == b'/' {
-                        dir = ROOT;
+                        dir = root;
                     }
                     (rest, way) = (trimmed(&node.target), Way::Top);
                     if rest.is_empty() && later.is_empty() {
@@ -303,18 +329,18 @@ impl Tree {
     }
 
     /// What a path of a request names: a slash at its end is dropped where the call says so.
-    fn named<'a>(&'a self, cwd: u32, path: &'a [u8], is_dropped: bool, follow: bool) -> Result<Found<'a>, Errno> {
+    fn named<'a>(&'a self, from: Start, path: &'a [u8], is_dropped: bool, follow: bool) -> Result<Found<'a>, Errno> {
         if let Some(front) = before_long(path) {
-            self.named(cwd, front, false, true)?;
+            self.named(from, front, false, true)?;
         }
         path_fault(path)?;
-        let from = if path[0] == b'/' { ROOT } else { cwd };
-        if self.node(from).links == 0 {
+        let dir = if path[0] == b'/' { from.root } else { from.dir };
+        if self.node(dir).links == 0 {
             return Err("ENOENT");
         }
         let end = path.iter().rposition(|byte| *byte != b'/').map_or(0, |last| last + 1);
         let text = if is_dropped { &path[..end] } else { path };
-        Ok(self.resolve(from, text, follow)?.0)
+        Ok(self.resolve(Start { root: self.seen_root(from.root), dir }, text, follow)?.0)
     }
 }
 
@@ -437,6 +463,7 @@ const DPATH: u64 = 1 << 6;
 const ERROR: u64 = 1 << 8;
 const EXEC: u64 = 1 << 9;
 const FATTR: u64 = 1 << 10;
+const ID: u64 = 1 << 13;
 const PROC: u64 = 1 << 17;
 const RECVFD: u64 = 1 << 20;
 const RPATH: u64 = 1 << 22;
@@ -630,7 +657,7 @@ struct Process {
     places: Vec<Place>,
     is_locked: bool,
     has_ended: bool,
-    dir: u32,
+    start: Start,
     files: BTreeMap<u32, OpenFile>,
 }
 
@@ -784,7 +811,7 @@ impl Process {
     /// The same, where promises are not asked, and veils perhaps not.
     fn covered<'a>(&self, tree: &'a Tree, call: Call, path: &'a [u8], asks_veils: bool) -> Result<Found<'a>, Errno> {
         let follow = CALLS[call as usize].4;
-        let found = tree.named(self.dir, path, matches!(call, Call::Mkdir | Call::Rmdir), follow)?;
+        let found = tree.named(self.start, path, matches!(call, Call::Mkdir | Call::Rmdir), follow)?;
         let perms = rules().calls[call as usize].1;
         let fault = if asks_veils { cover_fault(self.cover(tree, found), perms) } else { None };
         fault.or_else(|| object_fault(call, object(tree, found))).map_or(Ok(found), Err)
@@ -826,6 +853,14 @@ impl Process {
         })
     }
 
+    /// Whether its paths lead nowhere but to its root and below: that lives, and no directory outside of it that lives is its
+    /// own, or open.
+    fn is_enclosed(&self, tree: &Tree) -> bool {
+        let Start { root, dir } = self.start;
+        let dirs = self.files.values().map(|file| file.node).chain([dir]).filter(|dir| tree.is_living_dir(*dir));
+        tree.is_living_dir(root) && dirs.into_iter().all(|dir| tree.is_in(root, dir))
+    }
+
     /// The open file of a descriptor.
     fn file(&self, descriptor: u32) -> Result<OpenFile, Errno> {
         self.files.get(&descriptor).copied().ok_or("EBADF")
@@ -852,8 +887,8 @@ impl Process {
     ) -> Result<(Found<'a>, Found<'a>), Errno> {
         self.may(need.promises)?;
         self.may(CPATH)?;
-        let from = tree.named(self.dir, old, is_dropped, need.is_followed)?;
-        let to = tree.named(self.dir, new, is_dropped, false)?;
+        let from = tree.named(self.start, old, is_dropped, need.is_followed)?;
+        let to = tree.named(self.start, new, is_dropped, false)?;
         let fault = cover_fault(self.cover(tree, from), need.letters).or_else(|| cover_fault(self.cover(tree, to), C));
         fault.map_or(Ok((from, to)), Err)
     }
@@ -885,6 +920,7 @@ enum Action<'a> {
     Hold(u32, Call, Path<'a>),
     Close(u32),
     Fchdir(u32),
+    Chroot(Path<'a>),
     /// A descriptor, and that of another process, of which it is taken.
     Take(u32, u32, u32),
 }
@@ -995,6 +1031,7 @@ fn read_action<'a>(fields: &[&'a [u8]]) -> Result<Action<'a>, &'static str> {
         [b"exit"] => Action::Exit,
         [b"fork", new] => Action::Fork(process_number(new).ok_or("bad call")?),
         [b"hold" | b"close" | b"fchdir" | b"take", ..] if rules().is_openbsd => read_on_files(fields)?,
+        [b"chroot", path] if rules().is_openbsd => Action::Chroot(read_path(path)?),
         [b"uses", sets] if rules().is_openbsd => Action::Uses(read_sets(sets)?),
         [word, path] => match read_call(word).or_else(|| neighbour(word)) {
             None | Some(Call::Symlink) => return Err("bad call"),
@@ -1158,7 +1195,7 @@ fn act(tree: &mut Tree, process: &mut Process, action: &Action) -> Result<(), Er
                 return Err("EPERM");
             }
             let perms = perms.ok_or("EINVAL")?;
-            let found = tree.named(process.dir, path, false, true)?;
+            let found = tree.named(process.start, path, false, true)?;
             process.unveil(found, perms)
         }
         Action::Lock => {
@@ -1177,7 +1214,13 @@ fn act(tree: &mut Tree, process: &mut Process, action: &Action) -> Result<(), Er
             if tree.node(dir).kind != Kind::Dir {
                 return Err("ENOTDIR");
             }
-            process.dir = dir;
+            process.start.dir = dir;
+            Ok(())
+        }
+        Action::Chroot(path) => {
+            process.may(ID)?;
+            let found = process.covered(tree, Call::Chdir, path, true)?;
+            process.start.root = found.node().unwrap_or(process.start.root);
             Ok(())
         }
         Action::OnPath(..) | Action::Fork(_) | Action::Hold(..) | Action::Take(..) => unreachable!(),
@@ -1223,7 +1266,7 @@ fn change(
                 tree.cut(dir, &name);
             }
         }
-        (Call::Chdir, Some(dir)) => process.dir = dir,
+        (Call::Chdir, Some(dir)) => process.start.dir = dir,
         (Call::Exec, _) => process.exec(),
         _ => {}
     }
@@ -1386,6 +1429,7 @@ fn front(name: &[u8]) -> u64 {
 /// What steps are made of.
 struct Making<'a> {
     tree: &'a Tree,
+    root: u32,
     process: &'a Process,
     letters: &'a Letters<'a>,
     allowed: &'a Allowed,
@@ -1406,7 +1450,7 @@ impl Making<'_> {
         let (rows, veiled) = (&self.letters.rows[dir as usize], self.process.on_names.get(&dir));
         let mut steps = Vec::with_capacity(rows.len() + 1);
         steps.extend(rows.iter().map(|(letter, id)| self.step(dir, veiled.is_some(), *letter, *id)));
-        let parent = self.tree.node(dir).parent;
+        let parent = self.tree.above(self.root, dir);
         let up = self.calls(Found::Whole(parent, Way::DotDot));
         let dots = self.letters.place(b"..").into_iter();
         steps.extend(dots.map(|letter| Step { letter, to: parent, all: up, kept: up, links: 0, enter: 0 }));
@@ -1437,7 +1481,7 @@ impl Making<'_> {
         if node.kind == Kind::Link {
             step.kept &= KEPT;
             step.all = step.kept;
-            if let Ok((found, links)) = self.tree.resolve(dir, name, true) {
+            if let Ok((found, links)) = self.tree.resolve(Start { root: self.root, dir }, name, true) {
                 step.links = links;
                 step.all |= self.calls(found) & !KEPT;
                 if let Found::Whole(to, _) = found {
@@ -1452,7 +1496,8 @@ impl Making<'_> {
 impl Tables {
     fn new(tree: &Tree, process: &Process, letters: &Letters, covers: &[Cover], limit: usize) -> Tables {
         let allowed = Allowed::new(process.held());
-        let making = Making { tree, process, letters, allowed: &allowed, covers };
+        let root = tree.seen_root(process.start.root);
+        let making = Making { tree, root, process, letters, allowed: &allowed, covers };
         let mut missing = vec![0; tree.nodes.len()];
         let mut table = vec![Vec::new(); tree.nodes.len()];
         for dir in (0..tree.nodes.len() as u32).filter(|dir| tree.is_living_dir(*dir)) {
@@ -1729,6 +1774,11 @@ fn state(out: &mut Vec<u8>, tree: &Tree, process: &Process, lasting: Option<&Las
         if lasting.is_some_and(|lasting| lasting.held & RECVFD != 0) {
             out.extend_from_slice(b"receive open\n");
         }
+        if process.start.root != ROOT {
+            out.extend_from_slice(b"root ");
+            out.extend_from_slice(&place_path(tree, &(process.start.root, None)));
+            let _ = writeln!(out, " {}", if process.is_enclosed(tree) { "closed" } else { "open" });
+        }
         let opens = |promise: &&str| KEYWORDS.iter().position(|keyword| keyword == promise).is_some_and(|bit| opened & 1 << bit != 0);
         for (_, opening) in OPENINGS.iter().filter(|(promise, _)| opens(promise)) {
             let _ = writeln!(out, "opening {opening}");
@@ -1914,8 +1964,16 @@ impl<'a> List<'a> {
         if self.process.has_ended {
             return Ok(self.out);
         }
-        let over = if self.process.places.is_empty() { Some(ALL) } else { None };
-        let mut open = vec![self.open(ROOT, Some("EBUSY"), over)?];
+        let root = if self.process.is_enclosed(self.tree) { self.process.start.root } else { ROOT };
+        let rmdir = match root {
+            ROOT => Some("EBUSY"),
+            _ => (!self.tree.node(root).rows.is_empty()).then_some("ENOTEMPTY"),
+        };
+        if root != ROOT {
+            self.path = place_path(self.tree, &(root, None));
+        }
+        let over = self.process.dir_cover(self.tree, root);
+        let mut open = vec![self.open(root, rmdir, over)?];
         while let Some(inner) = open.last_mut() {
             self.path.truncate(inner.len);
             let (dir, cover) = (inner.dir, inner.cover);
@@ -2287,7 +2345,7 @@ fn audit(world: &World, words: &Words, front: Vec<u8>) -> Result<(), (u8, String
     }
     let after = words.after.map(|text| read_pair(text.as_bytes(), &letters, limit, words.from_root));
     let after = after.map(|pair| pair.ok_or_else(|| refused("audit: bad resume".into()))).transpose()?;
-    let base = if words.from_root { ROOT } else { process.dir };
+    let base = if words.from_root { process.start.root } else { process.start.dir };
     let is_empty = process.has_ended || world.tree.node(base).links == 0;
     let cannot_write = |_| (3, "pua: cannot write".to_string());
     let mut front = front;

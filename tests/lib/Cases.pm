@@ -1,5 +1,6 @@
 # Random trees and scripts without pledge and unveil, by a seed, for a comparison of answers with those of a kernel: of
-# seven kinds in turn, each with what such a comparison has shown to matter; and of one more, `files`, about descriptors.
+# seven kinds in turn, each with what such a comparison has shown to matter; and of two more, `files`, about descriptors, and
+# `roots`, about roots and descriptors.
 #
 # The numbers are those of Worlds.pm, so that every machine has the same cases.
 package Cases;
@@ -159,10 +160,15 @@ sub _requests {
     return 'link ' . $path->() . ' ' . $path->() if $drawn < ($is_rename ? 500 : 250);
     return 'symlink ' . $cases->_text($case) . ' ' . $path->() if $drawn < ($is_rename ? 530 : 320);
     return $cases->_removal($case) if $kind eq 'removed' && $drawn < 600;
-    return $cases->_on_files($path, $processes) if $kind eq 'files' && $drawn < 800;
-    my $call = $cases->_seldom(90) ? $cases->pick(@CALLS) : $cases->pick(qw(mkdir rmdir chdir));
+    return $cases->_on_roots($case, $processes) if $kind eq 'roots' && $drawn < 560;
+    return $cases->_on_files($path, $processes) if $kind =~ /\A(?:files|roots)\z/ && $drawn < 800;
+    my $call = $cases->_seldom(90) ? $cases->pick(_calls($case)) : $cases->pick(qw(mkdir rmdir chdir));
     return "$call " . $path->();
 }
+
+# The calls of a case. A kernel may not start what is open for writing (ETXTBSY), and no program of a listing runs: so where
+# processes have something open, nothing is started.
+sub _calls { return $_[0]{kind} =~ /\A(?:files|roots)\z/ ? grep { $_ ne 'exec' } @CALLS : @CALLS }
 
 # A process opens and keeps something, which it may remove then, closes it, enters it, or takes it of another process.
 sub _on_files {
@@ -175,6 +181,33 @@ sub _on_files {
     return "fchdir $number" if $drawn < 65;
     return "close $number" if $drawn < 80;
     return join ' ', 'take', $number, $cases->pick(@$processes), $cases->pick(3, 3, 4, 5);
+}
+
+# A process moves its root, goes there or stays, and asks around; or its root is removed, or another's moved away. Paths
+# are as they are from the root of the listing, or from a directory of it.
+sub _on_roots {
+    my ($cases, $case, $processes) = @_;
+    my @jails = @{ $case->{places} };
+    my $jail = @jails && $cases->_seldom(85) ? $cases->pick(@jails) : $cases->_path($case);
+    my @inside = map { m{\A\Q$jail\E(/.+)}s ? $1 : () } @{ $case->{known} };
+    my $in = spelled(@inside ? $cases->pick(@inside) : '/' . $cases->pick(@{ $case->{names} }));
+    my $root = $jail eq '' ? '=' : spelled($jail);
+    my $new = '/' . $cases->pick(@{ $case->{names} }, 'z');
+    my $drawn = $cases->number(100);
+    my @paths = ($in, ".$in", "/..$in", "..$in", "../..$in", '..', '/..', "/z$in");
+    my @around = map { $cases->pick(_calls($case)) . ' ' . $cases->pick(@paths) } 0 .. $cases->number(3);
+    my @removed = ("mkdir $new", "symlink $in /y", "chroot $new", "rmdir .$new", 'stat /', 'stat /..', 'stat ./y');
+    return "chroot $root" if $drawn < 10;
+    return ("chroot $root", 'chdir /', @around) if $drawn < 30;
+    return ("chroot $root", @around) if $drawn < 40;
+    return ('hold 3 open-r ' . $cases->pick('/', '.', $root), "chroot $root", 'chdir /', 'fchdir 3', @around) if $drawn < 50;
+    return ('hold 4 open-r ' . $cases->pick('/', '.', '..'), 'chdir /', @around) if $drawn < 58;
+    return ("symlink $in $root/z", "chroot $root", "stat /z", "open-r .$root/z", "chdir /z", @around) if $drawn < 68;
+    return ("mkdir $new", "chroot $new", 'chdir /', "rmdir $new", @around) if $drawn < 72;
+    return (@removed, "stat $in", "create $in", @around) if $drawn < 82;
+    return ("rename $root " . $cases->pick($new, "$root/z"), @around) if $drawn < 88;
+    return ('chroot ' . $cases->pick('.', '..', '/..', '/', $in, '../..'), @around) if $drawn < 94;
+    return ("chdir $in", @around);
 }
 
 # A target that a script gives to a link.

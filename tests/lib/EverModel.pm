@@ -167,7 +167,15 @@ sub _joint {
     my $given = _union(map { lets($model, $_, 'exec') ? $_->{execpromises} : {} } @living);
     my $open  = grep { !$_->{locked} } @living;
     undef $given if $given && $open && grep { Model::_holds({ promises => $_ }, 'unveil') } $held, $given;
-    return { %{ $living[0] }, locked => 1, promises => $held, execpromises => $given };
+    my %common = (locked => 1, promises => $held, execpromises => $given);
+    return { %{ $living[0] }, %common, files => { map { _numbered_files($_, $living[$_]) } 0 .. $#living } };
+}
+
+# What one of several has open, under numbers that are no other's.
+sub _numbered_files {
+    my ($number, $process) = @_;
+    my $files = $process->{files};
+    return map { ("$number $_" => $files->{$_}) } keys %$files;
 }
 
 # What one of some sets has; undef where one of them is.
@@ -259,18 +267,8 @@ sub _gives_way {
 
 sub _has_c_outside {
     my ($ever, $inner) = @_;
-    return 1 if grep { !$ever->_is_below($inner, $_) && _has_c($ever->_cover_of_dir($_)) } @{ $ever->{dirs} };
-    return grep { !$ever->_is_below($inner, $_->{dir}) && _has_c($_->{letters}) } $ever->_veiled;
-}
-
-# Whether a directory is another one, or below it.
-sub _is_below {
-    my ($ever, $over, $dir) = @_;
-    while ($dir != $over) {
-        return 0 if $dir == 0;
-        $dir = $ever->{model}{above}{$dir}[0];
-    }
-    return 1;
+    return 1 if grep { !$ever->{model}->_is_below($inner, $_) && _has_c($ever->_cover_of_dir($_)) } @{ $ever->{dirs} };
+    return grep { !$ever->{model}->_is_below($inner, $_->{dir}) && _has_c($_->{letters}) } $ever->_veiled;
 }
 
 # All covers that a directory can come to have, and those of anything else that stands at a name.

@@ -40,7 +40,18 @@ sub lines {
     local $futures->{free} = [ map { $_->{path} } grep { $_->{kind} eq 'missing' } @{ $list->{lines} } ];
     my @runs = grep { grep { $_ eq 'exec' } @{ $_->{calls} } } @{ $list->{lines} };
     local $futures->{programs} = [ map { $_->{path} } @runs ];
-    return map { $futures->_line($futures->{worlds}->pick(@askers)) } 1 .. $count;
+    return map { $futures->_from_root($futures->_line($futures->{worlds}->pick(@askers))) } 1 .. $count;
+}
+
+# A line whose paths are mostly as they are from the root of who asks.
+sub _from_root {
+    my ($futures, $line) = @_;
+    my $model = $futures->{model};
+    my $asker = $model->{processes}{ (split / /, $line)[0] };
+    my $root  = $asker ? $asker->{root} : 0;
+    return $line if $root == 0 || !$model->{kind}{$root} || $futures->{worlds}->number(4) == 0;
+    my $path = $model->_path($root);
+    return $line =~ s{ \Q$path\E(?=/)}{ }gr =~ s{ \Q$path\E(?=[ \n])}{ /}gr;
 }
 
 sub _line {

@@ -21,6 +21,7 @@ our @RULES = (
     ['rename-above', 'linux',   'rename onto a directory above the old name is ENOTEMPTY, whatever is moved'],
     ['connect',      'profile', 'connect to what is no socket that listens is ECONNREFUSED'],
     ['dead-cwd',     'profile', 'from a working directory that is removed `.` and `..` go on; of it rmdir of `..` is ENOTEMPTY'],
+    ['dead-root',    'profile', 'a root that is removed is what `/` names, and has nothing in it'],
     ['rename-early', 'profile', 'rename refuses `.`, `..` and `/`, and looks up both directories, before the last names'],
     ['made-slash',   'profile', 'a slash behind a name that is made or unlinked: the link there is not followed'],
     ['target',       'profile', 'of the target of a link that is made only the whole length is judged'],
@@ -80,16 +81,17 @@ sub _parts_of {
     return (@parts[0 .. $#parts - 1], '/');
 }
 
-# What a path names from a directory, as in Tree.pm. Of a name $found has further whether a `slash` stood behind it, and
-# the `fault` of its look-up. $call is the call whose only or new path it is.
+# What a path names from a root and a directory, as in Tree.pm. Of a name $found has further whether a `slash` stood behind
+# it, and the `fault` of its look-up. $call is the call whose only or new path it is.
 sub resolve {
     my ($linux, $from, $text, $follows, $drops, $call) = @_;
     my $by = $linux->{by};
     $call = '' unless defined $call;
     my $fault = $linux->_fault_of($text);
     return $fault if $fault;
-    my $dir = $text =~ m{\A/} ? 0 : $from;
-    return 'ENOENT' unless $linux->{kind}{$dir} || $by->{'dead-cwd'};
+    my ($dir, $root) = ($from->{ $text =~ m{\A/} ? 'root' : 'dir' }, $from->{root});
+    return 'ENOENT' unless $linux->{kind}{$dir} || $by->{ $text =~ m{\A/} ? 'dead-root' : 'dead-cwd' };
+    $root = 0 unless $linux->{kind}{$root} || $by->{'dead-root'};
     my $is_made = $by->{'made-slash'} && ($MAKES{$call} || $call eq 'new name of link' || $call eq 'unlink');
     my $creates = $call =~ /\Acreate(?:-rw)?\z/;
     my ($way, $links) = ('', 0);
@@ -97,7 +99,7 @@ sub resolve {
     while (defined(my $part = shift @parts)) {
         return 'EISDIR' if $part eq '/';
         if ($part eq '.' || $part eq '..') {
-            $dir = $linux->_parent($dir) if $part eq '..';
+            $dir = $linux->_parent_in($root, $dir) if $part eq '..';
             $way = $part;
             next;
         }
@@ -110,7 +112,7 @@ sub resolve {
         } elsif ($kind eq 'link' && (@parts || $follows)) {
             return 'ELOOP' if ++$links > ($by->{links40} ? 40 : 32);
             my $target = $linux->{target}{$node};
-            $dir = 0 if $target =~ m{\A/};
+            $dir = $linux->_led_by($root, $dir, $target);
             unshift @parts, _parts_of($target, 0, $creates && !@parts && $by->{'target-slash'});
             $way = '';
         } else {
@@ -126,22 +128,11 @@ sub resolve {
 sub _named {
     my ($linux, $process, $call, $path) = @_;
     return 'too-long' if $linux->{by}{'sun-path'} && $call =~ /\A(?:bind|connect)\z/ && length $path > 103;
-    my ($errno, $found) = $linux->resolve($process->{dir}, $path, $FOLLOWS{$call}, $DROPS{$call}, $call);
+    my ($errno, $found) = $linux->resolve($process, $path, $FOLLOWS{$call}, $DROPS{$call}, $call);
     return $errno || $found->{fault} || ('', $found);
 }
 
 # --- Calls ---
-
-my %OWN = map { $_ => "_$_" } qw(symlink rename link fork);
-
-# As in Model.pm, with requests of this module.
-sub answer {
-    my ($linux, $number, $call, @words) = @_;
-    my $process = $linux->{processes}{$number};
-    return $linux->SUPER::answer($number, $call, @words) if !$process || $process->{ended} || !$OWN{$call};
-    my $method = $OWN{$call};
-    return $linux->$method($process, @words);
-}
 
 sub _misfit {
     my ($linux, $call, $found) = @_;
@@ -174,7 +165,7 @@ sub _rename {
     my $by = $linux->{by};
     my @found;
     for my $path (map { unspelled($_) } @paths) {
-        my ($errno, $found) = $linux->resolve($process->{dir}, $path, 0, 1);
+        my ($errno, $found) = $linux->resolve($process, $path, 0, 1);
         $errno ||= $found->{fault} if !$by->{'rename-early'};
         return $errno if $errno;
         push @found, $found;
@@ -194,7 +185,7 @@ sub _rename {
     my ($from, $to) = map { $linux->_row($_) } $old, $new;
     my ($node, $replaced) = map { $linux->{rows}{ $_->[0] }{ $_->[1] } } $from, $to;
     return 'ok' if defined $replaced && $node == $replaced;
-    my $errno = $by->{'rename-above'} && defined $replaced && $linux->_is_above($replaced, $from->[0])
+    my $errno = $by->{'rename-above'} && defined $replaced && $linux->_is_below($replaced, $from->[0])
         ? 'ENOTEMPTY' : $linux->_unmovable($node, $to->[0], $replaced);
     return $errno if $errno;
     $linux->_cut(@$to) if defined $replaced;
@@ -203,23 +194,13 @@ sub _rename {
     return 'ok';
 }
 
-# Whether a node is a directory, or one above it.
-sub _is_above {
-    my ($linux, $node, $dir) = @_;
-    while ($dir != $node) {
-        return 0 if $dir == 0;
-        $dir = $linux->_parent($dir);
-    }
-    return 1;
-}
-
 sub _link {
     my ($linux, $process, @paths) = @_;
     my $by = $linux->{by};
     my ($from, $to) = map { unspelled($_) } @paths;
-    my ($old_fault, $old) = $linux->resolve($process->{dir}, $from, !$by->{'link-keep'}, 0);
+    my ($old_fault, $old) = $linux->resolve($process, $from, !$by->{'link-keep'}, 0);
     $old_fault ||= $old->{fault};
-    my ($new_fault, $new) = $linux->resolve($process->{dir}, $to, 0, 0, 'new name of link');
+    my ($new_fault, $new) = $linux->resolve($process, $to, 0, 0, 'new name of link');
     $new_fault ||= $new->{fault};
     return $old_fault if $old_fault;
     my $is_missing = $linux->_kind($old) eq 'missing';
@@ -235,15 +216,32 @@ sub _link {
     return 'ok';
 }
 
-# --- What stands in the tree, and what is open ---
+# --- What stands in the tree, and what processes can come to ---
 
-# A line `KIND PATH` for each thing, and `held PROCESS NUMBER PATH` for each name of what the living have open.
+# A line `KIND PATH` for each thing, `held PROCESS NUMBER PATH` for each name of what the living have open, and for each of them
+# that has a root of its own `root PROCESS PATH` and whether it is closed.
 sub left {
     my ($model) = @_;
-    return join '', sort $model->names_left, map { $model->held_by($_) } $model->living;
+    return join '', sort $model->names_left(0), map { ($model->held_by($_), $model->root_of($_)) } $model->living;
 }
 
-sub names_left { return map { "$_\n" } sort 'dir /', _left_in($_[0], 0, '') }
+# The things that are a directory or below it.
+sub names_left {
+    my ($model, $dir) = @_;
+    my $path = $model->_path($dir);
+    return map { "$_\n" } sort "dir $path", _left_in($model, $dir, $path eq '/' ? '' : $path);
+}
+
+sub root_of {
+    my ($model, $number) = @_;
+    return map { s/\Aroot /root $number /r } $model->rooted($model->{processes}{$number});
+}
+
+# From what was removed `..` goes on, and a root that was removed is one.
+sub _leads {
+    my ($linux, $dir) = @_;
+    return $linux->{by}{'dead-root'} || $linux->SUPER::_leads($dir);
+}
 
 sub held_by {
     my ($model, $number) = @_;

@@ -2,10 +2,10 @@
 # for memory. The program is tested beside it. Its inputs are listings, scripts and tables without faults.
 #
 # A model is a tree (Tree.pm, which also says what is *found* by a path), the table of calls, and processes by their
-# numbers. A process has: dir, the number of its working directory; promises and execpromises, each a set (a hash) or
-# undef where no pledge gave any; veils, their places in their order, and letters, those kept by place; locked and
-# ended; and files, by descriptor, each a node with its kind and the letters for which it is open. A place is the number of
-# a directory, or that and a name, with a slash between them.
+# numbers. A process has: root and dir, the numbers of its root and its working directory; promises and execpromises, each a
+# set (a hash) or undef where no pledge gave any; veils, their places in their order, and letters, those kept by place;
+# locked and ended; and files, by descriptor, each a node with its kind and the letters for which it is open. A place is the
+# number of a directory, or that and a name, with a slash between them.
 package Model;
 use strict;
 use warnings;
@@ -107,21 +107,8 @@ my %MISFITS = (
     fchown     => { missing => 'ENOENT' },
 );
 
-# The requests beside the calls on one path, and symlink, which has a target too.
-my %REQUESTS = (
-    symlink => \&_symlink,
-    rename  => \&_rename,
-    link    => \&_link,
-    pledge  => \&_pledge,
-    unveil  => \&_unveil,
-    fork    => \&_fork,
-    exit    => \&_exit,
-    uses    => \&_uses,
-    hold    => \&_hold,
-    close   => \&_close,
-    fchdir  => \&_fchdir,
-    take    => \&_take,
-);
+# The requests beside the calls on one path, and symlink, which has a target too: each is a method of its name.
+my %REQUESTS = map { $_ => "_$_" } qw(symlink rename link pledge unveil fork exit uses hold close fchdir take chroot);
 
 # For which letters a call opens what is held.
 my %OPENED = ('open-r' => 'r', 'open-w' => 'w', 'open-rw' => 'rw');
@@ -134,7 +121,7 @@ sub new {
     my $model = $class->SUPER::new($listing);
     $model->{openbsd}   = $is_openbsd;
     $model->{needs}     = { %STANDARD, $is_openbsd ? %OPENBSD : (), _rows_of($how->{table}) };
-    $model->{processes} = { 1 => { dir => 0, veils => [], letters => {}, files => {} } };
+    $model->{processes} = { 1 => { root => 0, dir => 0, veils => [], letters => {}, files => {} } };
     return $model;
 }
 
@@ -162,7 +149,7 @@ sub follows { return $FOLLOWS{ $_[0] } }
 # What a path names to a process, by a call's rule for its end.
 sub _named {
     my ($model, $process, $call, $path) = @_;
-    return $model->resolve($process->{dir}, $path, $FOLLOWS{$call}, $DROPS{$call});
+    return $model->resolve($process, $path, $FOLLOWS{$call}, $DROPS{$call});
 }
 
 # --- Promises and veils ---
@@ -336,7 +323,7 @@ sub _both_named {
     my @found;
     for my $path (@paths) {
         my $follows = $call eq 'link' && !@found && $model->{openbsd};
-        my ($errno, $found) = $model->resolve($process->{dir}, unspelled($path), $follows, $DROPS{$call});
+        my ($errno, $found) = $model->resolve($process, unspelled($path), $follows, $DROPS{$call});
         return $errno if $errno;
         push @found, $found;
     }
@@ -429,7 +416,7 @@ sub _unveil {
     return 'EPERM' if $process->{locked};
     my $letters = _letters(unspelled($permissions));
     return 'EINVAL' unless defined $letters;
-    my ($errno, $found) = $model->resolve($process->{dir}, unspelled($path), 1, 0);
+    my ($errno, $found) = $model->resolve($process, unspelled($path), 1, 0);
     return $errno || _keep($process, _place($found), $letters);
 }
 
@@ -495,6 +482,18 @@ sub _fchdir {
     return 'ok';
 }
 
+# The root is moved, and the working directory stays.
+sub _chroot {
+    my ($model, $process, $path) = @_;
+    my $answer = _unpromised($process, 'id');
+    return $answer if $answer;
+    my ($errno, $found) = $model->_named($process, 'chdir', unspelled($path));
+    $errno ||= $model->_judged($process, 'chdir', $found);
+    return $errno if $errno;
+    $process->{root} = $found->{dir};
+    return 'ok';
+}
+
 # What another process has and sent.
 sub _take {
     my ($model, $process, $number, $from, $theirs) = @_;
@@ -534,6 +533,26 @@ sub _paths_of {
     return @paths;
 }
 
+# Whether a process can come nowhere but to its root and below it: the root lives, and the working directory and each directory
+# that is open, as far as they live, are that or below it.
+sub is_enclosed {
+    my ($model, $process) = @_;
+    my ($root, @dirs) = (@$process{qw(root dir)}, map { $_->{node} } grep { $_->{kind} eq 'dir' } values %{ $process->{files} });
+    return $model->_leads($root) && !grep { $model->_leads($_) && !$model->_is_below($root, $_) } @dirs;
+}
+
+# Whether a directory leads anywhere: it does unless it was removed.
+sub _leads { return exists $_[0]{kind}{ $_[1] } }
+
+# The line of a root that is not that of the listing.
+sub rooted {
+    my ($model, $process) = @_;
+    my $root = $process->{root};
+    return if $root == 0;
+    my $path = $model->{kind}{$root} ? $model->_path($root) : '-';
+    return "root $path " . ($model->is_enclosed($process) ? 'closed' : 'open') . "\n";
+}
+
 # What a process may do with an open file.
 sub _uses_of {
     my ($process, $file) = @_;
@@ -554,8 +573,8 @@ sub answer {
     $model->{opener} = undef;
     $call = $NEIGHBOURS{$call} if $model->{openbsd} && $NEIGHBOURS{$call};
     return 'gone' if !$process || $process->{ended};
-    my $answer
-        = $REQUESTS{$call} ? $REQUESTS{$call}->($model, $process, @words) : $model->_call($process, $call, @words);
+    my $method = $REQUESTS{$call};
+    my $answer = $method ? $model->$method($process, @words) : $model->_call($process, $call, @words);
     $process->{ended} = 1 if $answer eq 'killed';
     return $answer;
 }
@@ -630,20 +649,23 @@ sub tried {
     return @lines;
 }
 
-# The lines of a process's state in a list of now.
+# The lines of a process's state in a list of now. Behind its line `unveil` stand those of $how->{bounds}, if some are handed
+# over, and those of $how->{openings} in the place of its own.
 sub state {
-    my ($model, $number) = @_;
+    my ($model, $number, $how) = @_;
     my $process = $model->{processes}{$number};
     return "process ended\n" if $process->{ended};
     my @rules = $model->{openbsd} ? "rules openbsd\n" : ();
     my $held = $process->{promises} || {};
     my @openings = $model->{openbsd} ? openings_of(grep { $held->{$_} } keys %$held) : ();
+    @openings = @{ $how->{openings} } if $how->{openings};
     my @sets = map { "$_ " . _shown($process->{$_}) . "\n" } qw(promises execpromises);
     my $unveil = $process->{locked} ? 'locked' : _holds($process, 'unveil') ? 'open' : 'given-up';
     my @veils = map { "veil " . $model->_shown_place($_) . ' ' . ($process->{letters}{$_} || '=') . "\n" }
         @{ $process->{veils} };
     @veils = ("no veils\n") if !@veils;
-    return join '', "process alive\n", @rules, @sets, "unveil $unveil\n", @openings, @veils, $model->_held($process);
+    my @bounds = (@{ $how->{bounds} || [] }, $model->rooted($process), @openings);
+    return join '', "process alive\n", @rules, @sets, "unveil $unveil\n", @bounds, @veils, $model->_held($process);
 }
 
 sub _shown {
@@ -666,11 +688,11 @@ sub list {
     return "objects $number\n" . $model->state($number) . join '', map { "$_\n" } $model->objects($number);
 }
 
-# The lines of a process's objects.
+# The lines of a process's objects: where it is enclosed, of its root and what is below.
 sub objects {
     my ($model, $number) = @_;
     my $process = $model->{processes}{$number};
-    return $process->{ended} ? () : $model->_objects_in($process, 0);
+    return $process->{ended} ? () : $model->_objects_in($process, $model->is_enclosed($process) ? $process->{root} : 0);
 }
 
 # Those of a directory, of its further names, and of what has or could have a name in it.

@@ -80,7 +80,8 @@ sub answers {
 sub pieces {
     my ($self, @lines) = @_;
     my %answers = map { (split)[0, 1] } split /\n/, $self->answers(@lines);
-    my @used = map { split /\|/ } map { /\A[0-9]+ uses (\S+)/ ? $1 : / take / ? 'recvfd|sendfd' : () } @lines;
+    my @used = map { split /\|/ }
+        map { /\A[0-9]+ uses (\S+)/ ? $1 : / take / ? 'recvfd|sendfd' : / chroot / ? 'id' : () } @lines;
     local $self->{asked} = { %{ $self->{asked} }, map { $_ => 1 } @used };
     my @pieces;
     for my $index (grep { ($answers{ $_ + 1 } // '') eq 'ok' } 0 .. $#lines) {

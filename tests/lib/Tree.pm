@@ -99,6 +99,25 @@ sub _parent {
     return $tree->{above}{$dir} ? $tree->{above}{$dir}[0] : 0;
 }
 
+# The same where another directory is the root: over it is itself. What isn't below it is as it was.
+sub _parent_in {
+    my ($tree, $root, $dir) = @_;
+    return $dir == $root ? $root : $tree->_parent($dir);
+}
+
+# From where a link in a directory leads on.
+sub _led_by {
+    my ($tree, $root, $dir, $target) = @_;
+    return $target =~ m{\A/} ? $root : $dir;
+}
+
+# Whether a directory is another one, or below it.
+sub _is_below {
+    my ($tree, $over, $dir) = @_;
+    $dir = $tree->_parent($dir) while $dir != $over && $dir != 0;
+    return $dir == $over;
+}
+
 sub _is_empty { return !%{ $_[0]{rows}{ $_[1] } } }
 
 # The spelled path of a directory from the root.
@@ -146,17 +165,20 @@ sub _front_fault {
     return $errno;
 }
 
-# What a path names from a directory: an errno, or nothing, and what was found.
+# What a path names from a root and a directory, {root} and {dir} of what is handed over: an errno, or nothing, and what was
+# found. Where the root was removed, a text that begins with a slash names nothing, and a link's target that does leads on
+# from node 0.
 sub resolve {
     my ($tree, $from, $text, $follows, $drops) = @_;
     my $fault = text_fault($text);
     return $tree->_front_fault($from, $text) || $fault if $fault;
-    my $dir = $text =~ m{\A/} ? 0 : $from;
+    my $dir = $from->{ $text =~ m{\A/} ? 'root' : 'dir' };
     return 'ENOENT' unless $tree->{kind}{$dir};
+    my $root = $tree->{kind}{ $from->{root} } ? $from->{root} : 0;
     my ($way, $links, @parts) = ('', 0, _parts($text, $drops));
     while (defined(my $part = shift @parts)) {
         if ($part eq '.' || $part eq '..') {
-            $dir = $tree->_parent($dir) if $part eq '..';
+            $dir = $tree->_parent_in($root, $dir) if $part eq '..';
             $way = $part;
             next;
         }
@@ -167,7 +189,7 @@ sub resolve {
         } elsif ($kind eq 'link' && (@parts || $follows)) {
             return 'ELOOP' if ++$links > $MOST_LINKS;
             my $target = $tree->{target}{$node};
-            $dir = 0 if $target =~ m{\A/};
+            $dir = $tree->_led_by($root, $dir, $target);
             unshift @parts, _parts($target);
             $way = '';
         } else {

@@ -106,6 +106,37 @@ my @FILE_STRETCHES = (
     "ASKER fork 4\nASKER hold 3 open-r DIR\nASKER pledge stdio,rpath,wpath,cpath,proc,unveil,sendfd -\n4 take 5 ASKER 3\n4 fchdir 5",
     "ASKER fork 5\n5 hold 3 OPEN FILE\n5 exit\nASKER take 4 5 3",
     "ASKER fork 4\nASKER hold 3 OPEN FILE\n4 pledge rpath,proc,unveil,error -\n4 take 3 ASKER 3\n4 hold 3 OPEN FILE\n4 close 3",
+    "ASKER fork 3\n3 hold 3 open-r HIGH\n3 hold 3 open-r /\n3 pledge stdio,rpath,proc,unveil -\nASKER take 4 3 3",
+    "ASKER fork 5\n5 pledge stdio,rpath,proc,unveil -\n5 take 4 ASKER 3",
+    "ASKER fork 5\n5 pledge stdio,rpath,proc,unveil -\n5 hold 3 open-w FILE",
+    "ASKER mkdir /dev\nASKER create /dev/null\nASKER fork 5\n5 unveil HIGH r\n5 pledge stdio,proc,unveil -\n5 hold 4 OPEN /dev/null\n5 close 4",
+);
+
+# What it asks for where scripts are about roots too; and lines that tell more one after the other: what is named from a root,
+# and by links and `..` at it; what leads out of it, and who stays in it; a root in a root, one that was removed, one that
+# nobody may choose; what a child and a program have of it, and the veils that it is under.
+my @ROOT_REQUESTS = (('chroot JAIL') x 4, 'chroot DIR', 'chroot PATH', 'chroot FILE', 'chroot HIGH', ('chdir /') x 2, 'chdir ..', 'hold FD open-r /');
+my @ROOT_STRETCHES = (
+    "ASKER chroot JAIL\nASKER chdir /\nASKER stat INSIDE\nASKER stat /..INSIDE\nASKER stat ..\nASKER create /../NAME",
+    "ASKER hold 3 open-r /\nASKER chroot JAIL\nASKER chdir /\nASKER stat /..INSIDE\nASKER fchdir 3\nASKER stat NAME\nASKER close 3\nASKER chdir /",
+    "ASKER hold 4 open-r HIGH\nASKER chroot JAIL\nASKER chdir /",
+    "ASKER chroot JAIL\nASKER stat ../NAME\nASKER chdir NAME\nASKER create NAME\nASKER chroot ..\nASKER stat NAME",
+    "ASKER symlink INSIDE JAIL/z\nASKER chroot JAIL\nASKER stat /z\nASKER open-r .JAIL/z\nASKER hold 5 OPEN /z\nASKER chdir /\nASKER stat z",
+    "ASKER symlink /.. JAIL/y\nASKER chroot JAIL\nASKER stat /yINSIDE\nASKER chdir .JAIL/y\nASKER stat .INSIDE",
+    "ASKER chroot JAIL\nASKER chdir /\nASKER fork 4\n4 exec INSIDE\n4 stat INSIDE\n4 chroot WITHIN\n4 chdir /\nASKER stat INSIDE\n4 stat ..",
+    "ASKER chroot JAIL\nASKER chdir /\nASKER pledge - SET\nASKER exec INSIDE\nASKER stat /..INSIDE",
+    "ASKER chroot JAIL\nASKER chdir /\nASKER hold 3 open-r WITHIN\nASKER chroot WITHIN\nASKER stat ..\nASKER fchdir 3\nASKER chroot .\nASKER chdir ../..",
+    ("ASKER fork 6\nASKER symlink HIGH DIR/z\nASKER mkdir NEW\n6 chroot NEW\nASKER rmdir NEW\n6 stat /\n6 stat .DIR/z\n6 create /NAME\n6 chroot /") x 2,
+    "ASKER fork 6\n6 chroot LEAF\n6 rmdir .LEAF\n6 stat /..\nASKER mkdir LEAF\n6 stat .LEAF",
+    "ASKER fork 4\n4 chroot LEAF\nASKER rmdir LEAF\nASKER mkdir LEAF\n4 chroot .\n4 stat /",
+    "ASKER fork 3\n3 chroot JAIL\n3 chdir WITHIN\nASKER rename JAIL/.WITHIN NEW\n3 stat ..\n3 chdir ..",
+    "ASKER fork 3\n3 chroot JAIL\n3 chdir /\nASKER rename JAIL NEW\n3 stat INSIDE\n3 stat ..",
+    "ASKER fork 4\n4 chroot JAIL\n4 chdir /\nASKER hold 3 open-r HIGH\n4 take 4 ASKER 3\n4 fchdir 4\n4 stat ..",
+    "ASKER unveil JAIL PERMISSIONS\nASKER chroot JAIL\nASKER chdir /\nASKER stat INSIDE\nASKER unveil INSIDE rw\nASKER open-rw INSIDE",
+    "ASKER unveil HIGH wc\nASKER chroot HIGH\nASKER chroot JAIL\nASKER create INSIDE",
+    "ASKER chroot JAIL\nASKER chdir /\nASKER pledge stdio,rpath,wpath,cpath,fattr,proc,unveil,error -\nASKER chroot WITHIN\nASKER create INSIDE",
+    "ASKER pledge stdio,rpath,proc,exec,unveil,id -\nASKER chroot JAIL\nASKER stat INSIDE\nASKER stat .INSIDE\nASKER chroot FILE",
+    "ASKER fork 5\n5 chroot JAIL\n5 chdir /\n5 pledge stdio,rpath,proc,unveil -\n5 chroot WITHIN",
 );
 
 # What stands at a path that a promise opens.
@@ -135,11 +166,12 @@ my @STRETCHES = (
 
 # Makes a generator of worlds. Those of one seed are always the same. In %$how, optional: paths_alone, where scripts
 # have no call without a path; openings, where by OpenBSD's rules trees have paths that promises open, and scripts ask
-# for these; files, where by these rules scripts are about descriptors.
+# for these; files, where by these rules scripts are about descriptors; roots, where they are about these too.
 sub new {
     my ($class, $seed, $how) = @_;
     my $worlds = bless { state => 1 + $seed % 2147483646, names => [@NAMES] }, $class;
-    @$worlds{qw(paths_alone openings files)} = @$how{qw(paths_alone openings files)};
+    my @parts = qw(paths_alone openings files roots);
+    @$worlds{@parts} = @$how{@parts};
     @$worlds{qw(paths of)} = (['/'], { dir => [''] });
     $worlds->number(2) for 1 .. 5;
     return $worlds;
@@ -185,6 +217,7 @@ sub listing {
     $worlds->_add_all_opened($tree, \$number) if $worlds->opens;
     my %over = map { m{(.*)/} ? ($1 => 1) : () } @{ $worlds->{paths} };
     $worlds->{of}{leaf} = [ grep { !$over{$_} } @{ $worlds->{of}{dir} } ];
+    $worlds->{of}{full} = [ grep { $over{$_} } @{ $worlds->{of}{dir} } ];
     return join "\n", $tree->{header}, '0 dir', @{ $tree->{lines} }, '';
 }
 
@@ -345,12 +378,15 @@ sub _new_path {
 }
 
 # Mostly a path of one of these kinds, if there is one: a directory but the root, a leaf, which is a directory in
-# which nothing stands, a file, and so on.
+# which nothing stands, a full one, in which something does, a file, and so on.
 sub _path_of {
     my ($worlds, @kinds) = @_;
     my @paths = grep { $_ ne '' } map { @{ $worlds->{of}{$_} || [] } } @kinds;
     return @paths && $worlds->number(4) ? $worlds->pick(@paths) : $worlds->path;
 }
+
+# Mostly a directory in which something stands.
+sub jail { return $_[0]->_path_of('full') }
 
 # A number of lines, each of one of some processes.
 sub requests {
@@ -363,18 +399,36 @@ sub _request {
     my @requests = (@REQUESTS, $worlds->{further} ? @MORE : (), $worlds->uses ? @WITHOUT_PATH : ());
     push @requests, @OPENING_REQUESTS if $worlds->opens;
     push @requests, (@FILE_REQUESTS) x 2 if $worlds->files;
+    push @requests, (@ROOT_REQUESTS) x 2 if $worlds->roots;
     my $request = $worlds->pick($worlds->number($SELDOM_IN) ? @requests : @SELDOM);
-    return join ' ', map { $worlds->_drawn($_) } split / /, $request;
+    $request = join ' ', map { $worlds->_drawn($_) } split / /, $request;
+    $request =~ s{ /[^/ ]+(?=/)}{ } if $worlds->roots && $worlds->number(3) == 0;
+    return $request;
 }
 
 # Lines of one process that belong together, without the end of the last.
 sub _stretch {
     my ($worlds, $asker) = @_;
-    my $lines = $worlds->pick($worlds->files && $worlds->number(3) ? @FILE_STRETCHES : @STRETCHES);
+    my @stretches
+        = $worlds->roots && $worlds->number(3) ? @ROOT_STRETCHES
+        : $worlds->files && $worlds->number(3) ? @FILE_STRETCHES : @STRETCHES;
+    my $lines = $worlds->pick(@stretches);
     $lines =~ s/ASKER/$asker/g;
     my %drawn;
-    $lines =~ s/([A-Z]+)/$drawn{$1} = exists $drawn{$1} ? $drawn{$1} : $worlds->_drawn($1)/ge;
+    $lines =~ s/([A-Z]+)/$worlds->_drawn_once($1, \%drawn)/ge;
     return "$lines\n";
+}
+
+# What is drawn for a word, the same as before, if it was; and beside a directory JAIL for a path in it, as it is from there,
+# or for a directory in it or itself.
+sub _drawn_once {
+    my ($worlds, $word, $drawn) = @_;
+    return $drawn->{$word} if exists $drawn->{$word};
+    return $drawn->{$word} = $worlds->_drawn($word) if $word !~ /\A(?:INSIDE|WITHIN)\z/;
+    my $jail = $worlds->_drawn_once('JAIL', $drawn);
+    my @paths = $word eq 'INSIDE' ? @{ $worlds->{paths} } : @{ $worlds->{of}{dir} };
+    my @inside = map { m{\A\Q$jail\E(/.+)}s ? $1 : () } @paths;
+    return $drawn->{$word} = @inside && $worlds->number(6) ? $worlds->pick(@inside) : '/';
 }
 
 # The calls that there are by the rules of the worlds.
@@ -388,14 +442,16 @@ sub promises {
     my @more = $worlds->number(3) ? $worlds->pick('unix', 'dpath', 'unix,dpath,chown') : ();
     push @more, $worlds->pick(@BESIDE) if $worlds->opens && $worlds->number(3);
     push @more, $worlds->pick(@PASSING) if $worlds->files && $worlds->number(3);
+    push @more, 'id' if $worlds->roots && $worlds->number(3) == 0;
     return join ',', $list, @more;
 }
 
 # Whether by the rules of the worlds promises open paths, and scripts ask for these.
 sub opens { return $_[0]{further} && $_[0]{openings} }
 
-# Whether scripts are about descriptors.
+# Whether scripts are about descriptors, and about roots.
 sub files { return $_[0]{further} && $_[0]{files} }
+sub roots { return $_[0]{further} && $_[0]{roots} }
 
 # Whether scripts have calls without a path, and what one asks for.
 sub uses { return $_[0]{further} && !$_[0]{paths_alone} }
@@ -411,6 +467,7 @@ sub _drawn {
         : $word eq 'CALL'         ? $worlds->pick($worlds->calls)
         : $word eq 'DIR'          ? $worlds->_path_of('dir')
         : $word eq 'LEAF'         ? $worlds->_path_of('leaf')
+        : $word eq 'JAIL'         ? $worlds->jail
         : $word eq 'PROG'         ? $worlds->_path_of('prog')
         : $word eq 'FILE'         ? $worlds->_path_of('file', 'prog', 'link', 'hard')
         : $word eq 'NEW'          ? $worlds->_new_path
@@ -451,6 +508,7 @@ sub script {
     for (defined $how->{lines} ? () : (1, 2)) {
         push @script, $worlds->requests(2 + $worlds->number(3), @askers), $worlds->_stretch($worlds->pick(1, 2));
         push @script, $worlds->_opening_stretch($worlds->pick(1, 2)) if $worlds->opens && $worlds->number(2);
+        push @script, $worlds->_stretch($worlds->pick(1, 2)) if $worlds->roots;
     }
     push @script, $worlds->requests($lines, @askers);
     push @script, map { $worlds->_end($_) } 1, 2 if !defined $how->{ends} || $how->{ends};
@@ -508,7 +566,7 @@ sub _end {
 # The rules by which a script can be read: OpenBSD's alone where it has a call of theirs.
 sub rules_of {
     my ($script) = @_;
-    my $further = join '|', @FURTHER, qw(uses hold close fchdir take);
+    my $further = join '|', @FURTHER, qw(uses hold close fchdir take chroot);
     return $script =~ /^[0-9]+ (?:$further) /m ? ('openbsd') : ('profile', 'openbsd');
 }
 

@@ -18,15 +18,15 @@ use Rattle.pua_calls.specs.declared.call.Call.{Call}
 use Rattle.pua_script.specs.Limits.{most_number}
 use Rattle.pua_script.specs.Requests.{Asked, is_symlink}
 use Rattle.pua_script.specs.FaultTexts.{script_told}
-use Rattle.pua_script.specs.Scripts.{PathForm, PledgeForm, ForkForm, UsesForm, CloseForm, FchdirForm, asks_promises, form_of, further_set}
-use Rattle.pua_script.specs.Scripts.{sets_in, sets_of}
+use Rattle.pua_script.specs.Scripts.{PathForm, PledgeForm, ForkForm, UsesForm, CloseForm, FchdirForm, ChrootForm, asks_promises, form_of}
+use Rattle.pua_script.specs.Scripts.{further_set, sets_in, sets_of}
 use Rattle.pua_script.specs.Scripts.{descriptor_in, file_form, files_form, hold_form, if_openbsd, number_in, open_named, take_form}
 use Rattle.pua_script.specs.Scripts.{action_of, action_in, request_of_fields, request_by, path_in, given_in, is_dash, perms_in}
 use Rattle.pua_script.specs.Scripts.{is_blank, request_of_text, text_in, unveil_of, with_paths}
 use Rattle.pua_script.specs.Requests.{comment}
 use Rattle.pua_script.specs.declared.request.Given.{Given}
 use Rattle.pua_script.specs.declared.request.Action.{Action}
-use Rattle.pua_script.specs.declared.request.Action.TheVariants.{OnPath, Symlink, Rename, Link, Pledge, Unveil, Lock, Uses, Hold}
+use Rattle.pua_script.specs.declared.request.Action.TheVariants.{OnPath, Symlink, Rename, Link, Pledge, Unveil, Lock, Uses, Hold, Chroot}
 use Rattle.pua_script.specs.declared.fault.ScriptFault.{ScriptFault}
 use Rattle.pua_script.specs.declared.fault.ScriptFault.TheVariants.{BadLine, BadCall, BadPath, BadList}
 use Rattle.pua_advice.specs.declared.arguments.Arguments.{Arguments}
@@ -130,9 +130,10 @@ asked_formless Openbsd word call asked a b c = by (same_bytes word (codes "hold"
     by false true is other = absurd (no_call (codes "take") other refl)
     by false false is other = refl
 
--- what stands behind a word, by what word about descriptors it is: of close, fchdir, hold and take
-abbrev pub said_of : Bool → Bool → Bool → Bool → Option Arguments
-said_of c f h t = cond c (Some Descriptor) (cond f (Some Descriptor) (cond h (Some ToHold) (cond t (Some ToTake) None)))
+-- what stands behind a word, by what word about descriptors or the root it is: of close, fchdir, chroot, hold and take
+abbrev pub said_of : Bool → Bool → Bool → Bool → Bool → Option Arguments
+said_of c f r h t =
+    cond c (Some Descriptor) (cond f (Some Descriptor) (cond r (Some Path) (cond h (Some ToHold) (cond t (Some ToTake) None))))
 
 module _ (rules : Rules) (n : ℕ) where
   -- a word that is said to be no call's is none's
@@ -265,7 +266,7 @@ module _ (rules : Rules) (n : ℕ) where
       Agrees (action_advice rules (word ∷ a ∷ b ∷ c ∷ d ∷ more)) (action_in rules n (word ∷ a ∷ b ∷ c ∷ d ∷ more))
   many_agree word a b c d more = misuse_agrees word (arguments_of rules word) refl
 
-  -- of lines about descriptors
+  -- of lines about descriptors and the root
   close_agrees : (a : List ℕ) → Agrees (descriptor_advice a) (ok_or (option_map CloseForm (descriptor_in a)) (BadCall n) >>= action_of n)
   close_agrees a = by (descriptor_in a)
     where
@@ -279,6 +280,9 @@ module _ (rules : Rules) (n : ℕ) where
       by : (o : Option ℕ) → Agrees (cond (is_some o) None (Some (NoDescriptor a))) (ok_or (option_map FchdirForm o) (BadCall n) >>= action_of n)
       by None = (refl, tt)
       by (Some number) = tt
+
+  chroot_agrees : (a : List ℕ) → Agrees (path_advice a) (action_of n (ChrootForm a))
+  chroot_agrees a = agree_made (path_advice a) (ok_or (path_in a) (BadPath n)) (λ path. Chroot path) (path_agrees a)
 
   hold_agrees : (a b c : List ℕ) → Agrees (option_or (descriptor_advice a) (option_or (opening_advice b) (path_advice c)))
       (ok_or (hold_form (descriptor_in a) (open_named b) c) (BadCall n) >>= action_of n)
@@ -307,71 +311,86 @@ module _ (rules : Rules) (n : ℕ) where
 
   -- of a word that may be of such a line, and what stands behind it
   module _ (word : List ℕ) where
-    alone_said : (c f h t : Bool) → arguments_of rules word ≡ said_of c f h t →
-        Agrees {A = Action} (alone_advice word (said_of c f h t)) (Err (BadCall n))
-    alone_said true f h t e = (refl, tt)
-    alone_said false true h t e = (refl, tt)
-    alone_said false false true t e = (refl, tt)
-    alone_said false false false true e = (refl, tt)
-    alone_said false false false false e = (refl, e)
+    alone_said : (c f r h t : Bool) → arguments_of rules word ≡ said_of c f r h t →
+        Agrees {A = Action} (alone_advice word (said_of c f r h t)) (Err (BadCall n))
+    alone_said true f r h t e = (refl, tt)
+    alone_said false true r h t e = (refl, tt)
+    alone_said false false true h t e = (refl, tt)
+    alone_said false false false true t e = (refl, tt)
+    alone_said false false false false true e = (refl, tt)
+    alone_said false false false false false e = (refl, e)
 
-    one_said : (a : List ℕ) (c f h t : Bool) → arguments_of rules word ≡ said_of c f h t → Agrees (one_advice word (said_of c f h t) a)
-        (ok_or (cond c (option_map CloseForm (descriptor_in a)) (cond f (option_map FchdirForm (descriptor_in a)) None)) (BadCall n) >>= action_of n)
-    one_said a true f h t e = close_agrees a
-    one_said a false true h t e = fchdir_agrees a
-    one_said a false false true t e = (refl, tt)
-    one_said a false false false true e = (refl, tt)
-    one_said a false false false false e = (refl, e)
+    one_said : (a : List ℕ) (c f r h t : Bool) → arguments_of rules word ≡ said_of c f r h t →
+        Agrees (one_advice word (said_of c f r h t) a)
+        (ok_or (cond c (option_map CloseForm (descriptor_in a)) (cond f (option_map FchdirForm (descriptor_in a))
+        (cond r (Some (ChrootForm a)) None))) (BadCall n) >>= action_of n)
+    one_said a true f r h t e = close_agrees a
+    one_said a false true r h t e = fchdir_agrees a
+    one_said a false false true h t e = chroot_agrees a
+    one_said a false false false true t e = (refl, tt)
+    one_said a false false false false true e = (refl, tt)
+    one_said a false false false false false e = (refl, e)
 
-    two_said : (a b : List ℕ) (c f h t : Bool) → arguments_of rules word ≡ said_of c f h t →
-        Agrees {A = Action} (two_advice word (said_of c f h t) a b) (Err (BadCall n))
-    two_said a b true f h t e = (refl, tt)
-    two_said a b false true h t e = (refl, tt)
-    two_said a b false false true t e = (refl, tt)
-    two_said a b false false false true e = (refl, tt)
-    two_said a b false false false false e = (refl, e)
+    two_said : (a b : List ℕ) (c f r h t : Bool) → arguments_of rules word ≡ said_of c f r h t →
+        Agrees {A = Action} (two_advice word (said_of c f r h t) a b) (Err (BadCall n))
+    two_said a b true f r h t e = (refl, tt)
+    two_said a b false true r h t e = (refl, tt)
+    two_said a b false false true h t e = (refl, tt)
+    two_said a b false false false true t e = (refl, tt)
+    two_said a b false false false false true e = (refl, tt)
+    two_said a b false false false false false e = (refl, e)
 
-    -- close and fchdir are no hold and no take
-    three_said : (x y z : List ℕ) (c f h t : Bool) → (c ≡ true → (h ≡ false) × (t ≡ false)) → (f ≡ true → (h ≡ false) × (t ≡ false)) →
-        arguments_of rules word ≡ said_of c f h t → Agrees (three_advice word (said_of c f h t) x y z)
+    -- a word of a line with one argument is no hold and no take
+    three_unsaid : (x y z : List ℕ) (what : Arguments) (h t : Bool) → (h ≡ false) × (t ≡ false) → Agrees (Some (Takes word what))
         (ok_or (cond h (hold_form (descriptor_in x) (open_named y) z)
         (cond t (take_form (descriptor_in x) (number_in y) (descriptor_in z)) None)) (BadCall n) >>= action_of n)
-    three_said x y z true f true t no_close no_fchdir e = absurd (true≢false (no_close refl).0)
-    three_said x y z true f false true no_close no_fchdir e = absurd (true≢false (no_close refl).1)
-    three_said x y z true f false false no_close no_fchdir e = (refl, tt)
-    three_said x y z false true true t no_close no_fchdir e = absurd (true≢false (no_fchdir refl).0)
-    three_said x y z false true false true no_close no_fchdir e = absurd (true≢false (no_fchdir refl).1)
-    three_said x y z false true false false no_close no_fchdir e = (refl, tt)
-    three_said x y z false false true t no_close no_fchdir e = hold_agrees x y z
-    three_said x y z false false false true no_close no_fchdir e = take_agrees x y z
-    three_said x y z false false false false no_close no_fchdir e = (refl, e)
+    three_unsaid x y z what true t none = absurd (true≢false none.0)
+    three_unsaid x y z what false true none = absurd (true≢false none.1)
+    three_unsaid x y z what false false none = (refl, tt)
+
+    three_said : (x y z : List ℕ) (c f r h t : Bool) → (c ≡ true → (h ≡ false) × (t ≡ false)) → (f ≡ true → (h ≡ false) × (t ≡ false)) →
+        (r ≡ true → (h ≡ false) × (t ≡ false)) →
+        arguments_of rules word ≡ said_of c f r h t → Agrees (three_advice word (said_of c f r h t) x y z)
+        (ok_or (cond h (hold_form (descriptor_in x) (open_named y) z)
+        (cond t (take_form (descriptor_in x) (number_in y) (descriptor_in z)) None)) (BadCall n) >>= action_of n)
+    three_said x y z true f r h t close fchdir chroot e = three_unsaid x y z Descriptor h t (close refl)
+    three_said x y z false true r h t close fchdir chroot e = three_unsaid x y z Descriptor h t (fchdir refl)
+    three_said x y z false false true h t close fchdir chroot e = three_unsaid x y z Path h t (chroot refl)
+    three_said x y z false false false true t close fchdir chroot e = hold_agrees x y z
+    three_said x y z false false false false true close fchdir chroot e = take_agrees x y z
+    three_said x y z false false false false false close fchdir chroot e = (refl, e)
+
+    no_three : (name : List ℕ) → same_bytes name (codes "hold") ≡ false → same_bytes name (codes "take") ≡ false → same_bytes word name ≡ true →
+        (same_bytes word (codes "hold") ≡ false) × (same_bytes word (codes "take") ≡ false)
+    no_three name h t is = (
+      ap (λ w. same_bytes w (codes "hold")) (same_word word name is) ∙ h,
+      ap (λ w. same_bytes w (codes "take")) (same_word word name is) ∙ t,
+    )
 
     alone_filed : (r : Rules) → arguments_of rules word ≡ files_taken r word →
         Agrees {A = Action} (alone_advice word (files_taken r word)) (Err (BadCall n))
     alone_filed Standard e = (refl, e)
-    alone_filed Openbsd e = alone_said (same_bytes word (codes "close")) (same_bytes word (codes "fchdir")) (same_bytes word (codes "hold"))
-        (same_bytes word (codes "take")) e
+    alone_filed Openbsd e = alone_said (same_bytes word (codes "close")) (same_bytes word (codes "fchdir")) (same_bytes word (codes "chroot"))
+        (same_bytes word (codes "hold")) (same_bytes word (codes "take")) e
 
     one_filed : (a : List ℕ) (r : Rules) → arguments_of rules word ≡ files_taken r word →
         Agrees (one_advice word (files_taken r word) a) (ok_or (if_openbsd r (file_form word a)) (BadCall n) >>= action_of n)
     one_filed a Standard e = (refl, e)
-    one_filed a Openbsd e = one_said a (same_bytes word (codes "close")) (same_bytes word (codes "fchdir")) (same_bytes word (codes "hold"))
-        (same_bytes word (codes "take")) e
+    one_filed a Openbsd e = one_said a (same_bytes word (codes "close")) (same_bytes word (codes "fchdir")) (same_bytes word (codes "chroot"))
+        (same_bytes word (codes "hold")) (same_bytes word (codes "take")) e
 
     two_filed : (a b : List ℕ) (r : Rules) → arguments_of rules word ≡ files_taken r word →
         Agrees {A = Action} (two_advice word (files_taken r word) a b) (Err (BadCall n))
     two_filed a b Standard e = (refl, e)
-    two_filed a b Openbsd e = two_said a b (same_bytes word (codes "close")) (same_bytes word (codes "fchdir")) (same_bytes word (codes "hold"))
-        (same_bytes word (codes "take")) e
+    two_filed a b Openbsd e = two_said a b (same_bytes word (codes "close")) (same_bytes word (codes "fchdir")) (same_bytes word (codes "chroot"))
+        (same_bytes word (codes "hold")) (same_bytes word (codes "take")) e
 
     three_filed : (a b c : List ℕ) (r : Rules) → arguments_of rules word ≡ files_taken r word →
         Agrees (three_advice word (files_taken r word) a b c) (ok_or (if_openbsd r (files_form word a b c)) (BadCall n) >>= action_of n)
     three_filed a b c Standard e = (refl, e)
-    three_filed a b c Openbsd e = three_said a b c (same_bytes word (codes "close")) (same_bytes word (codes "fchdir")) (same_bytes word (codes "hold"))
-        (same_bytes word (codes "take"))
-        (λ is. (ap (λ w. same_bytes w (codes "hold")) (same_word word (codes "close") is), ap (λ w. same_bytes w (codes "take")) (same_word word (codes "close") is)))
-        (λ is. (ap (λ w. same_bytes w (codes "hold")) (same_word word (codes "fchdir") is), ap (λ w. same_bytes w (codes "take")) (same_word word (codes "fchdir") is)))
-        e
+    three_filed a b c Openbsd e = three_said a b c (same_bytes word (codes "close")) (same_bytes word (codes "fchdir"))
+        (same_bytes word (codes "chroot")) (same_bytes word (codes "hold")) (same_bytes word (codes "take"))
+        (no_three (codes "close") refl refl) (no_three (codes "fchdir") refl refl) (no_three (codes "chroot") refl refl) e
 
   -- of a word and what stands behind it
   abbrev Word : List ℕ → Type 0

@@ -19,7 +19,7 @@ use Rattle.pua_script.specs.declared.fault.ScriptFault.{ScriptFault}
 use Rattle.pua_script.specs.declared.fault.ScriptFault.TheVariants.{TooMany}
 use Rattle.pua_advice.specs.declared.arguments.Arguments.TheVariants.{Nothing, Number, TargetAndPath, TwoPaths, Promises, PathAndLetters, AnyPromises}
 use Rattle.pua_advice.specs.declared.arguments.Arguments.{Arguments}
-use Rattle.pua_advice.specs.declared.arguments.Arguments.TheVariants.{Descriptor, ToHold, ToTake}
+use Rattle.pua_advice.specs.declared.arguments.Arguments.TheVariants.{Path, Descriptor, ToHold, ToTake}
 use Rattle.pua_advice.specs.Advice.{Advised, advice_of, arguments_of, call_takes, files_taken, line_at, script_advice}
 use Rattle.pua_advice.specs.Laws.{RefusedAreAdvised, ScriptsAreAdvised, UnknownAreNone}
 use Rattle.pua_advice.proofs.Words.{by_word, symlink_taken}
@@ -41,24 +41,25 @@ refused_are_advised rules n line = (
     told (Some advice) (Ok other) ask e agrees = absurd agrees
     told (Some advice) (Err fault) ask e agrees = absurd (Err≢Ok fault ask e)
 
--- no call takes what is none's, and no line about descriptors
+-- no call takes what is none's, and no line about descriptors or the root
 unasked : (o : Option Call) (other : Option Arguments) → option_or (option_map call_takes o) other ≡ None → (o ≡ None) × (other ≡ None)
 unasked None other e = (refl, e)
 unasked (Some call) other e = absurd (Some≢None (call_takes call) e)
 
-unsaid : {A : Type 0} (x y z w : Option A) (c f h t : Bool) → said_of c f h t ≡ None →
-    (cond c x (cond f y None) ≡ None) × (cond h z (cond t w None) ≡ None)
-unsaid x y z w true f h t e = absurd (Some≢None Descriptor e)
-unsaid x y z w false true h t e = absurd (Some≢None Descriptor e)
-unsaid x y z w false false true t e = absurd (Some≢None ToHold e)
-unsaid x y z w false false false true e = absurd (Some≢None ToTake e)
-unsaid x y z w false false false false e = (refl, refl)
+unsaid : {A : Type 0} (x y p z w : Option A) (c f r h t : Bool) → said_of c f r h t ≡ None →
+    (cond c x (cond f y (cond r p None)) ≡ None) × (cond h z (cond t w None) ≡ None)
+unsaid x y p z w true f r h t e = absurd (Some≢None Descriptor e)
+unsaid x y p z w false true r h t e = absurd (Some≢None Descriptor e)
+unsaid x y p z w false false true h t e = absurd (Some≢None Path e)
+unsaid x y p z w false false false true t e = absurd (Some≢None ToHold e)
+unsaid x y p z w false false false false true e = absurd (Some≢None ToTake e)
+unsaid x y p z w false false false false false e = (refl, refl)
 
 unfiled : (rules : Rules) (word : List ℕ) → files_taken rules word ≡ None → (a b c : List ℕ) →
     (if_openbsd rules (file_form word a) ≡ None) × (if_openbsd rules (files_form word a b c) ≡ None)
 unfiled Standard word e a b c = (refl, refl)
-unfiled Openbsd word e a b c = unsaid _ _ _ _ (same_bytes word (codes "close")) (same_bytes word (codes "fchdir")) (same_bytes word (codes "hold"))
-    (same_bytes word (codes "take")) e
+unfiled Openbsd word e a b c = unsaid _ _ _ _ _ (same_bytes word (codes "close")) (same_bytes word (codes "fchdir"))
+    (same_bytes word (codes "chroot")) (same_bytes word (codes "hold")) (same_bytes word (codes "take")) e
 
 formless : (rules : Rules) (word : List ℕ) → arguments_of rules word ≡ None → (arguments : List (List ℕ)) → form_of rules word arguments ≡ None
 formless rules =

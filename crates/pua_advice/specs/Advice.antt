@@ -77,14 +77,15 @@ form_advice (b ∷ more) = option_and_then field_advice (find (λ field. not (is
 abbrev pub call_takes : Call → Arguments
 call_takes call = if is_symlink call then TargetAndPath else Path
 
--- and one about descriptors, which there are by OpenBSD's rules alone
+-- and one about descriptors or the root, which there is by OpenBSD's rules alone
 abbrev pub files_taken : Rules → List ℕ → Option Arguments
 files_taken Standard word = None
 files_taken Openbsd word =
     if same_bytes word (codes "close") then Some Descriptor
     else (if same_bytes word (codes "fchdir") then Some Descriptor
+    else (if same_bytes word (codes "chroot") then Some Path
     else (if same_bytes word (codes "hold") then Some ToHold
-    else (if same_bytes word (codes "take") then Some ToTake else None)))
+    else (if same_bytes word (codes "take") then Some ToTake else None))))
 
 -- what stands behind this word in a line by rules, if it is the word of a call by these
 abbrev pub arguments_of : Rules → List ℕ → Option Arguments

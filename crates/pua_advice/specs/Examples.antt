@@ -24,10 +24,10 @@ pub record FormRows : Type 0 where
   pub tab : advice_of Openbsd (codes "1" ++ 9 ∷ codes "stat /") ≡ Some (HiddenByte 9)
   pub letter_beyond_ascii : advice_of Openbsd (codes "1 stat /" ++ 195 ∷ 169 ∷ []) ≡ Some (HiddenByte 195)
   -- the first thing from the left, whatever stands before it
-  pub blank_before_byte : advice_of Openbsd (codes "chroot  /" ++ 195 ∷ []) ≡ Some ExtraBlank
-  pub byte_before_blank : advice_of Openbsd (codes "chroot" ++ 9 ∷ codes "/ ") ≡ Some (HiddenByte 9)
+  pub blank_before_byte : advice_of Openbsd (codes "mount  /" ++ 195 ∷ []) ≡ Some ExtraBlank
+  pub byte_before_blank : advice_of Openbsd (codes "mount" ++ 9 ∷ codes "/ ") ≡ Some (HiddenByte 9)
   pub no_process : advice_of Openbsd (codes "stat /") ≡ Some (NoNumber (codes "stat"))
-  pub process_zero : advice_of Openbsd (codes "0 chroot /") ≡ Some (NoNumber (codes "0"))
+  pub process_zero : advice_of Openbsd (codes "0 mount /") ≡ Some (NoNumber (codes "0"))
   pub process_too_high : advice_of Openbsd (codes "1000000 stat /") ≡ Some (NoNumber (codes "1000000"))
   pub no_call : advice_of Openbsd (codes "1") ≡ Some NoCall
 
@@ -54,7 +54,7 @@ form_rows = record {
 
 -- calls that there are not, and calls with other arguments than they take
 pub record CallRows : Type 0 where
-  pub unknown : advice_of Openbsd (codes "1 chroot /var/empty") ≡ Some (UnknownCall (codes "chroot"))
+  pub unknown : advice_of Openbsd (codes "1 mount /var/empty") ≡ Some (UnknownCall (codes "mount"))
   pub open_alone : advice_of Openbsd (codes "1 open /x r") ≡ Some (UnknownCall (codes "open"))
   pub unknown_with_many : advice_of Openbsd (codes "1 openat 3 /x O_RDONLY 0") ≡ Some (UnknownCall (codes "openat"))
   pub capitals : advice_of Openbsd (codes "1 STAT /") ≡ Some (UnknownCall (codes "STAT"))
@@ -168,7 +168,7 @@ uses_rows = record {
   standard = refl;
 }
 
--- descriptors
+-- descriptors and the root
 pub record FileRows : Type 0 where
   pub number_left_out : advice_of Openbsd (codes "1 close") ≡ Some (Takes (codes "close") Descriptor)
   pub two_numbers : advice_of Openbsd (codes "1 close 3 4") ≡ Some (Takes (codes "close") Descriptor)
@@ -186,9 +186,15 @@ pub record FileRows : Type 0 where
   pub four_of_three : advice_of Openbsd (codes "1 take 3 2 3 4") ≡ Some (Takes (codes "take") ToTake)
   pub good_hold : advice_of Openbsd (codes "1 hold 1023 open-rw /x") ≡ None
   pub good_take : advice_of Openbsd (codes "1 take 0 999999 1023") ≡ None
+  pub root_left_out : advice_of Openbsd (codes "1 chroot") ≡ Some (Takes (codes "chroot") Path)
+  pub two_roots : advice_of Openbsd (codes "1 chroot /a /b") ≡ Some (Takes (codes "chroot") Path)
+  pub three_roots : advice_of Openbsd (codes "1 chroot /a /b /c") ≡ Some (Takes (codes "chroot") Path)
+  pub bad_root : advice_of Openbsd (codes "1 chroot /\\") ≡ Some (NoPath (codes "/\\"))
+  pub good_root : advice_of Openbsd (codes "1 chroot /var/empty") ≡ None
   -- by the standard rules they are no calls
   pub standard : advice_of Standard (codes "1 close 3") ≡ Some (UnknownCall (codes "close"))
   pub standard_three : advice_of Standard (codes "1 take 3 2 3") ≡ Some (UnknownCall (codes "take"))
+  pub standard_root : advice_of Standard (codes "1 chroot /") ≡ Some (UnknownCall (codes "chroot"))
 
 pub file_rows : FileRows
 file_rows = record {
@@ -208,14 +214,20 @@ file_rows = record {
   four_of_three = refl;
   good_hold = refl;
   good_take = refl;
+  root_left_out = refl;
+  two_roots = refl;
+  three_roots = refl;
+  bad_root = refl;
+  good_root = refl;
   standard = refl;
   standard_three = refl;
+  standard_root = refl;
 }
 
 -- the line that is to blame
 pub record BlameRows : Type 0 where
-  pub second_line : script_advice Openbsd (text_of_lines (codes "1 stat /" ∷ codes "1 chroot /" ∷ codes "1 open" ∷ [])) (BadCall 2)
-      ≡ Some (UnknownCall (codes "chroot"))
+  pub second_line : script_advice Openbsd (text_of_lines (codes "1 stat /" ∷ codes "1 mount /" ∷ codes "1 open" ∷ [])) (BadCall 2)
+      ≡ Some (UnknownCall (codes "mount"))
   pub carriage_return : script_advice Openbsd (codes "1 open" ++ 13 ∷ 10 ∷ []) (BadCall 1) ≡ Some (UnknownCall (codes "open"))
   pub last_without_end : script_advice Openbsd (codes "stat /") (BadLine 1) ≡ Some (NoNumber (codes "stat"))
   pub empty_line : script_advice Standard (10 ∷ codes "1 stat /") (BadLine 1) ≡ Some EmptyLine
@@ -231,7 +243,7 @@ pub record TextRows : Type 0 where
   pub byte : advice_text (HiddenByte 9) ≡ codes "a word has visible ASCII alone, not \\011"
   pub number : advice_text (NoNumber (codes "stat")) ≡ codes "\"stat\" is no number of a process, 1 to 999999"
   pub no_call : advice_text NoCall ≡ codes "no call stands behind the process"
-  pub unknown : advice_text (UnknownCall (codes "chroot")) ≡ codes "no call \"chroot\" by these rules"
+  pub unknown : advice_text (UnknownCall (codes "mount")) ≡ codes "no call \"mount\" by these rules"
   pub takes_nothing : advice_text (Takes (codes "exit") Nothing) ≡ codes "exit takes nothing"
   pub takes_number : advice_text (Takes (codes "fork") Number) ≡ codes "fork takes the number of a new process"
   pub takes_path : advice_text (Takes (codes "stat") Path) ≡ codes "stat takes one path"

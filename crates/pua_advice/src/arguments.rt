@@ -56,8 +56,8 @@ impl Arguments {
         }
     }
 
-    /// What stands after this word in a line about descriptors, which there is by OpenBSD's rules
-    /// alone.
+    /// What stands after this word in a line about descriptors or the root, which there is by
+    /// OpenBSD's rules alone.
     fn of_files(rules: Rules, word: &[u8]) -> Option<Arguments>
         ensures { result ≡ files_taken rules word.now }
     {
@@ -66,6 +66,8 @@ impl Arguments {
             Rules::Openbsd => {
                 if word == b"close".as_slice() || word == b"fchdir".as_slice() {
                     Some(Arguments::Descriptor)
+                } else if word == b"chroot".as_slice() {
+                    Some(Arguments::Path)
                 } else if word == b"hold".as_slice() {
                     Some(Arguments::ToHold)
                 } else if word == b"take".as_slice() {

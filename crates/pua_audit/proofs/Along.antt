@@ -4,15 +4,16 @@ use Rattle.pua_audit.proofs.Common.{◌*◌, ◌≤◌, Ok, Err, filter, AllByRe
 use Rattle.pua_audit.proofs.Common.{Ending, Followed, Top, Whole, Slot, CallTable, rule_of, last_of, calls, ProcessState, may_any, is_ended}
 use Rattle.pua_audit.proofs.Common.{verdict_of, is_allowed, Call, Word, Pair, Scope, words, pairs, from_root, path_of, is_reached, reach}
 use Rattle.pua_audit.proofs.Common.{Start, Below, Judge, base_dir, state_of, judge_of, judge_for, reach_along, Base, Root, Cwd, longest}
+use Rattle.pua_audit.proofs.Common.{seen_by, ◌==◌, ◌||◌, false≢true, eqb-true}
 use Rattle.std.proofs.Common.{max, fold, mul-le-mul_right}
-use Rattle.pua_path.specs.Resolution.{Resolved, resolve_parts, resolution_of_text, dir_with_links}
+use Rattle.pua_path.specs.Resolution.{Resolved, resolve_parts, resolution_of_text, dir_with_links, has_root}
 use Rattle.pua_path.specs.Laws.{Lands, onwards}
-use Rattle.pua_path.proofs.ForCallers.{composes, resolutions_fit}
+use Rattle.pua_path.proofs.ForCallers.{composes, resolutions_fit, seen_root_lives}
 use Rattle.pua_path.specs.declared.errno.Errno.TheVariants.{ENOENT, ENOTDIR}
 use Rattle.pua_path.specs.declared.text.Ending.TheVariants as ending
 use Rattle.pua_path.specs.declared.found.Part.TheVariants as parts
 use Rattle.pua_calls.specs.Calls.{ending_of}
-use Rattle.pua_policy.specs.States.{working_dir}
+use Rattle.pua_policy.specs.States.{root_dir}
 use Rattle.pua_policy.specs.Verdict.{verdict_on, object_named}
 use Rattle.pua_audit.specs.Judge.{base_way, if_some, is_allowed_along}
 use Rattle.pua_audit.proofs.Paths.{IsPiece, IsPath, path_is, length_from_root}
@@ -25,6 +26,22 @@ ended : (t : Tree) (table : CallTable) (h : ProcessState) (call : Call) (r : _) 
     is_allowed (verdict_of t table h call r) ≡ false
 ended t table h call (Ok found) e = rw e refl
 ended t table h call (Err errno) e = rw e refl
+
+-- a root that lives was not removed
+has_root_living : (t : Tree) (root : ℕ) → is_dir t root ≡ true → has_root t root ≡ true
+has_root_living t root lives = by (root == 0)
+  where
+    by : (b : Bool) → (b || is_dir t root) ≡ true
+    by true = refl
+    by false = lives
+
+-- nor is there a root that was removed
+no_root : (t : Tree) (root : ℕ) → WellFormed t → is_dir t root ≡ false → has_root t root ≡ false
+no_root t root fits gone = by (root == 0) refl
+  where
+    by : (b : Bool) → (root == 0) ≡ b → (b || is_dir t root) ≡ false
+    by true e = absurd (false≢true (sym gone ∙ ap (is_dir t) (eqb-true root 0 e) ∙ fits.root))
+    by false e = gone
 
 module _ (t : Tree) (fits : WellFormed t) (table : CallTable) (base : Base) (h : ProcessState) where
   abbrev w : Judge
@@ -39,21 +56,23 @@ module _ (t : Tree) (fits : WellFormed t) (table : CallTable) (base : Base) (h :
 
   -- from a directory the parts behind the first are judged letter by letter
   along : (c : Call) (links dir : ℕ) (a : List ℕ) (word : Word) → links ≤ 32 → is_dir t dir ≡ true
-      → judged c (resolve_parts links t (last_of c) dir Top (map part_of (a ∷ word)))
+      → judged c (resolve_parts links (seen_by t h) (last_of c) dir Top (map part_of (a ∷ word)))
       ≡ is_allowed_along w (Below (record { dir = dir; used = 32 - links }) a) word c
-  along c links dir a [] le lives = ap (λ n. judged c (resolve_parts n t (last_of c) dir Top (part_of a ∷ []))) (sym (left_again links le))
+  along c links dir a [] le lives =
+      ap (λ n. judged c (resolve_parts n (seen_by t h) (last_of c) dir Top (part_of a ∷ []))) (sym (left_again links le))
   along c links dir a (b ∷ word) le lives =
-      ap (judged c) (composes t (last_of c) links dir Top (part_of a ∷ []) (part_of b) (map part_of word))
-      ∙ by (λ left next le here. along c left next b word le here) (resolve_parts links t Followed dir Top (part_of a ∷ parts.Dot ∷ []))
-      ((resolutions_fit t fits).parts links dir Followed (part_of a ∷ parts.Dot ∷ []) lives)
-      ∙ ap (λ n. if_some (state_of (resolve_parts n t Followed dir Top (part_of a ∷ parts.Dot ∷ []) >>= dir_with_links))
+      ap (judged c) (composes (seen_by t h) (last_of c) links dir Top (part_of a ∷ []) (part_of b) (map part_of word))
+      ∙ by (λ left next le here. along c left next b word le here)
+      (resolve_parts links (seen_by t h) Followed dir Top (part_of a ∷ parts.Dot ∷ []))
+      ((resolutions_fit (seen_by t h) fits (seen_root_lives t h.start fits)).parts links dir Followed (part_of a ∷ parts.Dot ∷ []) lives)
+      ∙ ap (λ n. if_some (state_of (resolve_parts n (seen_by t h) Followed dir Top (part_of a ∷ parts.Dot ∷ []) >>= dir_with_links))
       (λ s. is_allowed_along w (Below s b) word c)) (sym (left_again links le))
     where
       by : ((left next : ℕ) → left ≤ 32 → is_dir t next ≡ true →
-          judged c (resolve_parts left t (last_of c) next Top (map part_of (b ∷ word)))
+          judged c (resolve_parts left (seen_by t h) (last_of c) next Top (map part_of (b ∷ word)))
           ≡ is_allowed_along w (Below (record { dir = next; used = 32 - left }) b) word c)
-          → (r : Resolved) → Lands t Followed links r
-          → judged c (r >>= onwards t (last_of c) (map part_of (b ∷ word))) ≡ if_some (state_of (r >>= dir_with_links))
+          → (r : Resolved) → Lands (seen_by t h) Followed links r
+          → judged c (r >>= onwards (seen_by t h) (last_of c) (map part_of (b ∷ word))) ≡ if_some (state_of (r >>= dir_with_links))
           (λ s. is_allowed_along w (Below s b) word c)
       by on (Ok (Whole next way, left)) is = on left next (omega (arith, is.1, le)) is.0.fits
       by on (Ok (Slot at name _, left)) is = refused (may_any h (rule_of table c).alternatives) ENOTDIR
@@ -62,14 +81,14 @@ module _ (t : Tree) (fits : WellFormed t) (table : CallTable) (base : Base) (h :
   module _ (lives : is_dir t (base_dir base h) ≡ true) where
     -- what a word with a letter names
     named : (c : Call) (a : List ℕ) (word : Word) → IsPath base (path_of base (a ∷ word)) (a ∷ word)
-        → object_named t h c (path_of base (a ∷ word)) ≡ (resolve_parts 32 t (last_of c) (base_dir base h) Top (map part_of (a ∷ word)) >>=
-        λ found. Ok found.0)
+        → object_named t h c (path_of base (a ∷ word))
+        ≡ (resolve_parts 32 (seen_by t h) (last_of c) (base_dir base h) Top (map part_of (a ∷ word)) >>= λ found. Ok found.0)
     named c a word is = start base lives is.absolute
       where
         start : (b : Base) → is_dir t (base_dir b h) ≡ true → is_absolute (path_of base (a ∷ word)) ≡ (elim b [ Root ↦ true | Cwd ↦ false ])
-            → object_named t h c (path_of base (a ∷ word)) ≡ (resolve_parts 32 t (last_of c) (base_dir b h) Top (map part_of (a ∷ word)) >>=
-            λ found. Ok found.0)
-        start Root here e = rw (is.fault, e, is.parts (ending_of c)) refl
+            → object_named t h c (path_of base (a ∷ word))
+            ≡ (resolve_parts 32 (seen_by t h) (last_of c) (base_dir b h) Top (map part_of (a ∷ word)) >>= λ found. Ok found.0)
+        start Root here e = rw (is.fault, e, has_root_living t (root_dir h) here, is.parts (ending_of c)) refl
         start Cwd here e = rw (is.fault, e, here, is.parts (ending_of c)) refl
 
     -- what the base itself names
@@ -77,9 +96,9 @@ module _ (t : Tree) (fits : WellFormed t) (table : CallTable) (base : Base) (h :
     base_named c = at base lives (ending_of c)
       where
         at : (b : Base) → is_dir t (base_dir b h) ≡ true → (e : Ending) →
-            resolution_of_text t (working_dir h) e (path_of b []) (last_of c) ≡ Ok (Whole (base_dir b h) (base_way b))
-        at Root here ending.Dot = refl
-        at Root here ending.Dropped = refl
+            resolution_of_text t h.start e (path_of b []) (last_of c) ≡ Ok (Whole (base_dir b h) (base_way b))
+        at Root here ending.Dot = rw (has_root_living t (root_dir h) here) refl
+        at Root here ending.Dropped = rw (has_root_living t (root_dir h) here) refl
         at Cwd here ending.Dot = rw here refl
         at Cwd here ending.Dropped = rw here refl
 
@@ -187,7 +206,17 @@ module _ (s : Scope) (fits : WellFormed s.tree) (readable : IsReadable s.alphabe
       missing : (base : Base) → is_dir s.tree (base_dir base s.process) ≡ false → (c : Call) (word : Word) → AllByRecursion IsPiece word →
           length (from_root word) ≤ 1023
           → is_allowed (verdict_on s.tree s.table s.process c (path_of base word)) ≡ false
-      missing Root gone c word all fits_in = let bad : true ≡ false = sym fits.root ∙ gone in cc
+      missing Root gone c [] all fits_in =
+          let none : object_named s.tree s.process c (path_of Root []) ≡ Err ENOENT =
+          rw (no_root s.tree (root_dir s.process) fits gone) refl in
+          ap (λ r. is_allowed (verdict_of s.tree s.table s.process c r)) none ∙
+          refused (may_any s.process (rule_of s.table c).alternatives) ENOENT
+      missing Root gone c (a ∷ word) all fits_in =
+          let is : IsPath Root (path_of Root (a ∷ word)) (a ∷ word) = path_is Root a word all.0 all.1 fits_in in
+          let none : object_named s.tree s.process c (path_of Root (a ∷ word)) ≡ Err ENOENT =
+          rw (is.fault, no_root s.tree (root_dir s.process) fits gone) refl in
+          ap (λ r. is_allowed (verdict_of s.tree s.table s.process c r)) none ∙
+          refused (may_any s.process (rule_of s.table c).alternatives) ENOENT
       missing Cwd gone c [] all fits_in =
           let none : object_named s.tree s.process c (path_of Cwd []) ≡ Err ENOENT = rw gone refl in
           ap (λ r. is_allowed (verdict_of s.tree s.table s.process c r)) none ∙

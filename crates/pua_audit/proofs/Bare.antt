@@ -3,7 +3,7 @@ use Rattle.pua_audit.proofs.Common.{ℕ, ◌+◌, ◌≤◌, ◌≡◌, List, Op
 use Rattle.pua_audit.proofs.Common.{sym, subst, ◌∙◌, IsTrue, le-leb, Tree, WellFormed, is_dir, most_links, part_of, follow, Found, Slot}
 use Rattle.pua_audit.proofs.Common.{Last, Followed, Kept, Top, CallTable, last_of, has, ProcessState, perms_kept, IsMissing, cover}
 use Rattle.pua_audit.proofs.Common.{verdict_of, is_allowed, Call, allowed_within, allowed_kept, allowed_near, allowed_far, judge_of}
-use Rattle.pua_audit.proofs.Common.{IsLetter, IsNamed, Base}
+use Rattle.pua_audit.proofs.Common.{IsLetter, IsNamed, Base, seen_by}
 use Rattle.std.proofs.Common.{Ok}
 use Rattle.pua_tree.specs.Tree.{found_at, look}
 use Rattle.pua_tree.specs.declared.node.Kind.{Kind}
@@ -27,13 +27,14 @@ pub record IsBare (t : Tree) (h : ProcessState) (dir : ℕ) (letter : List ℕ) 
 
 -- a name at which no directory stands is found without a link: one set of calls tells it
 module _ (t : Tree) (table : CallTable) (base : Base) (h : ProcessState) (dir : ℕ) (letter : List ℕ) (node : Option ℕ) (calls kept : ℕ)
-    (followed : follow t dir (part_of letter) ≡ Ok (Slot dir letter node, 0)) (on_slot : (call : Call) →
+    (followed : follow (seen_by t h) dir (part_of letter) ≡ Ok (Slot dir letter node, 0)) (on_slot : (call : Call) →
     is_allowed (verdict t table h call (Slot dir letter node)) ≡ has calls call) where
   abbrev slot : Found
   slot = Slot dir letter node
 
   on_kept : (call : Call) → allowed_kept t table h dir letter call ≡ has calls call
-  on_kept call = ap (λ r. is_allowed (verdict_of t table h call r)) (unlinked_alike t dir (part_of letter) slot followed) ∙ on_slot call
+  on_kept call =
+      ap (λ r. is_allowed (verdict_of t table h call r)) (unlinked_alike (seen_by t h) dir (part_of letter) slot followed) ∙ on_slot call
 
   near : (call : Call) → allowed_near t table h dir letter (Ok (slot, 0)) call ≡ has calls call
   near call = alike (last_of call) (is_allowed (verdict t table h call slot)) (allowed_kept t table h dir letter call) (has calls call)
@@ -58,7 +59,8 @@ module _ (t : Tree) (table : CallTable) (base : Base) (h : ProcessState) (dir : 
   pub bare_told : (missing : ℕ) → ((call : Call) → has missing call ≡ allowed_within t table h dir IsMissing call) → IsBare t h dir letter →
       IsLetter (judge_of t table base h) dir letter missing missing 0 None
   bare_told missing told is =
-      slot_told t table base h dir letter None missing missing (ap (follow t dir) is.name ∙ missing_follows t dir letter is.none)
+      slot_told t table base h dir letter None missing missing
+      (ap (follow (seen_by t h) dir) is.name ∙ missing_follows (seen_by t h) dir letter is.none)
       (λ call. ap (λ left. is_allowed (covered_verdict t table h call left IsMissing)) (unveiled_within t h dir letter None Top fits living
       is.unveiled) ∙ sym (told call))
 
@@ -68,9 +70,10 @@ module _ (t : Tree) (table : CallTable) (base : Base) (h : ProcessState) (dir : 
       → IsNamed letter → found_at t dir letter ≡ Some (x, kind) → perms_kept h (place.Slot dir letter) ≡ None →
       IsLetter (judge_of t table base h) dir letter calls kept 0 None
   file_told x calls kept kind file told name found unveiled =
-      slot_told t table base h dir letter (Some x) calls kept (ap (follow t dir) name ∙ file_follows t dir letter x kind file found)
+      slot_told t table base h dir letter (Some x) calls kept
+      (ap (follow (seen_by t h) dir) name ∙ file_follows (seen_by t h) dir letter x kind file found)
       (λ call.
       ap (λ k. is_allowed (covered_verdict t table h call (cover t h (Slot dir letter (Some x))) (object_of_kind k)))
-      (found_kind t dir letter x kind found)
+      (found_kind (seen_by t h) dir letter x kind found)
       ∙ ap (λ left. is_allowed (covered_verdict t table h call left (object_of_kind (Some kind))))
       (unveiled_within t h dir letter (Some x) Top fits living unveiled) ∙ sym (told call))

@@ -33,7 +33,7 @@ pub use Rattle.pua_path.specs.Fits.{FoundsFit, StandsAsNamed}
 pub use Rattle.pua_path.specs.Laws.{steps}
 pub use Rattle.pua_path.specs.Limits.{most_links}
 pub use Rattle.pua_path.specs.Paths.{is_absolute, part_of}
-pub use Rattle.pua_path.specs.Resolution.{follow, last}
+pub use Rattle.pua_path.specs.Resolution.{follow, last, rooted, RootedTree}
 pub use Rattle.pua_path.specs.declared.errno.Errno.{Errno}
 pub use Rattle.pua_path.specs.declared.found.Found.{Found}
 pub use Rattle.pua_path.specs.declared.found.Found.TheVariants.{Slot, Whole}
@@ -71,7 +71,7 @@ pub use Rattle.pua_audit.specs.Entries.{allowed_far, allowed_kept, allowed_near,
 pub use Rattle.pua_audit.specs.Graphs.{AreApart, HasJudgedVisits, IsKnown, IsRight, named_in, pair_in_letters, pair_in_numbers}
 pub use Rattle.pua_audit.specs.Graphs.{AnswersAsJudge}
 pub use Rattle.pua_audit.specs.Judge.{base_dir, Below, is_letter, Judge, judge_for, judge_of, JudgeState, reach_along, Start, state_of}
-pub use Rattle.pua_audit.specs.Judge.{WordEnd}
+pub use Rattle.pua_audit.specs.Judge.{seen_by, WordEnd}
 unfoldable pub use Rattle.pua_audit.specs.Judge.{allowed_at}
 pub use Rattle.pua_audit.specs.Laws.{IsAudited, Rises}
 pub use Rattle.pua_audit.specs.Live.{live_states, passed_states, same_stage, shorter, Stage, stage_after}

@@ -2,8 +2,9 @@
 use Rattle.pua_audit.proofs.Common.{true, ℕ, ◌≡◌, List, Option, Some, None, sym, ap, ◌∙◌, subst, IfOk, IfSome, IsTrue, Result, Ok, Err}
 use Rattle.pua_audit.proofs.Common.{Tree, WellFormed, above, is_dir, FoundsFit, StandsAsNamed, Errno, Found, Whole, Slot, follow, last}
 use Rattle.pua_audit.proofs.Common.{Kept, Part, Top, cover_in, ProcessState, perms_kept, CallTable, cover, is_allowed, Call, allowed_within}
-use Rattle.pua_audit.proofs.Common.{found_of, leads_to}
+use Rattle.pua_audit.proofs.Common.{found_of, leads_to, RootedTree, seen_by, Bool, false, not, ◌&&◌, ◌==◌, if◌then◌else◌, refl, eqb-true}
 use Rattle.pua_path.specs.Fits.{FoundFits}
+use Rattle.pua_path.specs.Resolution.{above_in}
 use Rattle.pua_path.specs.declared.found.Part.TheVariants as parts
 use Rattle.pua_path.specs.declared.found.Way.{Way}
 use Rattle.pua_path.specs.declared.found.Way.TheVariants.{DotDot, Named}
@@ -59,24 +60,43 @@ pub handed_above : (t : Tree) (h : ProcessState) → WellFormed t → (from : �
     cover_in t h from ≡ cover_in t h (above t from)
 handed_above t h fits from living none = (covers_descend t h fits).over from living ∙ ap (λ o. own_or o (cover_in t h (above t from))) none
 
--- which is what `..` names
+-- what leads on from two facts
+pub both_lead : {A : Type 0} {P Q R : A → Type 0} → ((x : A) → P x → Q x → R x) → (o : Option A) → IfSome o P → IfSome o Q → IfSome o R
+both_lead leads None is too = tt
+both_lead leads (Some x) is too = leads x is too
+
+-- which is what `..` names: at the root itself
+pub handed_over : (t : Tree) (h : ProcessState) (fits : WellFormed t) (found : Found) (fit : FoundFits t found) (from : ℕ) (left : Cover) →
+    left ≡ cover_in t h from → left ≡ cover_in t h (above t from) → found ≡ Whole (above_in (seen_by t h) from) DotDot →
+    left ≡ cover t h found
+handed_over t h fits found fit from left here over = by (not (root == 0)) (from == root) refl
+  where
+    root : ℕ
+    root = (seen_by t h).root
+
+    by : (apart same : Bool) → (from == root) ≡ same →
+        found ≡ Whole (if apart && same then root else above t from) DotDot → left ≡ cover t h found
+    by true true e is = here ∙ ap (cover_in t h) (eqb-true from root e) ∙ handed_self t h fits found fit root DotDot is
+    by true false e is = over ∙ handed_self t h fits found fit (above t from) DotDot is
+    by false same e is = over ∙ handed_self t h fits found fit (above t from) DotDot is
 
 found_or : Found → Result Found Errno → Found
 found_or other (Ok object) = object
 found_or other (Err errno) = other
 
-abbrev IsAbove : Tree → ℕ → Part → Found → Type 0
-IsAbove t from part object = part ≡ parts.DotDot → object ≡ Whole (above t from) DotDot
+abbrev IsAbove : RootedTree → ℕ → Part → Found → Type 0
+IsAbove t from part object = part ≡ parts.DotDot → object ≡ Whole (above_in t from) DotDot
 
-found_above : (t : Tree) (from : ℕ) (part : Part) (r : Result Found Errno) → (part ≡ parts.DotDot → r ≡ Ok (Whole (above t from) DotDot)) →
-    IfOk r (IsAbove t from part)
+found_above : (t : RootedTree) (from : ℕ) (part : Part) (r : Result Found Errno) →
+    (part ≡ parts.DotDot → r ≡ Ok (Whole (above_in t from) DotDot)) → IfOk r (IsAbove t from part)
 unfolding found_or
 found_above t from part (Ok object) is = λ dots. ap (found_or object) (is dots)
 found_above t from part (Err errno) is = tt
 
-pub named_above : (t : Tree) (from : ℕ) (part : Part) (r : Result Found Errno) → r ≡ found_of (follow t from part) →
+pub named_above : (t : RootedTree) (from : ℕ) (part : Part) (r : Result Found Errno) → r ≡ found_of (follow t from part) →
     IfOk r (IsAbove t from part)
 named_above t from part r is = found_above t from part r (λ dots. is ∙ ap (λ p. found_of (follow t from p)) dots)
 
-pub kept_above : (t : Tree) (from : ℕ) (part : Part) (r : Result Found Errno) → r ≡ last t from 0 part Kept → IfOk r (IsAbove t from part)
+pub kept_above : (t : RootedTree) (from : ℕ) (part : Part) (r : Result Found Errno) → r ≡ last t from 0 part Kept →
+    IfOk r (IsAbove t from part)
 kept_above t from part r is = found_above t from part r (λ dots. is ∙ ap (λ p. last t from 0 p Kept) dots)

@@ -1,10 +1,9 @@
 -- There are few live states: each is a living directory, a number of links followed, and a number of letters that may still come.
-use Rattle.pua_audit.proofs.Common.{ℕ, suc, ◌*◌, ◌-◌, ◌<◌, ◌≤◌, ◌≡◌, List, [], ◌∷◌, Option, Some, None, true, false}
+use Rattle.pua_audit.proofs.Common.{ℕ, suc, ◌*◌, ◌-◌, ◌<◌, ◌≤◌, ◌≡◌, List, [], ◌∷◌, Option, Some, None, true, false, AllByRecursion}
 use Rattle.pua_audit.proofs.Common.{◌&&◌, not, cond, refl, ap, arith, sym, subst, ◌∙◌, map, length, length-map, option_map, inl, inr, get_or}
 use Rattle.pua_audit.proofs.Common.{and_parts, false≢true, is_lt, nat_cmp-IsAntisymmetric, nat_cmp, nat_eq, ne_eqb, tied_itself, IsTrue, IsDistinct}
-use Rattle.pua_audit.proofs.Common.{AllByRecursion}
 use Rattle.pua_audit.proofs.Common.{result_ok, Tree, is_dir, ◌>>=◌, same_Some, steps, part_of, Errno, Part, is_ended, Scope}
-use Rattle.pua_audit.proofs.Common.{base_dir, IsAudited, Stage, passed_states, and-false}
+use Rattle.pua_audit.proofs.Common.{base_dir, IsAudited, Stage, passed_states, and-false, RootedTree, seen_by}
 use Rattle.std.proofs.Common.{Result, Ok, Err}
 use Rattle.std.proofs.lemmas.Bool.{cases_Bool}
 use Rattle.std.proofs.Math.Nat.{mul_assoc, mul_comm}
@@ -17,7 +16,7 @@ use Rattle.pua_tree.specs.Tree.{Node, is_dir_kind, node_at}
 use Rattle.pua_tree.proofs.ForCallers.{same_Ok}
 use Rattle.pua_path.specs.Laws.{ResolutionFits}
 use Rattle.pua_path.specs.Resolution.{step}
-use Rattle.pua_path.proofs.ForCallers.{resolutions_fit}
+use Rattle.pua_path.proofs.ForCallers.{resolutions_fit, seen_root_lives}
 use Rattle.pua_audit.specs.Laws.{LiveStatesFew}
 use Rattle.pua_audit.specs.Live.{IsLive}
 use Rattle.pua_audit.proofs.Cells.{all_staged, counted, IsCell, summed, summed-le}
@@ -62,14 +61,15 @@ place_found t d lives = by (node_at t d) refl lives
     by None e h = absurd cc
     by (Some n) e h = place_of d t.nodes (ap is_some e)
 
-steps_fit : (t : Tree) → ResolutionFits t → (parts : List Part) (at end : ℕ × ℕ) → IsTrue (is_dir t at.0) → at.1 ≤ 32 →
-    steps t parts at ≡ Ok end → IsTrue (is_dir t end.0) × (end.1 ≤ 32)
-steps_fit t fits [] at end lives few is = subst (λ (x : ℕ × ℕ). IsTrue (is_dir t x.0) × (x.1 ≤ 32)) (same_Ok at end is) (lives, few)
+steps_fit : (t : RootedTree) → ResolutionFits t → (parts : List Part) (at end : ℕ × ℕ) → IsTrue (is_dir t.tree at.0) → at.1 ≤ 32 →
+    steps t parts at ≡ Ok end → IsTrue (is_dir t.tree end.0) × (end.1 ≤ 32)
+steps_fit t fits [] at end lives few is = subst (λ (x : ℕ × ℕ). IsTrue (is_dir t.tree x.0) × (x.1 ≤ 32)) (same_Ok at end is) (lives, few)
 steps_fit t fits (part ∷ parts) at end lives few is = by (step t at.0 at.1 part) refl is (λ next. steps_fit t fits parts next end)
   where
     by : (r : Result (ℕ × ℕ) Errno) → step t at.0 at.1 part ≡ r → (r >>= steps t parts) ≡ Ok end
-        → ((next : ℕ × ℕ) → IsTrue (is_dir t next.0) → next.1 ≤ 32 → steps t parts next ≡ Ok end → IsTrue (is_dir t end.0) × (end.1 ≤ 32)) →
-        IsTrue (is_dir t end.0) × (end.1 ≤ 32)
+        → ((next : ℕ × ℕ) → IsTrue (is_dir t.tree next.0) → next.1 ≤ 32 → steps t parts next ≡ Ok end →
+        IsTrue (is_dir t.tree end.0) × (end.1 ≤ 32)) →
+        IsTrue (is_dir t.tree end.0) × (end.1 ≤ 32)
     by (Ok next) there is more = more next (fits.step at.0 at.1 part next lives there) (fits.used at.0 at.1 part next there) is
     by (Err errno) there is more = absurd cc
 
@@ -77,13 +77,15 @@ abbrev IsAmong : Scope → Stage → Type 0
 IsAmong s y = IsTrue (is_dir s.tree y.dir) × ((y.links < 33) × (y.left < suc s.limit))
 
 live_fits : (s : Scope) → IsAudited s → IsTrue (is_dir s.tree (base_dir s.base s.process)) → (y : Stage) → IsLive s y → IsAmong s y
-live_fits s is lives y (pair, word, there, front, leads) = by (steps s.tree (map part_of word) (base_dir s.base s.process, 0)) refl leads
+live_fits s is lives y (pair, word, there, front, leads) =
+    by (steps (seen_by s.tree s.process) (map part_of word) (base_dir s.base s.process, 0)) refl leads
   where
-    by : (r : Result (ℕ × ℕ) Errno) → steps s.tree (map part_of word) (base_dir s.base s.process, 0) ≡ r
+    by : (r : Result (ℕ × ℕ) Errno) → steps (seen_by s.tree s.process) (map part_of word) (base_dir s.base s.process, 0) ≡ r
         → option_map (λ (at : ℕ × ℕ). record { dir = at.0; links = at.1; left = s.limit - length word }) (result_ok r) ≡ Some y →
         IsAmong s y
     by (Ok at) stands e =
-        let fit = steps_fit s.tree (resolutions_fit s.tree is.tree) (map part_of word) (
+        let fit = steps_fit (seen_by s.tree s.process)
+        (resolutions_fit (seen_by s.tree s.process) is.tree (seen_root_lives s.tree s.process.start is.tree)) (map part_of word) (
           base_dir s.base s.process,
           0,
         ) at lives (omega arith) stands in

@@ -3,9 +3,8 @@ use Rattle.pua_audit.proofs.Common.{ℕ, ◌+◌, ◌≡◌, List, Option, None,
 use Rattle.pua_audit.proofs.Common.{inr, cases_lt, le-leb, lt-leb, Tree, most_links, part_of, follow, last, Errno, Last, Followed, Kept}
 use Rattle.pua_audit.proofs.Common.{Found, Whole, Slot, CallTable, last_of, rule_of, ProcessState, may_any, verdict_of, is_allowed, Call, Judge}
 use Rattle.pua_audit.proofs.Common.{WordEnd, Below, judge_of, state_of, Base, JudgeState, links_of, found_of, leads_to, allowed_kept}
-use Rattle.pua_audit.proofs.Common.{allowed_near, allowed_far}
-use Rattle.std.proofs.Common.{Result, Ok}
-use Rattle.std.proofs.Common.{Err}
+use Rattle.pua_audit.proofs.Common.{allowed_near, allowed_far, seen_by}
+use Rattle.std.proofs.Common.{Result, Ok, Err}
 use Rattle.pua_path.specs.Laws.{IsToldBy, dir_entered}
 use Rattle.pua_path.specs.declared.errno.Errno.TheVariants.{ELOOP}
 use Rattle.pua_path.proofs.ForCallers.{follow_decides, kept_follows_none}
@@ -34,15 +33,15 @@ module _ (t : Tree) (table : CallTable) (base : Base) (h : ProcessState) (dir : 
   fails : (call : Call) (errno : Errno) → is_allowed (verdict_of t table h call (Err errno)) ≡ false
   fails call errno = refused (may_any h (rule_of table call).alternatives) errno
 
-  by_kept : (call : Call) → is_allowed (verdict_of t table h call (last t dir used (part_of letter) Kept)) ≡ allowed_kept t table h dir
-      letter call
-  by_kept call = ap (λ r. is_allowed (verdict_of t table h call r)) (kept_follows_none t dir used (part_of letter))
+  by_kept : (call : Call) →
+      is_allowed (verdict_of t table h call (last (seen_by t h) dir used (part_of letter) Kept)) ≡ allowed_kept t table h dir letter call
+  by_kept call = ap (λ r. is_allowed (verdict_of t table h call r)) (kept_follows_none (seen_by t h) dir used (part_of letter))
 
   -- by whether the call keeps a final link
   own_by : (call : Call) (mode : Last) (b : Bool) (r : Answer)
-      → is_allowed (verdict_of t table h call (last t dir used (part_of letter) Followed))
+      → is_allowed (verdict_of t table h call (last (seen_by t h) dir used (part_of letter) Followed))
       ≡ cond b (is_allowed (verdict_of t table h call (found_of r))) false
-      → is_allowed (verdict_of t table h call (last t dir used (part_of letter) mode))
+      → is_allowed (verdict_of t table h call (last (seen_by t h) dir used (part_of letter) mode))
       ≡ cond b (elim mode [
         | Followed ↦ is_allowed (verdict_of t table h call (found_of r))
         | Kept ↦ allowed_kept t table h dir letter call
@@ -52,7 +51,7 @@ module _ (t : Tree) (table : CallTable) (base : Base) (h : ProcessState) (dir : 
   own_by call Kept true r e = by_kept call
   own_by call Kept false r e = by_kept call
 
-  owns : (r : Answer) → IsToldBy t dir used (part_of letter) r → (call : Call) →
+  owns : (r : Answer) → IsToldBy (seen_by t h) dir used (part_of letter) r → (call : Call) →
       w.own x call ≡ cond (nat_le (used + links_of r) most_links) (allowed_near t table h dir letter r call)
       (allowed_far t table h dir letter call)
   owns (Ok (found, count)) is call =
@@ -74,7 +73,7 @@ module _ (t : Tree) (table : CallTable) (base : Base) (h : ProcessState) (dir : 
   enters (Whole d way) count = refl
   enters (Slot d name _) count = refl
 
-  steps : (r : Answer) → IsToldBy t dir used (part_of letter) r →
+  steps : (r : Answer) → IsToldBy (seen_by t h) dir used (part_of letter) r →
       w.step x ≡ cond (nat_le (used + links_of r) most_links) (option_map (λ d. record { dir = d; used = used + links_of r })
       (leads_to (found_of r))) None
   steps (Ok (found, count)) is = elim (cases_lt most_links (used + count)) [
@@ -90,8 +89,8 @@ module _ (t : Tree) (table : CallTable) (base : Base) (h : ProcessState) (dir : 
 
 pub entries_stand : EntriesStand
 entries_stand t table base h dir letter used low =
-    let is = follow_decides t dir used (part_of letter) low in
+    let is = follow_decides (seen_by t h) dir used (part_of letter) low in
     record {
-      own = owns t table base h dir letter used (follow t dir (part_of letter)) is;
-      step = steps t table base h dir letter used (follow t dir (part_of letter)) is;
+      own = owns t table base h dir letter used (follow (seen_by t h) dir (part_of letter)) is;
+      step = steps t table base h dir letter used (follow (seen_by t h) dir (part_of letter)) is;
     }

@@ -1,8 +1,9 @@
 -- How many states are live, by the reach and by a graph of steps.
 use Rattle.pua_audit.proofs.Common.{ℕ, ◌-◌, ◌≡◌, List, [], ◌∷◌, Option, None, refl, ap, sym, ◌∙◌, map, length, option_map, flat_map}
-use Rattle.pua_audit.proofs.Common.{filter_map, IsTrue, result_ok, Tree, is_dir, ◌>>=◌, part_of, steps, Errno, Word, Pair, Scope}
+use Rattle.pua_audit.proofs.Common.{filter_map, IsTrue, result_ok, is_dir, ◌>>=◌, part_of, steps, Errno, Word, Pair, Scope}
 use Rattle.pua_audit.proofs.Common.{Start, Below, base_dir, judge_for, reach_along, state_of, IsAudited, Stage, shorter, stage_after}
 use Rattle.pua_audit.proofs.Common.{live_states, passed_states, same_stage, unique_keys, IsKnown, AnswersAsJudge, AreApart, live_count, State, Visit}
+use Rattle.pua_audit.proofs.Common.{RootedTree, seen_by}
 use Rattle.std.proofs.Common.{Result, Ok, Err, arith}
 use Rattle.pua_path.specs.Resolution.{step}
 use Rattle.pua_steps.specs.Reached.{is_live}
@@ -20,8 +21,8 @@ then_ok (Ok at) = refl
 then_ok (Err errno) = refl
 
 module _ (s : Scope) where
-  abbrev t : Tree
-  t = s.tree
+  abbrev t : RootedTree
+  t = seen_by s.tree s.process
 
   -- where a word leads, by the steps along its parts
   leads_by_steps : (at : named.JudgeState) (a : List ℕ) (word : Word) →

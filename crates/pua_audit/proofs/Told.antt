@@ -3,6 +3,7 @@ use Rattle.pua_audit.proofs.Common.{ℕ, zero, suc, ◌+◌, ◌<◌, ◌^◌, �
 use Rattle.pua_audit.proofs.Common.{ap, arith, sym, ◌∙◌, Result, Ok, Err, Tree, most_links, part_of, follow, last, Errno, Found, Last}
 use Rattle.pua_audit.proofs.Common.{Followed, Kept, Part, CallTable, bit_of, has, keeps_link, ProcessState, Call, Stat, judge_of}
 use Rattle.pua_audit.proofs.Common.{call_count, calls, get_or, links_of, found_of, leads_to, allowed_near, allowed_far, IsLetter, Base}
+use Rattle.pua_audit.proofs.Common.{seen_by, RootedTree}
 use Rattle.std.specs.Int.{bit_at}
 use Rattle.std.specs.Prelude.{is_ok}
 use Rattle.std.proofs.lemmas.Nat.Bits.{bit_at-lt, bit_at-zero, same_from_bits_below}
@@ -13,24 +14,24 @@ use Rattle.pua_calls.proofs.ForCallers.{bit_of_call_at, has_none}
 
 -- a letter that is followed once, by the sets of its calls
 pub letter_told : (t : Tree) (table : CallTable) (base : Base) (h : ProcessState) (dir : ℕ) (letter : List ℕ) (all kept : ℕ)
-    → ((call : Call) → has all call ≡ allowed_near t table h dir letter (follow t dir (part_of letter)) call) →
+    → ((call : Call) → has all call ≡ allowed_near t table h dir letter (follow (seen_by t h) dir (part_of letter)) call) →
     ((call : Call) → has kept call ≡ allowed_far t table h dir letter call)
-    → IsLetter (judge_of t table base h) dir letter all kept (links_of (follow t dir (part_of letter)))
-    (leads_to (found_of (follow t dir (part_of letter))))
+    → IsLetter (judge_of t table base h) dir letter all kept (links_of (follow (seen_by t h) dir (part_of letter)))
+    (leads_to (found_of (follow (seen_by t h) dir (part_of letter))))
 letter_told t table base h dir letter all kept near far = record {
   own = λ used call low. (entries_stand t table base h dir letter used low).own call ∙
-      by call (nat_le (used + links_of (follow t dir (part_of letter))) most_links);
+      by call (nat_le (used + links_of (follow (seen_by t h) dir (part_of letter))) most_links);
   step = λ used low. (entries_stand t table base h dir letter used low).step;
 }
   where
     by : (call : Call) (b : Bool) →
-        cond b (allowed_near t table h dir letter (follow t dir (part_of letter)) call) (allowed_far t table h dir letter call)
+        cond b (allowed_near t table h dir letter (follow (seen_by t h) dir (part_of letter)) call) (allowed_far t table h dir letter call)
         ≡ has (cond b all kept) call
     by call true = sym (near call)
     by call false = sym (far call)
 
 -- what is found without a link is what is found where a final link is kept
-pub kept_unlinked : (t : Tree) (dir : ℕ) (part : Part) (r : Result (Found × ℕ) Errno) → follow t dir part ≡ r → links_of r ≡ 0 →
+pub kept_unlinked : (t : RootedTree) (dir : ℕ) (part : Part) (r : Result (Found × ℕ) Errno) → follow t dir part ≡ r → links_of r ≡ 0 →
     is_ok (found_of r) ≡ true → last t dir 0 part Kept ≡ found_of r
 kept_unlinked t dir part (Ok found) same none ok = unlinked_alike t dir part found.0 (same ∙ ap (λ n. Ok (found.0, n)) none)
 kept_unlinked t dir part (Err errno) same none ok = absurd cc

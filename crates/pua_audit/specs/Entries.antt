@@ -14,7 +14,7 @@ use Rattle.pua_calls.specs.CallSets.{has}
 use Rattle.pua_policy.specs.States.{ProcessState}
 use Rattle.pua_policy.specs.Verdict.{Object, IsMissing, IsFile, IsProg, cover, covered_verdict, verdict_of, is_allowed}
 use Rattle.pua_calls.specs.declared.call.Call.{Call}
-use Rattle.pua_audit.specs.Judge.{Below, judge_of}
+use Rattle.pua_audit.specs.Judge.{Below, judge_of, seen_by}
 use Rattle.pua_audit.specs.Spots.{AreUnveiled}
 use Rattle.pua_audit.specs.declared.base.Base.{Base}
 use Rattle.pua_audit.specs.declared.table.within.Within.{Within}
@@ -35,7 +35,7 @@ leads_to (Err errno) = None
 
 -- whether a call that keeps a final link is allowed
 abbrev pub allowed_kept : Tree → CallTable → ProcessState → ℕ → List ℕ → Call → Bool
-allowed_kept t table h dir letter call = is_allowed (verdict_of t table h call (last t dir 0 (part_of letter) Kept))
+allowed_kept t table h dir letter call = is_allowed (verdict_of t table h call (last (seen_by t h) dir 0 (part_of letter) Kept))
 
 -- whether a call is allowed where the letter's links may be followed, and where they may not
 abbrev pub allowed_near : Tree → CallTable → ProcessState → ℕ → List ℕ → Result (Found × ℕ) Errno → Call → Bool
@@ -69,4 +69,4 @@ pub record IsEntryAt (t : Tree) (table : CallTable) (base : Base) (h : ProcessSt
 -- a letter that is followed once tells it after any number of links
 abbrev pub EntriesStand : Type 0
 EntriesStand = (t : Tree) (table : CallTable) (base : Base) (h : ProcessState) (dir : ℕ) (letter : List ℕ) (used : ℕ) → used ≤ most_links →
-    IsEntryAt t table base h dir letter (follow t dir (part_of letter)) used
+    IsEntryAt t table base h dir letter (follow (seen_by t h) dir (part_of letter)) used

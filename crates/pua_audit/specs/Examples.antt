@@ -7,7 +7,7 @@ use Rattle.pua_calls.specs.Promises.{cpath, dpath, fattr, unix, reading, writing
 use Rattle.pua_calls.specs.Calls.{CallTable, standard_table, openbsd_table, call_name}
 use Rattle.pua_calls.specs.TableTexts.{with_rule}
 use Rattle.pua_calls.specs.declared.call.Call.TheVariants.{Stat}
-use Rattle.pua_policy.specs.States.{ProcessState, state_after, Pledged, Unveiled, Locked, Moved, Ended, new_process}
+use Rattle.pua_policy.specs.States.{ProcessState, state_after, Pledged, Unveiled, Locked, Moved, ToDir, ToRoot, Ended, new_process}
 use Rattle.pua_audit.specs.Reach.{Pair, printed_path}
 use Rattle.pua_audit.specs.Begin.{Beginning, beginning, still_to_come}
 use Rattle.pua_audit.specs.Live.{live_states}
@@ -97,8 +97,8 @@ pub record ReachRows : Type 0 where
       ∷ codes "/\\040 symlink" ∷ codes "/A mkdir" ∷ codes "/A symlink" ∷ []
   pub one_file : lines_from_root example_tree one_veil [] 2 None ≡ codes "/etc/passwd stat" ∷ codes "/etc/passwd lstat"
       ∷ codes "/etc/passwd open-r" ∷ []
-  pub from_working_directory : lines_from Cwd example_tree (state_after (Moved 1) one_veil) [] 1 None ≡ codes "passwd stat" ∷ codes "passwd lstat"
-      ∷ codes "passwd open-r" ∷ []
+  pub from_working_directory : lines_from Cwd example_tree (state_after (Moved (ToDir 1)) one_veil) [] 1 None ≡ codes "passwd stat"
+      ∷ codes "passwd lstat" ∷ codes "passwd open-r" ∷ []
   pub ended_process : lines_from Root empty_tree (state_after Ended new_process) [] 1 None ≡ []
   pub bad_candidate : beginning empty_tree standard_table new_process Root (codes "a" ∷ codes "a/b" ∷ []) 1 None ≡ Err (BadCandidate 2)
   pub resume_beyond_limit : beginning empty_tree standard_table new_process Root (codes "a" ∷ []) 1 (Some (codes "stat:/a/a"))
@@ -137,6 +137,16 @@ pub record ReachRows : Type 0 where
   pub live_in_root : live_from_root empty_tree one_promise (codes "a" ∷ []) 2 ≡ 2
   pub live_over_file : live_from_root example_tree one_veil [] 2 ≡ 2
 
+-- reaches of a process whose root is a directory of the tree
+pub record RootRows : Type 0 where
+  -- paths are spelled by its root, which is above itself
+  pub from_root : lines_from_root example_tree (state_after (Moved (ToRoot 1)) one_veil) [] 2 None ≡ codes "/../passwd stat"
+      ∷ codes "/../passwd lstat" ∷ codes "/../passwd open-r" ∷ codes "/passwd stat" ∷ codes "/passwd lstat" ∷ codes "/passwd open-r" ∷ []
+  -- a directory outside of it leads in
+  pub from_outside : lines_from Cwd example_tree (state_after (Moved (ToRoot 1)) one_veil) [] 2 None ≡ codes "etc/passwd stat"
+      ∷ codes "etc/passwd lstat" ∷ codes "etc/passwd open-r" ∷ []
+  pub removed : lines_from_root example_tree (state_after (Moved (ToRoot 9)) new_process) [] 1 None ≡ []
+
 pub reach_rows : ReachRows
 reach_rows = record {
   root = refl;
@@ -166,3 +176,6 @@ reach_rows = record {
   live_in_root = refl;
   live_over_file = refl;
 }
+
+pub root_rows : RootRows
+root_rows = record { from_root = refl; from_outside = refl; removed = refl }

@@ -3,14 +3,14 @@ use Rattle.std.specs.Prelude.{ℕ, Bool, false, not, ◌&&◌, ◌||◌, List, [
 use Rattle.pua_tree.specs.Tree.{Tree, is_dir}
 use Rattle.pua_tree.specs.Names.{is_name, same_bytes}
 use Rattle.pua_path.specs.Paths.{part_of}
-use Rattle.pua_path.specs.Resolution.{step, last}
+use Rattle.pua_path.specs.Resolution.{step, last, RootedTree, seen_from}
 use Rattle.pua_path.specs.declared.errno.Errno.{Errno}
 use Rattle.pua_path.specs.declared.found.Way.{Way}
 use Rattle.pua_path.specs.declared.found.Way.TheVariants.{Dot, Top}
 use Rattle.pua_path.specs.declared.found.Found.{Found}
 use Rattle.pua_path.specs.declared.found.Found.TheVariants.{Whole}
 use Rattle.pua_calls.specs.Calls.{CallTable, calls, last_of}
-use Rattle.pua_policy.specs.States.{ProcessState, working_dir, is_ended}
+use Rattle.pua_policy.specs.States.{ProcessState, root_dir, working_dir, is_ended}
 use Rattle.pua_policy.specs.Verdict.{verdict_of, is_allowed}
 use Rattle.pua_calls.specs.declared.call.Call.{Call}
 use Rattle.pua_audit.specs.Reach.{Word, Pair, Scope, pairs}
@@ -36,9 +36,13 @@ pub record Judge : Type 0 where
 unfoldable pub allowed_at : Judge → WordEnd → List Call
 allowed_at w x = filter (w.own x) calls
 
+-- the tree as the paths of a process see it
+abbrev pub seen_by : Tree → ProcessState → RootedTree
+seen_by t h = seen_from t h.start
+
 -- the directory in which the first letter stands
 abbrev pub base_dir : Base → ProcessState → ℕ
-base_dir Root h = 0
+base_dir Root h = root_dir h
 base_dir Cwd h = working_dir h
 
 -- how the base itself is named
@@ -49,7 +53,7 @@ base_way Cwd = Dot
 -- what the path of a word names, by its last letter
 abbrev pub found_at_end : Tree → Base → ProcessState → WordEnd → Call → Result Found Errno
 found_at_end t base h Start call = Ok (Whole (base_dir base h) (base_way base))
-found_at_end t base h (Below s letter) call = last t s.dir s.used (part_of letter) (last_of call)
+found_at_end t base h (Below s letter) call = last (seen_by t h) s.dir s.used (part_of letter) (last_of call)
 
 abbrev pub state_of : Result (ℕ × ℕ) Errno → Option JudgeState
 state_of (Ok at) = Some (record { dir = at.0; used = at.1 })
@@ -57,7 +61,7 @@ state_of (Err errno) = None
 
 abbrev pub state_behind : Tree → Base → ProcessState → WordEnd → Option JudgeState
 state_behind t base h Start = Some (record { dir = base_dir base h; used = 0 })
-state_behind t base h (Below s letter) = state_of (step t s.dir s.used (part_of letter))
+state_behind t base h (Below s letter) = state_of (step (seen_by t h) s.dir s.used (part_of letter))
 
 abbrev pub judge_of : Tree → CallTable → Base → ProcessState → Judge
 judge_of t table base h = record {

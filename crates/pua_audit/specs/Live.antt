@@ -6,7 +6,7 @@ use Rattle.std.specs.Set.{unique_keys}
 use Rattle.pua_path.specs.Paths.{part_of}
 use Rattle.pua_path.specs.Laws.{steps}
 use Rattle.pua_audit.specs.Reach.{Word, Pair, Scope, reach}
-use Rattle.pua_audit.specs.Judge.{base_dir}
+use Rattle.pua_audit.specs.Judge.{base_dir, seen_by}
 
 -- a directory, the links followed on the way to it, and how many letters may still come
 pub record Stage : Type 0 where
@@ -18,7 +18,7 @@ pub record Stage : Type 0 where
 abbrev pub stage_after : Scope → Word → Option Stage
 stage_after s word =
     option_map (λ (at : ℕ × ℕ). record { dir = at.0; links = at.1; left = s.limit - length word })
-    (result_ok (steps s.tree (map part_of word) (base_dir s.base s.process, 0)))
+    (result_ok (steps (seen_by s.tree s.process) (map part_of word) (base_dir s.base s.process, 0)))
 
 -- the words that a word properly extends
 abbrev pub shorter : Word → List Word

@@ -107,7 +107,7 @@ impl Audit {
         let Checked { letters, after } = beginning::check(
             alloc, &*probe, &rows, table, base, candidates, limit, after,
         )?;
-        let terms = Terms::new(alloc, &*probe, process, table, base, limit, letters)?;
+        let terms = Terms::new(alloc, probe, process, table, base, limit, letters)?;
         let pairs = Pairs::begin(alloc, probe, &rows, terms, after)?;
         Ok(Audit { pairs })
     }

@@ -10,7 +10,7 @@ ghost use Rattle.pua_audit.specs.Table.{TablesStand};
 ghost use Rattle.pua_audit.specs.PairTexts.{ResumeTextsName};
 ghost use Rattle.pua_audit.specs.Renumbering.{ReachNeedsRows};
 ghost use Rattle.pua_audit.specs.SubLists.{FewerReachLess};
-ghost use Rattle.pua_audit.specs.Examples.{ReachRows};
+ghost use Rattle.pua_audit.specs.Examples.{ReachRows, RootRows};
 
 use crate::limits::{MOST_CANDIDATES, MOST_LETTERS};
 
@@ -20,9 +20,10 @@ pub fn limits_law()
     ensures candidates { MOST_CANDIDATES ≡ most_candidates }
 {}
 
-/// Examples of small reaches.
+/// Examples of small reaches, and of those of a process that has a root of its own.
 pub fn reach_examples()
-    ensures { ReachRows }
+    ensures reaches { ReachRows }
+    ensures roots { RootRows }
 {}
 
 /// The reach has each pair once, in order.

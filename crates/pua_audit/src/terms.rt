@@ -1,13 +1,14 @@
 //! What was asked of an audit.
 
-ghost use Rattle.std.specs.Prelude.{◌≡◌, ◌≤◌, ◌+◌, ◌*◌, suc, IfOk, IsTrue};
+ghost use Rattle.std.specs.Prelude.{◌≡◌, ◌≤◌, ◌+◌, ◌*◌, suc, IfOk, IsTrue, if◌then◌else◌};
 ghost use Rattle.std.specs.List.{list_all};
 ghost use Rattle.pua_tree.specs.Tree.{WellFormed, name_cmp};
 ghost use Rattle.std.proofs.Props.{props};
+ghost use Rattle.pua_path.specs.Resolution.{has_root};
 ghost use Rattle.pua_policy.specs.AllowedCalls.{AreWorkedOut};
 ghost use Rattle.pua_audit.specs.Limits.{most_letters, most_path};
 ghost use Rattle.pua_audit.specs.Begin.{longest};
-ghost use Rattle.pua_audit.specs.Judge.{base_dir, base_way, is_letter, is_open};
+ghost use Rattle.pua_audit.specs.Judge.{base_dir, base_way, is_letter, is_open, seen_by};
 ghost use Rattle.pua_audit.specs.Laws.{Rises, Rises-prop};
 
 use crate::alphabet::{Alphabet, longest};
@@ -27,11 +28,14 @@ pub(crate) struct Terms {
     pub(crate) process: Process,
     pub(crate) table: CallTable,
     pub(crate) base: Base,
+    /// The root by which words go on: that of the process, unless it was removed.
+    pub(crate) root: NodeId,
     pub(crate) limit: usize,
     pub(crate) letters: Alphabet,
     /// What the process is allowed by the table.
     pub(crate) allowed: AllowedCalls,
     pub(crate) ghost tree: { WellFormed seen.tree },
+    pub(crate) ghost by_root: { root ≡ (seen_by seen.tree process).root },
     pub(crate) ghost few: { limit ≤ most_letters },
     pub(crate) ghost known: { IsTrue (list_all is_letter letters) },
     pub(crate) ghost rises: { Rises name_cmp letters } by { Rises-prop name_cmp letters },
@@ -48,7 +52,7 @@ impl Terms {
     /// process was refused.
     pub(crate) fn new<'t, P: Probe<'t>>(
         alloc: Global,
-        probe: &P,
+        probe: &mut P,
         process: &Process,
         table: &CallTable,
         base: Base,
@@ -57,20 +61,24 @@ impl Terms {
     ) -> Result<Terms, OutOfMemory>
         requires few { limit ≤ most_letters }
         requires short { limit * suc (longest letters) ≤ most_path }
-        ensures scope { IfOk result (λ terms. scope_in terms ≡ scope_with (P.tree probe.now)
+        ensures scope { IfOk result (λ terms. scope_in terms ≡ scope_with (P.tree probe.old)
             table.now process.now base limit letters) }
+        ensures tree { P.tree probe.new ≡ P.tree probe.old }
+        ensures cost { P.count probe.new ≤ P.count probe.old + 1 }
         ensures limit { IfOk result (λ terms. terms.limit ≡ limit) }
         ensures letters { IfOk result (λ terms. terms.letters ≡ letters) }
     {
         probe.known();
         letters.known();
+        let root = root_seen(probe, process.start().root);
         let process = process.fork(alloc)?;
         let allowed = AllowedCalls::new(&process, table);
         Ok(Terms {
-            seen: Content::of(probe),
+            seen: Content::of(&*probe),
             process,
             table: *table,
             base,
+            root,
             limit: usize::from(limit),
             letters,
             allowed,
@@ -103,8 +111,8 @@ impl Terms {
         ensures { result ≡ base_dir self.now.base self.now.process }
     {
         match self.base {
-            Base::Root => NodeId::ROOT,
-            Base::Cwd => self.process.dir(),
+            Base::Root => self.process.start().root,
+            Base::Cwd => self.process.start().dir,
         }
     }
 
@@ -117,4 +125,17 @@ impl Terms {
             Base::Cwd => Way::Dot,
         }
     }
+}
+
+/// A root, and node 0 where it was removed.
+fn root_seen<'t, P: Probe<'t>>(probe: &mut P, root: NodeId) -> NodeId
+    ensures root { result ≡ (if has_root (P.tree probe.old) root then root else 0) }
+    ensures tree { P.tree probe.new ≡ P.tree probe.old }
+    ensures cost { P.count probe.new ≤ P.count probe.old + 1 }
+{
+    probe.known();
+    if root == NodeId::ROOT || matches!(probe.kind(root), Some(Kind::Dir)) {
+        return root;
+    }
+    NodeId::ROOT
 }

@@ -47,6 +47,9 @@ exec = 2 ^ 9
 abbrev pub fattr : ℕ
 fattr = 2 ^ 10
 
+abbrev pub id : ℕ
+id = 2 ^ 13
+
 abbrev pub proc : ℕ
 proc = 2 ^ 17
 

@@ -14,9 +14,9 @@ use crate::table::MOST_ALTERNATIVES;
 
 /// The constants of `Promises` that are one promise, in the order of their keywords: each is what
 /// its keyword names.
-pub fn promise_constants() -> [Promises; 14]
+pub fn promise_constants() -> [Promises; 15]
     ensures { map Ok result ≡ map promises_of (codes "chown" ∷ codes "cpath" ∷ codes "dpath"
-        ∷ codes "error" ∷ codes "exec" ∷ codes "fattr" ∷ codes "proc" ∷ codes "recvfd"
+        ∷ codes "error" ∷ codes "exec" ∷ codes "fattr" ∷ codes "id" ∷ codes "proc" ∷ codes "recvfd"
         ∷ codes "rpath" ∷ codes "sendfd" ∷ codes "tmppath" ∷ codes "unix" ∷ codes "unveil" ∷ codes "wpath" ∷ []) }
 {
     [
@@ -26,6 +26,7 @@ pub fn promise_constants() -> [Promises; 14]
         Promises::ERROR,
         Promises::EXEC,
         Promises::FATTR,
+        Promises::ID,
         Promises::PROC,
         Promises::RECVFD,
         Promises::RPATH,

@@ -50,6 +50,8 @@ impl Keywords {
 
     pub(crate) const FATTR: Keywords = Keywords(1 << 10);
 
+    pub(crate) const ID: Keywords = Keywords(1 << 13);
+
     pub(crate) const PROC: Keywords = Keywords(1 << 17);
 
     pub(crate) const RECVFD: Keywords = Keywords(1 << 20);
@@ -139,7 +141,7 @@ static KEYWORDS: [Flag<Keywords>; Promises::KEYWORDS] = [
     },
     Flag {
         name: "id",
-        value: Keywords(1 << 13),
+        value: Keywords::ID,
     },
     Flag {
         name: "inet",
@@ -292,6 +294,11 @@ impl Promises {
     /// To change the modes of files.
     pub const FATTR: Promises = Promises {
         keywords: Keywords::FATTR,
+    };
+
+    /// To change identities, and the root.
+    pub const ID: Promises = Promises {
+        keywords: Keywords::ID,
     };
 
     /// To make processes.

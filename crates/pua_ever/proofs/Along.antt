@@ -26,7 +26,7 @@ use Rattle.pua_ever.proofs.RequestKeepsRows.{stays_then}
 -- what has grown by a tightened process has grown by the one that it tightens
 module _ (table : CallTable) (sound : NoCallNeedsError table) (now a : ProcessState) (within : IsWithin now a) (t : Tree) (well : WellFormed t)
   where
-    same : (object : Found) → cover t a object ≡ cover t now object
+    pub same : (object : Found) → cover t a object ≡ cover t now object
     same object = same_cover a now within.tightens.unveils t object
 
     same_in : (d : ℕ) → is_dir t d ≡ true → cover_in t a d ≡ cover_in t now d
@@ -51,7 +51,7 @@ module _ (table : CallTable) (sound : NoCallNeedsError table) (now a : ProcessSt
         by_turn y at empty (ap has_c (sym (same_in y (and_parts (is_dir t y) (has_no_row t y) empty).0)) ∙ has) is
 
     -- who may link by what is left may by all that was held
-    link_within : may_link table a ≡ true → may_link table now ≡ true
+    pub link_within : may_link table a ≡ true → may_link table now ≡ true
     link_within e =
         let two = and_parts (is_yes (may_any a table.link.old.needs.alternatives)) _ e in
         and_from (is_yes (may_any now table.link.old.needs.alternatives)) _
@@ -59,7 +59,7 @@ module _ (table : CallTable) (sound : NoCallNeedsError table) (now a : ProcessSt
         (yes_before table sound now a within table.link.new.needs.alternatives sound.link.1 two.1)
 
     -- and so it is of who may rename
-    move_within : (left : Cover) → can_move table a left ≡ true → can_move table now left ≡ true
+    pub move_within : (left : Cover) → can_move table a left ≡ true → can_move table now left ≡ true
     move_within left can =
         let parts = and_parts (may_rename table a) _ can in
         let two = and_parts (is_yes (may_any a table.rename.old.needs.alternatives)) _ parts.0 in

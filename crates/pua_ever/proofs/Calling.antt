@@ -5,7 +5,7 @@ use Rattle.pua_ever.proofs.Common.{among_filter}
 use Rattle.pua_path.specs.Fits.{spot_named, node_named}
 use Rattle.pua_calls.specs.Calls.{calls}
 use Rattle.pua_calls.specs.declared.call.Call.TheVariants as call
-use Rattle.pua_policy.specs.States.{Moved}
+use Rattle.pua_policy.specs.States.{Moved, ToDir}
 use Rattle.pua_script.specs.Confinement.{changes_names}
 use Rattle.pua_script.specs.Decide.{NoChange, AddNode, CutRow, BeginProgram, AddEvent, plain_node, made_by}
 use Rattle.pua_script.proofs.ForCallers.{by_making, by_cutting, adding_changes}
@@ -17,7 +17,7 @@ among_edits c changes = among_filter changes_names calls c changes (one_of_calls
 
 pub by_calling : (table : CallTable) (P : Change → Type 0) → P NoChange → (c : Call) →
     (Among edit_calls c → (s : Spot) (node : Node) → P (AddNode s node)) → (Among edit_calls c → (s : Spot) → P (CutRow s)) →
-    ((dir : ℕ) → P (AddEvent (Moved dir))) → (c ≡ call.Exec → P (BeginProgram (execpromises_by table.whose))) → (x : Found) →
+    ((dir : ℕ) → P (AddEvent (Moved (ToDir dir)))) → (c ≡ call.Exec → P (BeginProgram (execpromises_by table.whose))) → (x : Found) →
     P (change_by table c x)
 by_calling table P stays call.Rmdir adds cuts goes starts x =
     by_cutting P stays (spot_named x) (node_named x) (λ s is. cuts (among_edits call.Rmdir refl) s)

@@ -30,7 +30,7 @@ pub use Rattle.pua_path.specs.declared.found.Last.TheVariants.{Followed}
 pub use Rattle.pua_path.specs.declared.found.Way.{Way}
 pub use Rattle.pua_path.specs.declared.found.Way.TheVariants.{Dot, DotDot, Named, Top}
 pub use Rattle.pua_policy.proofs.ForCallers.{same_place_is}
-pub use Rattle.pua_policy.specs.States.{has_veil, ProcessState, may_any, perms_kept, same_place, SameVeils, state_after, veils, working_dir}
+pub use Rattle.pua_policy.specs.States.{has_veil, ProcessState, may_any, perms_kept, same_place, SameVeils, start, state_after, veils}
 pub use Rattle.pua_policy.specs.Misfits.{misfit_errno}
 pub use Rattle.pua_policy.specs.Objects.{object_seen}
 pub use Rattle.pua_policy.specs.Verdict.{allowed_unless, cover, cover_fault, covered_verdict, FoundFits, if_promised, is_allowed}

@@ -16,7 +16,7 @@ use Rattle.pua_policy.specs.Verdict.{object_named, verdict_on}
 use Rattle.pua_script.specs.OpeningLaws.{Accounted, by_verdict, by_opening}
 use Rattle.pua_script.specs.Tightening.{Tightens}
 use Rattle.pua_script.proofs.ForCallers.{okays_are_accounted, openings_are_held, openings_narrow, tmp_table_allows}
-use Rattle.pua_ever.proofs.Common.{Call, same_Some, subst, working_dir}
+use Rattle.pua_ever.proofs.Common.{Call, same_Some, subst, start}
 use Rattle.pua_ever.proofs.Common.{◌∙◌, sym, cover, cover_fault, Found, is_yes, may_any, May, named_within_text, object_fault, resolutions_fit}
 use Rattle.pua_ever.proofs.Common.{rule_of, Slot}
 use Rattle.pua_calls.specs.declared.call.Call.TheVariants as call
@@ -29,6 +29,7 @@ use Rattle.pua_ever.proofs.Along.{stays_along}
 use Rattle.pua_ever.proofs.Unedited.{unedited_along, yes_before}
 use Rattle.pua_ever.proofs.Ending.{foreseen, parts_of}
 use Rattle.pua_ever.proofs.Starting.{start_foreseen}
+use Rattle.pua_path.specs.Resolution.{rooted}
 
 -- who asks alone edits alone
 pub edits_alone : (table : CallTable) (asks : List Asked) (w : World) (members : List ℕ) → members_alone table w asks members ≡ true →
@@ -96,7 +97,7 @@ accounted_before : (table : CallTable) (w : World) (now : ProcessState) (after :
     Foresees w.tree (tmp_table table) now after.tree h → Tightens now h → (call : Call) (text : List ℕ) →
     Accounted table after.tree h call text → IsAccountedFor w.tree table now after.tree h call text
 accounted_before table w now after h seen tight call text (by_verdict allowed) =
-    inl (seen (working_dir h) call text (allowed_is (verdict_on after.tree (tmp_table table) h call text)
+    inl (seen (start h) call text (allowed_is (verdict_on after.tree (tmp_table table) h call text)
     (tmp_table_allows table after.tree h call (object_named after.tree h call text) allowed)))
 accounted_before table w now after h seen tight call text (by_opening o is) =
     inr (openings_narrow now h tight call text (openings_are_held table h call text o is))
@@ -147,7 +148,7 @@ starts_within table sound needs w asks members now are stand trees loosens edit 
       last.1,
       λ from text dir name x named kinds allowed.
           let object : Found = Slot dir name (Some x) in
-          let found = (resolutions_fit u k.well).whole from (ending_of call.Exec) text (last_of call.Exec) object
+          let found = (resolutions_fit (rooted u 0) k.well k.well.root).whole from (ending_of call.Exec) text (last_of call.Exec) object
           (named_within_text u from (ending_of call.Exec) text (last_of call.Exec) object named) in
           let needed = rule_of table call.Exec in
           let parts = parts_of (may_any last.0 needed.alternatives) (cover_fault (cover u last.0 object) needed.perms)

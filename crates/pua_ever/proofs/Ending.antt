@@ -45,6 +45,8 @@ use Rattle.pua_ever.proofs.Covers.{given_or_new, living_dir, below_next}
 use Rattle.pua_ever.proofs.KindFaults.{plain_alike, dir_as, dir_alike}
 use Rattle.pua_ever.proofs.Origins.{Origin, stood, linked, since, Known, Stays, DirUnder, at_rest, come, old_dir, dir_under, file_under}
 use Rattle.pua_ever.proofs.Origins.{could_empty, fixed_covered, free_then}
+use Rattle.pua_path.specs.declared.found.Start.{Start}
+use Rattle.pua_path.specs.Resolution.{rooted}
 
 pub one_new : (made : New) → Among all_new made
 one_new NewDir = inl refl
@@ -248,10 +250,10 @@ module _ (table : CallTable) (t0 : Tree) (h : ProcessState) (well0 : WellFormed 
         by (at_rest was same) = let below = below_next t0 h well0 d (living_dir t0 h well0 d was) in absurd (omega arith)
         by (come a none had) = a
 
-    record Hit (object : Found) : Type 0 where
-      thing : Thing
-      listed : Listed thing c
-      about : IsLineOf t0 u h thing object
+    pub record Hit (object : Found) : Type 0 where
+      pub thing : Thing
+      pub listed : Listed thing c
+      pub about : IsLineOf t0 u h thing object
 
     -- a directory that can be removed now has a name, and can come to be empty
     is_removed : (d : ℕ) (w : Way) → is_dir u d ≡ true → StandsAsNamed u (Whole d w) → is_dir t0 d ≡ true → rmdir_fault table.whose u d w ≡ None →
@@ -323,34 +325,34 @@ module _ (table : CallTable) (t0 : Tree) (h : ProcessState) (well0 : WellFormed 
             by NewFile is can = absurd (false≢true is)
             by NewLink is can = absurd (false≢true is)
 
-    slot_of : (s : Spot) (x : ℕ) → is_dir u x ≡ false → row_cover u h s x ≡ cover u h (Slot s.0 s.1 (Some x))
+    pub slot_of : (s : Spot) (x : ℕ) → is_dir u x ≡ false → row_cover u h s x ≡ cover u h (Slot s.0 s.1 (Some x))
     slot_of s x other = ap (λ b. cover u h (cond b (Whole x (Named s.0 s.1)) (Slot s.0 s.1 (Some x)))) other
 
-    slot_then : (s : Spot) (x : ℕ) → is_dir t0 x ≡ false → row_cover t0 h s x ≡ cover t0 h (Slot s.0 s.1 (Some x))
+    pub slot_then : (s : Spot) (x : ℕ) → is_dir t0 x ≡ false → row_cover t0 h s x ≡ cover t0 h (Slot s.0 s.1 (Some x))
     slot_then s x other = ap (λ b. cover t0 h (cond b (Whole x (Named s.0 s.1)) (Slot s.0 s.1 (Some x)))) other
 
-    -- a line of a row of the beginning, under a cover that its thing can come under
-    hit_row : (r : Spot) (s : Spot) (x : ℕ) → look t0 r.0 r.1 ≡ Some x → (look t0 s.0 s.1 ≡ Some x → r ≡ s) → node_at u x ≡ node_at t0 x → is_dir u x ≡ false →
+    -- the line of a row of the beginning has the call, under a cover that its thing can come under
+    pub row_has : (r : Spot) (s : Spot) (x : ℕ) → look t0 r.0 r.1 ≡ Some x → node_at u x ≡ node_at t0 x → is_dir u x ≡ false →
         (last_of c ≡ Followed → is_link u (Slot s.0 s.1 (Some x)) ≡ false)
         → may_any h (rule_of table c).alternatives ≡ may.Yes →
         cover_fault (cover u h (Slot s.0 s.1 (Some x))) (rule_of table c).perms ≡ None →
         object_fault table.whose u c (object_of_kind (kind_at u x)) ≡ None
         → Among (named_covers t0 table h (kind_at t0 x) (cover t0 h (Slot r.0 r.1 (Some x)))) (cover u h (Slot s.0 s.1 (Some x))) →
-        Hit (Slot s.0 s.1 (Some x))
-    hit_row r s x at own same other followed granted covered fine a =
+        Listed (Stands (At (Slot r.0 r.1 (Some x)))) c
+    row_has r s x at same other followed granted covered fine a =
         let same_kind : kind_at u x ≡ kind_at t0 x = ap (option_map (λ n. n.kind)) same in
         let other_then : is_dir t0 x ≡ false = sym (same_dir t0 u x same) ∙ other in
         let subject : Subject = At (Slot r.0 r.1 (Some x)) in
-        record {
-          thing = Stands subject;
-          listed = row_listed r x at other_then c
-              (calls_among table t0 h subject c (named_link c (last_of c) (is_link t0 (Slot r.0 r.1 (Some x))) refl
-              (λ e. ap is_link_kind (sym same_kind) ∙ followed e))
-              (under_one table t0 h (covers_of t0 table h subject) (ever_object t0 table h subject) c (cover u h (Slot s.0 s.1 (Some x))) a
-              granted covered
-              (ap (λ o. object_fault table.whose empty_tree c (object_of_kind o)) (sym same_kind) ∙ sym (plain_alike table.whose u c (kind_at u x)) ∙ fine)));
-          about = of_row r at own;
-        }
+        row_listed r x at other_then c
+        (calls_among table t0 h subject c (named_link c (last_of c) (is_link t0 (Slot r.0 r.1 (Some x))) refl
+        (λ e. ap is_link_kind (sym same_kind) ∙ followed e))
+        (under_one table t0 h (covers_of t0 table h subject) (ever_object t0 table h subject) c (cover u h (Slot s.0 s.1 (Some x))) a
+        granted covered
+        (ap (λ o. object_fault table.whose empty_tree c (object_of_kind o)) (sym same_kind) ∙ sym (plain_alike table.whose u c (kind_at u x)) ∙ fine)))
+
+    hit_row : (r : Spot) (s : Spot) (x : ℕ) → look t0 r.0 r.1 ≡ Some x → (look t0 s.0 s.1 ≡ Some x → r ≡ s) →
+        Listed (Stands (At (Slot r.0 r.1 (Some x)))) c → Hit (Slot s.0 s.1 (Some x))
+    hit_row r s x at own has = record { thing = Stands (At (Slot r.0 r.1 (Some x))); listed = has; about = of_row r at own }
 
     -- the row of the beginning whose line a file, program or link has, and that its cover of now is one that it can come under
     pub record HomeOf (s : Spot) (x : ℕ) : Type 0 where
@@ -448,7 +450,8 @@ module _ (table : CallTable) (t0 : Tree) (h : ProcessState) (well0 : WellFormed 
         hit_old : x < t0.next → Hit (Slot s.0 s.1 (Some x))
         hit_old below =
             let home = home_of s x e other below in
-            hit_row home.row s x home.at home.own (k.old x below lives) other followed parts.may parts.covered parts.kind home.under
+            hit_row home.row s x home.at home.own
+            (row_has home.row s x home.at (k.old x below lives) other followed parts.may parts.covered parts.kind home.under)
 
         hit_young : t0.next ≤ x → Known table t0 h well0 stand u x → Hit (Slot s.0 s.1 (Some x))
         hit_young from known = by known.made known.kinds known.can
@@ -582,14 +585,14 @@ module _ (table : CallTable) (t0 : Tree) (h : ProcessState) (well0 : WellFormed 
             made_other NewLink is can = absurd (false≢true is)
 
     -- whatever was found
-    hit : (object : Found) → IsOf u (last_of c) object → verdict u table h c object ≡ Allowed → Hit object
+    pub hit : (object : Found) → IsOf u (last_of c) object → verdict u table h c object ≡ Allowed → Hit object
     hit (Whole d w) is allowed = hit_dir d w is.fits is.named allowed
     hit (Slot dir name (Some x)) is allowed =
         hit_file (dir, name) x is.named.1 (not-true (is_dir u x) (and_parts _ _ (and_parts (is_dir u dir) _ is.fits).1).1) is.followed
         allowed
     hit (Slot dir name None) is allowed = hit_missing dir name (and_parts (is_dir u dir) _ is.fits).0 is.named.1 allowed
 
-    pub foreseen : (from : ℕ) (text : List ℕ) → let named = resolution_of_text u from (ending_of c) text (last_of c) in
+    pub foreseen : (from : Start) (text : List ℕ) → let named = resolution_of_text u from (ending_of c) text (last_of c) in
         verdict_of u table h c named ≡ Allowed → IsForeseen t0 table h u c named
     foreseen from text = by (resolution_of_text u from (ending_of c) text (last_of c)) refl
       where
@@ -598,7 +601,7 @@ module _ (table : CallTable) (t0 : Tree) (h : ProcessState) (well0 : WellFormed 
         by (Err errno) is e = absurd (failed (may_any h (rule_of table c).alternatives) errno e)
         by (Ok object) is e =
             let named = named_within_text u from (ending_of c) text (last_of c) object is in
-            let one = hit object ((resolutions_fit u k.well).whole from (ending_of c) text (last_of c) object named) e in
+            let one = hit object ((resolutions_fit (rooted u 0) k.well k.well.root).whole from (ending_of c) text (last_of c) object named) e in
             record {
               object = object;
               names = refl;

@@ -6,6 +6,7 @@ use Rattle.pua_ever.proofs.Common.{Rename, Link, Pledge, Unveil, Lock, Fork, Exi
 use Rattle.pua_script.specs.Family.{family, is_okay, with_child, HasKept}
 use Rattle.pua_script.proofs.ForCallers.{Belongs, others_leave}
 use Rattle.pua_ever.specs.Laws.{LoosensNone, NoExecLoosens}
+use Rattle.pua_script.specs.declared.request.Action.TheVariants.{Chroot}
 
 -- an exec makes no process
 no_child : (action : Action) (members : List ℕ) → is_exec action ≡ true → with_child action members ≡ members
@@ -22,6 +23,7 @@ no_child (Uses sets) members e = refl
 no_child (Hold number call path) members e = refl
 no_child (Close number) members e = refl
 no_child (Fchdir number) members e = refl
+no_child (Chroot path) members e = refl
 no_child (Take number from theirs) members e = refl
 no_child Comment members e = refl
 

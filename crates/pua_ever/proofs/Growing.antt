@@ -3,7 +3,7 @@ use Rattle.pua_ever.proofs.Common.{◌≡◌, ◌≤◌, ◌⊎◌, ℕ, Bool, t
 use Rattle.pua_ever.proofs.Common.{None, is_some, is_none, ◌&&◌, ◌||◌, ◌==◌, nat_le, option_eq, false≢true, and_parts, and_from, or_left}
 use Rattle.pua_ever.proofs.Common.{or_right, Tree, Node, WellFormed, Spot, is_dir, look, kind_at, is_empty, empty_tree, same_Some}
 use Rattle.pua_ever.proofs.Common.{None≢Some, is_link_kind, Followed, resolutions_fit, EAGAIN, Found, Whole, Slot, CallTable, rule_of}
-use Rattle.pua_ever.proofs.Common.{is_kept, ProcessState, may_any, working_dir, IsMissing, cover, cover_fault, covered_verdict, or_fault}
+use Rattle.pua_ever.proofs.Common.{is_kept, ProcessState, may_any, start, IsMissing, cover, cover_fault, covered_verdict, or_fault}
 use Rattle.pua_ever.proofs.Common.{object_fault, allowed_unless, if_promised, is_allowed, Call, Asked, most_processes, World, Fails, Copies}
 use Rattle.pua_ever.proofs.Common.{change_effect, kept_at, apply, tree_left, Action, OnPath, Symlink, Rename, Link, Pledge, Unveil, Lock}
 use Rattle.pua_ever.proofs.Common.{Fork, Exit, Uses, Hold, Close, Fchdir, Take, Comment, has_c, Change, CopyAs, change_by, by_going, covers_descend, named_within_text}
@@ -44,6 +44,9 @@ use Rattle.pua_script.specs.Decide.{TakeFile, file_opened}
 use Rattle.pua_script.specs.Replay.{sent_by, take_effect}
 use Rattle.pua_script.proofs.ForCallers.{by_filing}
 use Rattle.std.specs.Prelude.{Result, Ok, Err}
+use Rattle.pua_script.specs.declared.request.Action.TheVariants.{Chroot}
+use Rattle.pua_script.proofs.ForCallers.{by_rooting}
+use Rattle.pua_path.specs.Resolution.{rooted}
 
 pub takes : (table : CallTable) → EditsNeedC table → TakingNeedsC table
 takes table needs = record {
@@ -121,7 +124,7 @@ module _ (table : CallTable) (needs : EditsNeedC table) (t : Tree) (h : ProcessS
   by_call c x granted covered = by_made c x granted covered (made_by c) refl
 
   -- what stands at the spot by whose name something was found
-  standing : (a : Found) → NameFits t a → (s : Spot) → spot_named a ≡ Some s → (is_dir t s.0 ≡ true) × (look t s.0 s.1 ≡ node_named a)
+  pub standing : (a : Found) → NameFits t a → (s : Spot) → spot_named a ≡ Some s → (is_dir t s.0 ≡ true) × (look t s.0 s.1 ≡ node_named a)
   standing (Whole dir (way.Named parent name)) fits s e =
       let is : (parent, name) ≡ s = same_Some (parent, name) s e in
       (ap (λ (r : Spot). is_dir t r.0) (sym is) ∙ fits.named.0, ap (λ (r : Spot). look t r.0 r.1) (sym is) ∙ fits.named.1)
@@ -137,13 +140,13 @@ module _ (table : CallTable) (needs : EditsNeedC table) (t : Tree) (h : ProcessS
   is_other false e = refl
 
   -- what stands at a name as no directory is none
-  plain_at : (dir : ℕ) (name : List ℕ) (y : ℕ) → FoundFits t (Slot dir name (Some y)) → is_dir t y ≡ false
+  pub plain_at : (dir : ℕ) (name : List ℕ) (y : ℕ) → FoundFits t (Slot dir name (Some y)) → is_dir t y ≡ false
   plain_at dir name y fits =
       is_other (is_dir t y) (and_parts (option_eq ◌==◌ (look t dir name) (Some y)) (not (is_dir t y))
       (and_parts (is_dir t dir) (option_eq ◌==◌ (look t dir name) (Some y) && not (is_dir t y)) fits).1).1
 
   -- what covers the row by whose name something was found
-  row_named : (a : Found) (x : ℕ) → NameFits t a → node_named a ≡ Some x → (s : Spot) → spot_named a ≡ Some s →
+  pub row_named : (a : Found) (x : ℕ) → NameFits t a → node_named a ≡ Some x → (s : Spot) → spot_named a ≡ Some s →
       row_cover t h s x ≡ cover t h a
   row_named (Whole dir (way.Named parent name)) x fits is s e =
       (λ i. row_cover t h (sym (same_Some (parent, name) s e) i) (sym (same_Some dir x is) i)) ∙
@@ -249,16 +252,16 @@ module _ (table : CallTable) (needs : EditsNeedC table) (t : Tree) (h : ProcessS
   grows_by (Symlink target path) c d =
       subst Grows (sym d.3) (by_added NewLink call.Symlink (λ passes e. e) (link_node target) refl refl (needs.calls call.Symlink refl) d.0 d.1.promised d.1.covered)
   grows_by (Rename old new) c d =
-      by_moved d.old d.new d.node c (name_fits t well (working_dir h) Dropped old table.rename.old.last d.old d.two.found_old)
-      (name_fits t well (working_dir h) Dropped new table.rename.new.last d.new d.two.found_new)
+      by_moved d.old d.new d.node c (name_fits t well (start h) Dropped old table.rename.old.last d.old d.two.found_old)
+      (name_fits t well (start h) Dropped new table.rename.new.last d.new d.two.found_new)
       (and_from (is_yes (may_any h table.rename.old.needs.alternatives)) _ (ap is_yes d.two.promised_old) (ap is_yes d.two.promised_new))
       d.two.covered_old (covered_by_c (cover t h d.new) _ needs.rename_new d.two.covered_new) d.two.named d.moves
   grows_by (Link old new) c d =
-      let of_old = (resolutions_fit t well).whole (working_dir h) Dot old table.link.old.last d.old
-      (named_within_text t (working_dir h) Dot old table.link.old.last d.old d.two.found_old) in
+      let of_old = (resolutions_fit (rooted t 0) well well.root).whole (start h) Dot old table.link.old.last d.old
+      (named_within_text t (start h) Dot old table.link.old.last d.old d.two.found_old) in
       let held : may_link table h ≡ true =
       and_from (is_yes (may_any h table.link.old.needs.alternatives)) _ (ap is_yes d.two.promised_old) (ap is_yes d.two.promised_new) in
-      let fits_new = name_fits t well (working_dir h) Dot new table.link.new.last d.new d.two.found_new in
+      let fits_new = name_fits t well (start h) Dot new table.link.new.last d.new d.two.found_new in
       subst Grows (sym d.is)
       (by_tying Grows tt d.node (spot_named d.new)
       (λ s is. (
@@ -275,6 +278,7 @@ module _ (table : CallTable) (needs : EditsNeedC table) (t : Tree) (h : ProcessS
   grows_by (Hold number asked path) c d = subst Grows (sym d.1) (by_filing Grows tt number (file_opened t asked (node_named d.0)) (λ file. tt))
   grows_by (Close number) c d = subst Grows (sym d.2) tt
   grows_by (Fchdir number) c d = subst Grows (sym d.is) tt
+  grows_by (Chroot path) c d = subst Grows (sym d.is) (by_rooting Grows tt d.object (λ dir. tt))
   grows_by (Take number from theirs) c d = subst Grows (sym d.1) tt
   grows_by Comment c d = subst Grows (sym d) tt
 

@@ -70,14 +70,14 @@ module _ (table : CallTable) (t : Tree) (h : ProcessState) where
   pub grown_all : Grown t
   grown_all = record { rows = λ s x e. inl e; nodes = λ x l. inl refl; next = omega arith }
 
-  same_look : (v : Tree) (s : Spot) (y : ℕ) → look (without_unnamed v y) s.0 s.1 ≡ look v s.0 s.1
+  pub same_look : (v : Tree) (s : Spot) (y : ℕ) → look (without_unnamed v y) s.0 s.1 ≡ look v s.0 s.1
   same_look v s y = elim (rows_of v y == 0) as (λ b. look (cond b (without_node v y) v) s.0 s.1 ≡ look v s.0 s.1) [
     | true ↦ refl
     | false ↦ refl
   ]
 
   -- a node that lives still is as it was
-  lives_same : (v : Tree) (x y : ℕ) → is_living (without_unnamed v y) x ≡ true → node_at (without_unnamed v y) x ≡ node_at v x
+  pub lives_same : (v : Tree) (x y : ℕ) → is_living (without_unnamed v y) x ≡ true → node_at (without_unnamed v y) x ≡ node_at v x
   lives_same v x y = by (rows_of v y == 0)
     where
       by : (b : Bool) → is_living (cond b (without_node v y) v) x ≡ true → node_at (cond b (without_node v y) v) x ≡ node_at v x
@@ -88,10 +88,10 @@ module _ (table : CallTable) (t : Tree) (h : ProcessState) where
         | inr other ↦ without_elsewhere nat_cmp nat_cmp_total nat_cmp-IsAntisymmetric x y v.nodes other.0
       ]
 
-  same_next : (v : Tree) (y : ℕ) → (without_unnamed v y).next ≡ v.next
+  pub same_next : (v : Tree) (y : ℕ) → (without_unnamed v y).next ≡ v.next
   same_next v y = elim (rows_of v y == 0) as (λ b. (cond b (without_node v y) v).next ≡ v.next) [ true ↦ refl | false ↦ refl ]
 
-  at_or_not : (s spot : Spot) → (s ≡ spot) ⊎ (s ≢ spot)
+  pub at_or_not : (s spot : Spot) → (s ≡ spot) ⊎ (s ≢ spot)
   at_or_not s spot = elim (same_or_other spot_cmp spots_total exact_spots s spot) [ inl same ↦ inl same.0 | inr other ↦ inr other.0 ]
 
   pub grown_add : (made : New) (maker : Call) → IsMaker made maker → (dir : ℕ) (name : List ℕ) (node : Node) → node.kind ≡ new_kind made
@@ -170,7 +170,7 @@ module _ (table : CallTable) (t : Tree) (h : ProcessState) where
       by true true false None true = grown
 
   -- a row that is there without another was there with it
-  was_there : (spot s : Spot) (x : ℕ) → look (without_row t spot.0 spot.1) s.0 s.1 ≡ Some x → look t s.0 s.1 ≡ Some x
+  pub was_there : (spot s : Spot) (x : ℕ) → look (without_row t spot.0 spot.1) s.0 s.1 ≡ Some x → look t s.0 s.1 ≡ Some x
   was_there spot s x e = elim (at_or_not s spot) [
     | inl same ↦ absurd (Some≢None x (sym e ∙ ap (λ (r : Spot). look (without_row t spot.0 spot.1) r.0 r.1) same ∙
         without_here spot_cmp spots_total exact_spots spot t.rows))

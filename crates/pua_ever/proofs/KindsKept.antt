@@ -41,23 +41,61 @@ alone_are Kind w process now here k m belongs =
     alone true e = refl
     alone false e = e
 
-module _ (table : CallTable) (Kind : ProcessState → Type 0) (keeps : Keeps table Kind) where
-  -- the members
+-- the members after a request, by what it leaves the one that asks
+module _ (table : CallTable) (w : World) (ask : Asked) (members : List ℕ) (Kind : ProcessState → Type 0) (are : Are Kind w members)
+    (own_left : is_member members ask.process ≡ true → HasKept (apply table w ask).1 ask.process Kind) where
+  abbrev then_left : World
+  then_left = (apply table w ask).1
+
   is_okay_only : (a : Answer) → is_okay a ≡ true → a ≡ Okay
   is_okay_only Okay e = refl
   is_okay_only (IsFailed errno) e = absurd (false≢true e)
   is_okay_only IsKilled e = absurd (false≢true e)
   is_okay_only Gone e = absurd (false≢true e)
 
-  child_or_old : (action : Action) (members : List ℕ) (m : ℕ) (P : Type 0) → is_member (with_child action members) m ≡ true
+  child_or_old : (action : Action) (m : ℕ) (P : Type 0) → is_member (with_child action members) m ≡ true
       → (is_member members m ≡ true → P) → ((new : ℕ) → action ≡ Fork new → new ≡ m → P) → P
-  child_or_old (Fork new) members m P belongs old child = by (new == m) refl belongs
+  child_or_old (Fork new) m P belongs old child = by (new == m) refl belongs
     where
       by : (b : Bool) → (new == m) ≡ b → (b || is_member members m) ≡ true → P
       by true e belongs = child new refl (eqb-true new m e)
       by false e belongs = old belongs
-  child_or_old _ members m P belongs old child = old belongs
+  child_or_old _ m P belongs old child = old belongs
 
+  old_member : (m : ℕ) → is_member members m ≡ true → HasKept then_left m Kind
+  old_member m belongs = by (ask.process == m) refl
+    where
+      by : (b : Bool) → (ask.process == m) ≡ b → HasKept then_left m Kind
+      by true e =
+          let is : ask.process ≡ m = eqb-true ask.process m e in
+          subst (λ p. HasKept then_left p Kind) is (own_left (ap (is_member members) is ∙ belongs))
+      by false e =
+          let before = are m belongs in
+          (before.0, others_leave table w ask m before.0 before.1 (λ same. false≢true (sym e ∙ eq-eqb ask.process m same)), before.2)
+
+  child : (new : ℕ) → ask.action ≡ Fork new → is_member members ask.process ≡ true → is_okay (apply table w ask).0 ≡ true →
+      HasKept then_left new Kind
+  child new forks belongs okay =
+      let before = are ask.process belongs in
+      let same : (record { process = ask.process; action = Fork new }) ≡ ask =
+      λ i. record { process = ask.process; action = sym forks i } in
+      let copied = forks_copy table w ask.process new before.0 before.1 (ap (λ a. (apply table w a).0) same ∙
+      is_okay_only (apply table w ask).0 okay) in
+      (before.0, sym (ap (λ a. kept_at (apply table w a).1 new) same) ∙ copied, before.2)
+
+  pub members_left : Are Kind then_left (family_then table w ask members)
+  members_left m = by (is_member members ask.process) (is_okay (apply table w ask).0) refl refl
+    where
+      by : (a b : Bool) → is_member members ask.process ≡ a → is_okay (apply table w ask).0 ≡ b →
+          is_member (cond (a && b) (with_child ask.action members) members) m ≡ true →
+          HasKept then_left m Kind
+      by false b asks told belongs = old_member m belongs
+      by true false asks told belongs = old_member m belongs
+      by true true asks told belongs =
+          child_or_old ask.action m (HasKept then_left m Kind) belongs (old_member m)
+          (λ new forks is. subst (λ n. HasKept then_left n Kind) is (child new forks asks told))
+
+module _ (table : CallTable) (Kind : ProcessState → Type 0) (keeps : Keeps table Kind) where
   module _ (w : World) (ask : Asked) (members : List ℕ) (are : Are Kind w members) where
     abbrev then : World
     then = (apply table w ask).1
@@ -90,38 +128,8 @@ module _ (table : CallTable) (Kind : ProcessState → Type 0) (keeps : Keeps tab
         (left before.0 (come_of w before.0 (decide table w.tree before.0 ask.action)) (decided_so table w before.0 Kind ask.action (keeping before.0 before.2))
         before.2 before.1)
 
-    old_member : (m : ℕ) → is_member members m ≡ true → HasKept then m Kind
-    old_member m belongs = by (ask.process == m) refl
-      where
-        by : (b : Bool) → (ask.process == m) ≡ b → HasKept then m Kind
-        by true e =
-            let is : ask.process ≡ m = eqb-true ask.process m e in
-            subst (λ p. HasKept then p Kind) is (own_kept (ap (is_member members) is ∙ belongs))
-        by false e =
-            let before = are m belongs in
-            (before.0, others_leave table w ask m before.0 before.1 (λ same. false≢true (sym e ∙ eq-eqb ask.process m same)), before.2)
-
-    child : (new : ℕ) → ask.action ≡ Fork new → is_member members ask.process ≡ true → is_okay (apply table w ask).0 ≡ true →
-        HasKept then new Kind
-    child new forks belongs okay =
-        let before = are ask.process belongs in
-        let same : (record { process = ask.process; action = Fork new }) ≡ ask =
-        λ i. record { process = ask.process; action = sym forks i } in
-        let copied = forks_copy table w ask.process new before.0 before.1 (ap (λ a. (apply table w a).0) same ∙
-        is_okay_only (apply table w ask).0 okay) in
-        (before.0, sym (ap (λ a. kept_at (apply table w a).1 new) same) ∙ copied, before.2)
-
     pub then_kept : Are Kind then (family_then table w ask members)
-    then_kept m = by (is_member members ask.process) (is_okay (apply table w ask).0) refl refl
-      where
-        by : (a b : Bool) → is_member members ask.process ≡ a → is_okay (apply table w ask).0 ≡ b →
-            is_member (cond (a && b) (with_child ask.action members) members) m ≡ true →
-            HasKept then m Kind
-        by false b asks told belongs = old_member m belongs
-        by true false asks told belongs = old_member m belongs
-        by true true asks told belongs =
-            child_or_old ask.action members m (HasKept then m Kind) belongs (old_member m)
-            (λ new forks is. subst (λ n. HasKept then n Kind) is (child new forks asks told))
+    then_kept = members_left table w ask members Kind are own_kept
 
   pub after_kept : (asks : List Asked) (w : World) (members : List ℕ) → Are Kind w members →
       Are Kind (world_after table w asks) (family table w asks members)

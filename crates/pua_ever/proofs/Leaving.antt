@@ -23,6 +23,9 @@ use Rattle.pua_script.specs.Replay.{Effect, Kills, Leaves, refusal_effect, come_
 use Rattle.pua_script.specs.Worlds.{state_left}
 use Rattle.pua_script.proofs.ForCallers.{by_decision, decisions_are_guarded, by_filing, by_placing, by_tying, by_moves, opened_no_exec}
 use Rattle.pua_ever.proofs.Calling.{by_calling}
+use Rattle.pua_script.specs.declared.request.Action.TheVariants.{Chroot}
+use Rattle.pua_script.proofs.ForCallers.{by_rooting}
+use Rattle.pua_policy.specs.States.{ToDir, ToRoot}
 
 -- it is so now, after an event that leaves the veils, of the program that an exec starts, and after an unveil that is granted
 pub record Keeping (table : CallTable) (t : Tree) (h : ProcessState) (action : Action) (P : ProcessState → Type 0) : Type 0 where
@@ -44,9 +47,9 @@ module _ (table : CallTable) (w : World) (h : ProcessState) (P : ProcessState �
   left_so (OnPath asked path) k c d = subst Left (sym d.2) (by d.1)
     where
       by : OnOne table w.tree h asked path d.0 ⊎ IsOpened table w.tree h asked path d.0 → Left (change_by table asked d.0)
-      by (inl on) = by_calling table Left tt asked (λ edits s node. tt) (λ edits s. tt) (λ dir. k.more (Moved dir) refl)
+      by (inl on) = by_calling table Left tt asked (λ edits s node. tt) (λ edits s. tt) (λ dir. k.more (Moved (ToDir dir)) refl)
           (λ is. k.program (subst (λ c. may_any h (rule_of table c).alternatives ≡ Yes) is on.promised)) d.0
-      by (inr on) = by_calling table Left tt asked (λ edits s node. tt) (λ edits s. tt) (λ dir. k.more (Moved dir) refl)
+      by (inr on) = by_calling table Left tt asked (λ edits s node. tt) (λ edits s. tt) (λ dir. k.more (Moved (ToDir dir)) refl)
           (λ is. absurd (opened_no_exec table h asked path on.opening on.opened is)) d.0
   left_so (Symlink target path) k c d =
       subst Left (sym d.3) (by_placing Left tt (link_node target) (spot_named d.0) (node_named d.0) (λ s is. tt))
@@ -61,7 +64,8 @@ module _ (table : CallTable) (w : World) (h : ProcessState) (P : ProcessState �
   left_so (Hold number asked path) k c d =
       subst Left (sym d.2) (by_filing Left tt number (file_opened w.tree asked (node_named d.0)) (λ file. k.more (Filed number (Some file)) refl))
   left_so (Close number) k c d = subst Left (sym d.2) (k.more (Filed number None) refl)
-  left_so (Fchdir number) k c d = subst Left (sym d.is) (k.more (Moved d.file.node) refl)
+  left_so (Fchdir number) k c d = subst Left (sym d.is) (k.more (Moved (ToDir d.file.node)) refl)
+  left_so (Chroot path) k c d = subst Left (sym d.is) (by_rooting Left tt d.object (λ dir. k.more (Moved (ToRoot dir)) refl))
   left_so (Take number from theirs) k c d = subst Left (sym d.1) (λ file. k.more (Filed number (Some file)) refl)
   left_so Comment k c d = subst Left (sym d) tt
 

@@ -38,8 +38,16 @@ pub mod Holding
 pub mod Through
 pub mod Narrowed
 pub mod Lasts
+pub mod Gathered
 pub mod Together
 pub mod Chosen
 pub mod ForCallers
 pub mod RowsTell
 pub mod RowsLast
+pub mod Inside
+pub mod InsideTrees
+pub mod Enclosing
+pub mod EnclosedAlong
+pub mod Homes
+pub mod ShownEver
+pub mod ShownLasts

@@ -1,6 +1,6 @@
 -- Where no line has `exec`, no exec of a member is answered ok.
 use Rattle.pua_ever.proofs.Common.{◌≡◌, ◌⊎◌, ℕ, List, [], ◌∷◌, Bool, true, false, refl, ap, subst, ◌∙◌, sym, inl, inr, Some, Ok, not}
-use Rattle.pua_ever.proofs.Common.{false≢true, and_parts, and_from, Tree, WellFormed, CallTable, ProcessState, working_dir, verdict_of}
+use Rattle.pua_ever.proofs.Common.{false≢true, and_parts, and_from, Tree, WellFormed, CallTable, ProcessState, start, verdict_of}
 use Rattle.pua_ever.proofs.Common.{is_allowed, if_promised, allowed_unless, or_fault, allowed_is, Asked, World, apply, kept_at, Change}
 use Rattle.pua_ever.proofs.Common.{IsDecided, Action, OnPath, Symlink, Rename, Link, Pledge, Unveil, Lock, Fork, Exit, Uses, Hold, Close, Fchdir, Take, Comment, is_member}
 use Rattle.pua_ever.proofs.Common.{is_exec}
@@ -28,6 +28,7 @@ use Rattle.pua_ever.proofs.RequestKeepsRows.{stays_then}
 use Rattle.pua_ever.proofs.Along.{grown_within}
 use Rattle.pua_ever.proofs.Unedited.{unedited, still_unable}
 use Rattle.pua_ever.proofs.Ending.{foreseen}
+use Rattle.pua_script.specs.declared.request.Action.TheVariants.{Chroot}
 
 -- an exec that was answered ok was allowed on its path
 pub record Execs (table : CallTable) (w : World) (h : ProcessState) : Type 0 where
@@ -57,6 +58,7 @@ execs_by table w h (Uses sets) c d is = absurd (false≢true is)
 execs_by table w h (Hold number asked path) c d is = absurd (false≢true is)
 execs_by table w h (Close number) c d is = absurd (false≢true is)
 execs_by table w h (Fchdir number) c d is = absurd (false≢true is)
+execs_by table w h (Chroot path) c d is = absurd (false≢true is)
 execs_by table w h (Take number from theirs) c d is = absurd (false≢true is)
 execs_by table w h Comment c d is = absurd (false≢true is)
 
@@ -92,7 +94,7 @@ module _ (table : CallTable) (sound : NoCallNeedsError table) (needs : EditsNeed
           let exec = execs_then table w ask asker.0 asker.1 done.0 done.1 in
           let named = object_named w.tree asker.0 call.Exec exec.path in
           let allowed = verdicts_within now asker.0 asker.2.within tmp sound_too w.tree call.Exec named (ap is_allowed exec.allowed) in
-          let seen = foreseen tmp t0 now well0 stand w.tree k edit call.Exec (working_dir asker.0) exec.path
+          let seen = foreseen tmp t0 now well0 stand w.tree k edit call.Exec (start asker.0) exec.path
           (allowed_is (verdict_of w.tree tmp now call.Exec named) allowed) in
           never seen.line seen.listed seen.allows
 

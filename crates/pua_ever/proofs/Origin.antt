@@ -12,7 +12,7 @@ use Rattle.pua_ever.proofs.Quiet.{below_self, below_up, root_below, way_up}
 
 module _ (t : Tree) (well : WellFormed t) where
   -- what is above a directory is above what is below it
-  below_over : (y d : ℕ) → is_dir t d ≡ true → d ≢ 0 → is_below t y (above t d) ≡ true → is_below t y d ≡ true
+  pub below_over : (y d : ℕ) → is_dir t d ≡ true → d ≢ 0 → is_below t y (above t d) ≡ true → is_below t y d ≡ true
   below_over y d is n below = ap (list_any (λ e. e == y)) (climb_step t well d n is) ∙ or_right (d == y) _ below
 
   below_steps : (y x steps d : ℕ) → Reaches t steps d → is_dir t d ≡ true → is_below t x d ≡ true → is_below t y x ≡ true →

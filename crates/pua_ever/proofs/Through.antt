@@ -45,6 +45,8 @@ use Rattle.pua_ever.proofs.NoExec.{without_exec_beside}
 use Rattle.pua_ever.proofs.Ways.{any_among}
 use Rattle.pua_ever.proofs.Holding.{any_within, may_holds, goes, lacks_unveil, own, along_then, along_after, along_now, along_first}
 use Rattle.pua_ever.proofs.Holding.{bound_parts}
+use Rattle.pua_path.specs.Resolution.{rooted}
+use Rattle.pua_path.specs.declared.found.Start.{Start}
 
 -- both sets hold what the one holds, and what the other holds
 pub first_of : (a b : ℕ) → holds (bit_or a b) a ≡ true
@@ -87,7 +89,7 @@ module _ (now : ProcessState) (given : ℕ) where
   }
 
   -- a line is the same thing's
-  line_too : (t later : Tree) (thing : Thing) (object : Found) → IsLineOf t later wide thing object → IsLineOf t later now thing object
+  pub line_too : (t later : Tree) (thing : Thing) (object : Found) → IsLineOf t later wide thing object → IsLineOf t later now thing object
   line_too t later thing object (of_dir below) = of_dir below
   line_too t later thing object (of_row row at there) = of_row row at there
   line_too t later thing object (of_name perms kept) = of_name perms kept
@@ -144,19 +146,19 @@ module _ (table : CallTable) (sound : NoCallNeedsError table) (needs : EditsNeed
   sound_too : NoCallNeedsError tmp
   sound_too = tmp_table_needs_no_error table sound
 
-  along_too : (h : ProcessState) → GoesAlong table now given h → GoesAlong tmp now given h
+  pub along_too : (h : ProcessState) → GoesAlong table now given h → GoesAlong tmp now given h
   along_too h k = record { unveils = k.unveils; lock = k.lock; ended = k.ended; promises = k.promises }
 
   abbrev passes : Call → Bool
   passes = is_promised_by_one tmp now given
 
   -- the members are within who holds both, and no exec loosens them
-  members_within : (w : World) (members : List ℕ) → GoAlong table w now given members → Members w members both false
+  pub members_within : (w : World) (members : List ℕ) → GoAlong table w now given members → Members w members both false
   members_within w members are m belongs =
       let one = are m belongs in
       (one.0, one.1, record { within = within_both now given table sound bounded one.0 one.2; dir = λ e. absurd (false≢true e) })
 
-  none_looser : (asks : List Asked) (w : World) (members : List ℕ) → GoAlong table w now given members →
+  pub none_looser : (asks : List Asked) (w : World) (members : List ℕ) → GoAlong table w now given members →
       NoExecLoosens table both w asks members
   none_looser [] w members are = tt
   none_looser (ask ∷ asks) w members are = (
@@ -249,7 +251,7 @@ module _ (table : CallTable) (sound : NoCallNeedsError table) (needs : EditsNeed
           dir_by_one dir one.0 one.1 one.2 is
 
   -- a line of the list of both, with the calls that pass, is one of the list through execs, where a call is left
-  listed_through : (t : Tree) (line : EverLine) (c : Call) → Contains (ever t tmp both) line → Contains line.calls c →
+  pub listed_through : (t : Tree) (line : EverLine) (c : Call) → Contains (ever t tmp both) line → Contains line.calls c →
       can_come passes line.thing ≡ true → passes c ≡ true →
       Contains (ever_through t tmp now given) (let_through passes line) × Contains (let_through passes line).calls c
   listed_through t line c listed has comes one =
@@ -320,17 +322,17 @@ module _ (table : CallTable) (sound : NoCallNeedsError table) (needs : EditsNeed
     well_after = last_tree table w asks trees
 
     -- what has its line by who holds both comes by one of the two sets
-    comes_too : (thing : Thing) (object : Found) → found_fits after object ≡ true → IsLineOf w.tree after both thing object →
+    pub comes_too : (thing : Thing) (object : Found) → found_fits after object ≡ true → IsLineOf w.tree after both thing object →
         can_come passes thing ≡ true
     comes_too thing object fits about =
         let well = first_tree table w asks trees in
         comes_by_one w.tree well after well_after (made_through w.tree well asks w members are edits trees (made_first w.tree well)) thing object
         fits (line_too now given w.tree after thing object about)
 
-    fits_named : (from : ℕ) (c : Call) (text : List ℕ) (object : Found) →
+    pub fits_named : (from : Start) (c : Call) (text : List ℕ) (object : Found) →
         resolution_of_text after from (ending_of c) text (last_of c) ≡ Ok object → found_fits after object ≡ true
     fits_named from c text object names =
-        ((resolutions_fit after well_after).whole from (ending_of c) text (last_of c) object
+        ((resolutions_fit (rooted after 0) well_after well_after.root).whole from (ending_of c) text (last_of c) object
         (named_within_text after from (ending_of c) text (last_of c) object names)).fits
 
     pub through_all : HasKept (world_after table w asks) member (ForeseesIn (ever_through w.tree tmp now given) w.tree tmp now after)

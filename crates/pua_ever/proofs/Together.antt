@@ -2,14 +2,12 @@
 use Rattle.pua_ever.proofs.Common.{◌≡◌, ◌⊎◌, ℕ, List, [], ◌∷◌, Bool, true, false, cond, map, refl, sym, ap, subst, ◌∙◌, inl, inr, Option}
 use Rattle.pua_ever.proofs.Common.{Some, None, same_Some, not, ◌&&◌, ◌||◌, ◌==◌, CallTable, ProcessState}
 use Rattle.pua_ever.proofs.Common.{false≢true, and_parts, eqb-true, World, world_after, kept_at, is_member}
-use Rattle.pua_ever.proofs.Common.{VeilsStand, Among, ever, first_tree, Asked, EditsNeedC, NoCallNeedsError, ◌≢◌}
+use Rattle.pua_ever.proofs.Common.{VeilsStand, Among, among_contained, ever, first_tree, Asked, EditsNeedC, NoCallNeedsError, ◌≢◌}
 use Rattle.std.specs.List.{AllByRecursion}
-use Rattle.std.specs.Prelude.{bit_or}
-use Rattle.pua_calls.specs.Promises.{holds, unveil}
+use Rattle.pua_calls.specs.Promises.{fattr, holds, unveil}
 use Rattle.pua_calls.specs.TmpTable.{tmp_table}
 use Rattle.pua_calls.specs.declared.call.Call.TheVariants as call
 use Rattle.pua_policy.specs.States.{held_set, held_for_exec, is_locked}
-use Rattle.pua_policy.proofs.ForCallers.{holds_through}
 use Rattle.pua_script.specs.Replay.{new_world}
 use Rattle.pua_script.specs.Bytes.{IsByteTree, are_in_bytes}
 use Rattle.pua_script.specs.Confinement.{TreesAlong}
@@ -20,22 +18,16 @@ use Rattle.pua_ever.specs.Through.{AreWithin, HandsDown, HoldsOne, GoesAlong, Go
 use Rattle.pua_ever.specs.Through.{ever_lasting, execs_of}
 use Rattle.pua_ever.specs.declared.lasting_list.ExecBound.TheVariants.{Open}
 use Rattle.pua_ever.specs.Together.{Joint, handed_down, either_given, joint_of, with_one, joint_after, confined_part, joined, ActTogether, IsOneOf}
-use Rattle.pua_ever.specs.Together.{EverTogether, TogetherLasts, TogetherAfterRead}
+use Rattle.pua_ever.specs.Together.{EverTogether, JoinedTurns, TogetherLasts, TogetherStarts, TogetherAfterRead, files_together}
 use Rattle.pua_ever.proofs.Common.{EverLine}
 use Rattle.pua_ever.proofs.Chosen.{bound_too, lasting_alone, lasting_through, lasting_unbounded, starts_open}
-use Rattle.pua_ever.proofs.Complete.{all_within, ever_beside}
+use Rattle.pua_ever.proofs.Complete.{all_within, ever_beside, starts_foreseen}
 use Rattle.pua_ever.proofs.NoExec.{none_along}
 use Rattle.pua_ever.proofs.Origins.{at_first}
 use Rattle.pua_ever.proofs.VeilPlacesGiven.{replays_keep_places, new_places}
 use Rattle.pua_ever.proofs.Holding.{lock_parts, bound_parts}
-use Rattle.pua_ever.proofs.Through.{first_of, second_of, no_line, ever_through_execs}
-
--- what is within a set is within what two sets hold
-within_first : (a b set : ℕ) → holds a set ≡ true → holds (bit_or a b) set ≡ true
-within_first a b set holding = holds_through (bit_or a b) a set (first_of a b) holding
-
-within_second : (a b set : ℕ) → holds b set ≡ true → holds (bit_or a b) set ≡ true
-within_second a b set holding = holds_through (bit_or a b) b set (second_of a b) holding
+use Rattle.pua_ever.proofs.Through.{no_line, ever_through_execs}
+use Rattle.pua_ever.proofs.Gathered.{turned_by_more, turned_together, within_first, within_second}
 
 -- what a process hands down, or that it can start nothing
 abbrev Hands : CallTable → ProcessState → Option ℕ → Type 0
@@ -220,6 +212,20 @@ pub ever_together : EverTogether
 ever_together table sound needs w asks members first more acts stand trees none edits member belongs =
     ever_beside table sound needs w asks members (joined table first more) (acts_within table first more acts.alike w members acts.processes)
     stand trees none edits member belongs
+
+pub together_starts : TogetherStarts
+together_starts table sound needs w asks members first more acts stand trees none edits member belongs =
+    starts_foreseen table sound needs w asks members (joined table first more) (acts_within table first more acts.alike w members acts.processes)
+    stand trees none edits member belongs
+
+-- what any of them has open so that it can be made a program, the one has open so
+pub joined_turns : JoinedTurns
+joined_turns table first more h among node turned =
+    let a = among_contained (first ∷ more) h among in
+    let joint = joint_after table (joint_of table first) more in
+    let modes = λ (holding : holds (held_set h) fattr ≡ true). within_second (held_set first) joint.held fattr ((all_in table first more h a).held fattr holding) in
+    turned_by_more (holds (held_set h) fattr) (holds (held_set (joined table first more)) fattr) modes node (files_together first more)
+    (turned_together (holds (held_set h) fattr) node first more h a turned)
 
 -- where no line has exec, none of theirs can succeed
 none_together : (table : CallTable) → NoCallNeedsError table → EditsNeedC table →

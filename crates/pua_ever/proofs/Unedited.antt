@@ -29,6 +29,8 @@ use Rattle.pua_script.specs.Decide.{TakeFile, file_opened}
 use Rattle.pua_script.specs.Replay.{sent_by, take_effect}
 use Rattle.pua_script.proofs.ForCallers.{by_filing}
 use Rattle.std.specs.Prelude.{Result, Ok, Err}
+use Rattle.pua_script.specs.declared.request.Action.TheVariants.{Chroot}
+use Rattle.pua_script.proofs.ForCallers.{by_rooting}
 
 module _ (table : CallTable) (w : World) (h : ProcessState) (lacks : may_edit table h ≡ false) where
   -- a change that leaves the tree
@@ -85,6 +87,7 @@ module _ (table : CallTable) (w : World) (h : ProcessState) (lacks : may_edit ta
   keeps_by (Hold number asked path) c d = subst Keeps (sym d.1) (by_filing Keeps refl number (file_opened w.tree asked (node_named d.0)) (λ file. refl))
   keeps_by (Close number) c d = subst Keeps (sym d.2) refl
   keeps_by (Fchdir number) c d = subst Keeps (sym d.is) refl
+  keeps_by (Chroot path) c d = subst Keeps (sym d.is) (by_rooting Keeps refl d.object (λ dir. refl))
   keeps_by (Take number from theirs) c d = subst Keeps (sym d.1) (keeps_taken number from theirs)
   keeps_by Comment c d = subst Keeps (sym d) refl
 

@@ -2,7 +2,7 @@
 use Rattle.pua_ever.proofs.Common.{◌≡◌, ◌<◌, ◌≤◌, ℕ, [], ◌∷◌, ◌++◌, Bool, true, false, cond, refl, sym, ap, subst, ◌∙◌, arith}
 use Rattle.pua_ever.proofs.Common.{Option, Some, None}
 use Rattle.pua_ever.proofs.Common.{and_parts, Tree, WellFormed, is_dir, None≢Some, state_after, Followed}
-use Rattle.pua_ever.proofs.Common.{Found, Whole, Slot, resolutions_fit, CallTable, execpromises_by, ProcessState, perms_kept, same_place, working_dir}
+use Rattle.pua_ever.proofs.Common.{Found, Whole, Slot, resolutions_fit, CallTable, execpromises_by, ProcessState, perms_kept, same_place, start}
 use Rattle.pua_ever.proofs.Common.{same_place_is, Asked, World, kept_at}
 use Rattle.pua_ever.proofs.Common.{apply, world_after, named_within_text}
 use Rattle.pua_ever.proofs.Common.{EditsNeedC, VeilsStand}
@@ -25,6 +25,7 @@ use Rattle.pua_ever.proofs.Leaving.{Keeping, decided_so, all_so, first_so}
 use Rattle.pua_ever.proofs.Growing.{numbers_grow}
 use Rattle.pua_ever.proofs.Covers.{living_dir, below_next}
 use Rattle.pua_ever.proofs.Complete.{beside_one, ever_complete}
+use Rattle.pua_path.specs.Resolution.{rooted}
 
 module _ (t : Tree) (h : ProcessState) (well : WellFormed t) (stand : VeilsStand t h) where
   after_program : (left : ExecPromises) → VeilsStand t (after_exec left h)
@@ -59,8 +60,8 @@ module _ (table : CallTable) (needs : EditsNeedC table) where
         more = λ event same at perms is. stand at perms (ap (λ vs. veil_at vs at) (sym same) ∙ is);
         program = λ may. after_program w.tree h well stand (execpromises_by table.whose);
         veiled = λ path letters c is d. veiled w.tree h well stand d.object d.perms
-            ((resolutions_fit w.tree well).whole (working_dir h) Dot path Followed d.object
-            (named_within_text w.tree (working_dir h) Dot path Followed d.object d.found)).fits;
+            ((resolutions_fit (rooted w.tree 0) well well.root).whole (start h) Dot path Followed d.object
+            (named_within_text w.tree (start h) Dot path Followed d.object d.found)).fits;
       }
 
       later : (u : Tree) → w.tree.next ≤ u.next → (g : ProcessState) → VeilsStand w.tree g → VeilsStand u g

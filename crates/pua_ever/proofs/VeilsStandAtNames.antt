@@ -2,7 +2,7 @@
 use Rattle.pua_ever.proofs.Common.{◌≡◌, ℕ, [], ◌∷◌, List, Bool, true, false, cond, refl, sym, ap, subst, ◌∙◌}
 use Rattle.pua_ever.proofs.Common.{Option, Some, None, Result, Ok, Err}
 use Rattle.pua_ever.proofs.Common.{and_parts, and_from, Tree, Followed}
-use Rattle.pua_ever.proofs.Common.{Found, Whole, Slot, CallTable, execpromises_by, ProcessState, veils, same_place, working_dir}
+use Rattle.pua_ever.proofs.Common.{Found, Whole, Slot, CallTable, execpromises_by, ProcessState, veils, same_place, start}
 use Rattle.pua_ever.proofs.Common.{Place, Asked, World, kept_at}
 use Rattle.pua_ever.proofs.Common.{apply, world_after}
 use Rattle.std.specs.List.{list_all}
@@ -73,7 +73,7 @@ module _ (table : CallTable) where
         more = λ event same. ap (list_all at_place) same ∙ placed;
         program = λ may. after_program h placed (execpromises_by table.whose);
         veiled = λ path letters c is d. placed_veil (place_of d.object) d.perms (veils h)
-            (place_found _ w.tree is_tree (text_named w.tree is_tree (working_dir h) Dot path Followed (ap is_in_bytes (sym is) ∙ small)) d.object
+            (place_found _ w.tree is_tree (text_named w.tree is_tree (start h) Dot path Followed (ap is_in_bytes (sym is) ∙ small)) d.object
             d.found) placed;
       }
 

@@ -33,6 +33,7 @@ use Rattle.pua_script.specs.declared.request.Action.TheVariants.{OnPath}
 use Rattle.pua_script.specs.declared.answer.Answer.TheVariants.{Okay}
 use Rattle.pua_objects.specs.Objects.{At, Others, Line, objects, own_way}
 use Rattle.pua_ever.specs.Ever.{NewDir, NewOthers, NewFile, NewLink, Thing, Stands, Comes, EverLine, turning_calls, is_turned_there, ever}
+use Rattle.pua_path.specs.declared.found.Start.{Start}
 
 -- the calls that make a name or take one away need `c`, and so do both names of rename and the new one of link: its old
 -- name stays, whatever it needs
@@ -95,7 +96,7 @@ IsForeseen t table h later call named = IsForeseenIn (ever t table h) t h later 
 -- process, the line of what it names has the call; a path of more bytes than a request can have names nothing
 abbrev pub ForeseesIn : List EverLine → Tree → CallTable → ProcessState → Tree → ProcessState → Type 0
 ForeseesIn lines t table now later last =
-    (from : ℕ) (call : Call) (text : List ℕ) →
+    (from : Start) (call : Call) (text : List ℕ) →
     let named = resolution_of_text later from (ending_of call) text (last_of call) in
     verdict_of later table last call named ≡ Allowed → IsForeseenIn lines t now later call named
 
@@ -163,7 +164,7 @@ IsStartForeseen t table h later object = IsStartForeseenIn (ever t table h) t h 
 
 abbrev pub ForeseesStartsIn : List EverLine → Tree → CallTable → (now holder : ProcessState) → Tree → ProcessState → Type 0
 ForeseesStartsIn lines t table now holder later last =
-    (from : ℕ) (text : List ℕ) (dir : ℕ) (name : List ℕ) (node : ℕ) →
+    (from : Start) (text : List ℕ) (dir : ℕ) (name : List ℕ) (node : ℕ) →
     resolution_of_text later from (ending_of call.Exec) text (last_of call.Exec) ≡ Ok (Slot dir name (Some node)) →
     kind_at later node ≡ Some kind.File →
     covered_verdict later table last call.Exec (cover later last (Slot dir name (Some node))) IsProg ≡ Allowed →

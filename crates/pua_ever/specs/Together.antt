@@ -1,7 +1,7 @@
 -- What several processes with the same veils can ever touch together: what one could that holds what any of them holds, and
 -- hands down what any of them hands down. It is more than each could: what the one can move, the other can read.
 use Rattle.std.specs.Prelude.{◌≡◌, ◌≢◌, ◌⊎◌, ℕ, Bool, true, false, not, ◌&&◌, ◌||◌, if◌then◌else◌, List, [], ◌∷◌, map, bit_or, Option, Some, None, Ok, IsTrue}
-use Rattle.std.specs.List.{AllByRecursion}
+use Rattle.std.specs.List.{AllByRecursion, Contains}
 use Rattle.pua_tree.specs.Tree.{Tree}
 use Rattle.pua_tree.specs.Listing.{listing}
 use Rattle.pua_calls.specs.Promises.{holds, unveil}
@@ -9,7 +9,8 @@ use Rattle.pua_calls.specs.Calls.{CallTable}
 use Rattle.pua_calls.specs.TmpTable.{tmp_table}
 use Rattle.pua_calls.specs.declared.rules.Rules.{Rules}
 use Rattle.pua_calls.specs.declared.call.Call.TheVariants as call
-use Rattle.pua_policy.specs.States.{ProcessState, SameVeils, held_set, held_for_exec, is_locked, is_ended}
+use Rattle.pua_policy.specs.States.{ProcessState, SameVeils, file_at, held_set, held_for_exec, is_locked, is_ended, with_file}
+use Rattle.pua_policy.specs.declared.open_file.OpenFile.{OpenFile}
 use Rattle.pua_script.specs.Bytes.{are_in_bytes}
 use Rattle.pua_script.specs.Scripts.{script_by}
 use Rattle.pua_script.specs.Requests.{Asked}
@@ -18,7 +19,8 @@ use Rattle.pua_script.specs.Laws.{IsConfined}
 use Rattle.pua_script.specs.Family.{family, is_member, none_done, is_exec, HasKept}
 use Rattle.pua_script.specs.Tightening.{NoCallNeedsError}
 use Rattle.pua_script.specs.Confinement.{TreesAlong}
-use Rattle.pua_ever.specs.Laws.{EditsNeedC, VeilsStand, MembersEdit, Foresees, ForeseesIn}
+use Rattle.pua_ever.specs.Ever.{is_turned_held}
+use Rattle.pua_ever.specs.Laws.{EditsNeedC, VeilsStand, MembersEdit, Foresees, ForeseesIn, ForeseesStarts}
 use Rattle.pua_ever.specs.Through.{is_promised_by, bound_of, ever_lasting, execs_of}
 use Rattle.pua_ever.specs.declared.lasting_list.ExecBound.TheVariants.{Open}
 
@@ -58,14 +60,41 @@ confined_part locked held None = None
 confined_part locked held (Some given) =
     if locked || (not (holds held unveil) && not (holds given unveil)) then Some given else None
 
+-- an open file with the letters of another too, if there is another
+abbrev pub with_letters : Option OpenFile → OpenFile → OpenFile
+with_letters None file = file
+with_letters (Some other) file = record file { letters = bit_or other.letters file.letters }
+
+-- one open file more, under the number of its node, with the letters of what is open of that node already
+abbrev pub gathering : List (ℕ × OpenFile) → OpenFile → List (ℕ × OpenFile)
+gathering files file = with_file file.node (with_letters (file_at files file.node) file) files
+
+-- those of a process more
+abbrev pub gather : List (ℕ × OpenFile) → List (ℕ × OpenFile) → List (ℕ × OpenFile)
+gather files [] = files
+gather files (held ∷ more) = gather (gathering files held.1) more
+
+abbrev pub gather_all : List (ℕ × OpenFile) → List ProcessState → List (ℕ × OpenFile)
+gather_all files [] = files
+gather_all files (h ∷ more) = gather_all (gather files h.files) more
+
+-- what any of them has open: one file of each node, with the letters of all
+abbrev pub files_together : ProcessState → List ProcessState → List (ℕ × OpenFile)
+files_together first more = gather_all (gather [] first.files) more
+
 -- the one that holds and hands down all of it, with the veils of the first; it can put none, as none of them can
-abbrev pub process_by : ProcessState → Joint → ProcessState
-process_by first joint =
+abbrev pub process_by : ProcessState → List (ℕ × OpenFile) → Joint → ProcessState
+process_by first files joint =
     let held = bit_or (held_set first) joint.held in
-    record first { promises = Some held; execpromises = confined_part joint.locked held joint.given; locked = true }
+    record first {
+      promises = Some held;
+      execpromises = confined_part joint.locked held joint.given;
+      locked = true;
+      files = files;
+    }
 
 abbrev pub joined : CallTable → ProcessState → List ProcessState → ProcessState
-joined table first more = process_by first (joint_after table (joint_of table first) more)
+joined table first more = process_by first (files_together first more) (joint_after table (joint_of table first) more)
 
 -- The laws.
 
@@ -80,6 +109,12 @@ pub record ActTogether (w : World) (members : List ℕ) (first : ProcessState) (
   pub processes : map (kept_at w) members ≡ map Some (first ∷ more)
   pub alike : AllByRecursion (IsOneOf first) (first ∷ more)
 
+-- what any of them has open so that it can be made a program, the one has open so
+abbrev pub JoinedTurns : Type 0
+JoinedTurns =
+    (table : CallTable) (first : ProcessState) (more : List ProcessState) (h : ProcessState) → Contains (first ∷ more) h →
+    (node : ℕ) → IsTrue (is_turned_held h node) → IsTrue (is_turned_held (joined table first more) node)
+
 -- whatever they ask for, and whatever they fork, as long as no exec of theirs is answered ok and others leave the tree as it
 -- is: each call that is then allowed to a member has its line in the list of the one that stands for all
 abbrev pub EverTogether : Type 0
@@ -91,6 +126,17 @@ EverTogether =
     (member : ℕ) → IsTrue (is_member (family table w asks members) member) →
     let after = world_after table w asks in
     HasKept after member (Foresees w.tree (tmp_table table) one after.tree)
+
+-- so where a kernel makes programs of what they make, write or set the mode of, it starts none whose line has no exec
+abbrev pub TogetherStarts : Type 0
+TogetherStarts =
+    (table : CallTable) → NoCallNeedsError table → EditsNeedC table →
+    (w : World) (asks : List Asked) (members : List ℕ) (first : ProcessState) (more : List ProcessState) → ActTogether w members first more →
+    let one = joined table first more in
+    VeilsStand w.tree one → TreesAlong table w asks → IsTrue (none_done is_exec table w asks members) → MembersEdit table w asks members →
+    (member : ℕ) → IsTrue (is_member (family table w asks members) member) →
+    let after = world_after table w asks in
+    HasKept after member (ForeseesStarts w.tree (tmp_table table) one after.tree)
 
 -- and through execs where all that they start is bounded
 abbrev pub TogetherLasts : Type 0

@@ -1,10 +1,12 @@
 -- Worked rows on what several processes can ever touch together, in the tree of the rows through execs.
-use Rattle.std.specs.Prelude.{◌≡◌, ◌+◌, ℕ, List, [], ◌∷◌, codes, refl}
-use Rattle.pua_calls.specs.Promises.{rpath, wpath, cpath, exec, unveil, executing}
+use Rattle.std.specs.Prelude.{◌≡◌, ◌+◌, ℕ, List, [], ◌∷◌, Some, None, codes, refl}
+use Rattle.pua_tree.specs.declared.node.Kind.TheVariants.{File}
+use Rattle.pua_calls.specs.Promises.{rpath, wpath, cpath, fattr, exec, unveil, reading, writing, executing}
 use Rattle.pua_calls.specs.Calls.{standard_table}
 use Rattle.pua_policy.specs.States.{ProcessState}
+use Rattle.pua_policy.specs.declared.open_file.OpenFile.{OpenFile}
 use Rattle.pua_ever.specs.Together.{joined}
-use Rattle.pua_ever.specs.ThroughExamples.{starting, unlocked, handing_none, reads, alone, together, lines_lasting}
+use Rattle.pua_ever.specs.ThroughExamples.{starting, unlocked, handing_none, holds_open, reads, alone, together, lines_lasting}
 
 abbrev pub lines_together : ProcessState → List ProcessState → List (List ℕ)
 lines_together h more = lines_lasting standard_table (joined standard_table h more)
@@ -20,6 +22,27 @@ moved_and_read =
     ∷ codes "other new mkdir,symlink"
     ∷ codes "link new lstat,readlink,unlink"
     ∷ []
+
+-- `/in` has x, and these are open to who holds this and hands nothing down
+abbrev pub opened : ℕ → List (ℕ × OpenFile) → ProcessState
+opened held files = record (holds_open 0) { promises = Some held; execpromises = None; files = files }
+
+-- the file in `/in`, under these letters
+abbrev pub file_in : ℕ → OpenFile
+file_in letters = record { node = 3; kind = File; letters = letters }
+
+-- who can start a program and has no file, and who has one and can start nothing
+abbrev pub starts_none_open : ProcessState
+starts_none_open = opened exec []
+
+abbrev pub has_open : ℕ → ℕ → ProcessState
+has_open held letters = opened held ((5, file_in letters) ∷ [])
+
+abbrev pub program_alone : List (List ℕ)
+program_alone = codes "prog /p exec" ∷ []
+
+abbrev pub file_and_program : List (List ℕ)
+file_and_program = codes "file /in/s exec" ∷ codes "prog /p exec" ∷ []
 
 pub record TogetherRows : Type 0 where
   -- the one can only read, the other can only move
@@ -47,6 +70,17 @@ pub record TogetherRows : Type 0 where
   pub unlocked_one : lines_together reads (unlocked (cpath + unveil) ∷ []) ≡ alone
   -- of a single one the list is its own
   pub single : lines_together reads [] ≡ together
+  -- what one has open to write another starts, in either order; what is open to read alone stays no program
+  pub none_open : lines_together starts_none_open [] ≡ program_alone
+  pub writes_starts_none : lines_together (has_open rpath writing) [] ≡ []
+  pub opened_by_second : lines_together starts_none_open (has_open rpath writing ∷ []) ≡ file_and_program
+  pub opened_by_first : lines_together (has_open rpath writing) (starts_none_open ∷ []) ≡ file_and_program
+  pub opened_to_read : lines_together starts_none_open (has_open rpath reading ∷ []) ≡ program_alone
+  -- but where one sets modes
+  pub mode_set_by_other : lines_together starts_none_open (has_open rpath reading ∷ opened fattr [] ∷ []) ≡ file_and_program
+  -- by the same number another file is open, and by another number the same with fewer letters: no letter is lost
+  pub same_number : lines_together (opened exec ((5, record (file_in writing) { node = 4 }) ∷ [])) (has_open rpath writing ∷ []) ≡ file_and_program
+  pub letters_of_both : lines_together (has_open rpath writing) (opened exec ((6, file_in reading) ∷ []) ∷ []) ≡ file_and_program
 
 pub together_rows : TogetherRows
 together_rows = record {
@@ -59,4 +93,12 @@ together_rows = record {
   unbounded = refl;
   unlocked_one = refl;
   single = refl;
+  none_open = refl;
+  writes_starts_none = refl;
+  opened_by_second = refl;
+  opened_by_first = refl;
+  opened_to_read = refl;
+  mode_set_by_other = refl;
+  same_number = refl;
+  letters_of_both = refl;
 }

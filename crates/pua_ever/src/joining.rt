@@ -5,6 +5,7 @@ ghost use Rattle.pua_ever.specs.Joints.{joint_told};
 ghost use Rattle.pua_ever.specs.Together.{either_given, handed_down as handed};
 ghost use Rattle.pua_ever.specs.Together.{confined_part, joined, joint_after, joint_of, with_one};
 
+use crate::gathering::open_together;
 use crate::lasting::is_promised;
 use pua_calls::{Call, CallTable, Promises, Rules};
 use pua_policy::Process;
@@ -23,8 +24,10 @@ struct Joint {
 /// Makes the process that stands for several, to be asked what they can ever touch together: it has
 /// their veils and is locked, holds what any of them holds, and hands down what any of them does
 /// that can start a program. It hands nothing down where one of these has no execpromises, or a
-/// program could put veils. That the processes live, have the same veils and can put no more is for
-/// the caller to see to. The only error is that a growth was refused.
+/// program could put veils. What any of them has open it has open: one file of each node, with the
+/// letters of all, under the number of the node, since the descriptors of several may be the same.
+/// That the processes live, have the same veils and can put no more is for the caller to see to.
+/// The only error is that a growth was refused.
 pub fn join(
     alloc: Global,
     first: &Process,
@@ -36,6 +39,7 @@ pub fn join(
 {
     let joint = joint_after(table, Joint::of(first, table), more);
     let mut one = first.with_both(alloc, joint.held)?;
+    open_together(alloc, &mut one, first, more)?;
     let given = confined_part(joint.locked, one.held(), joint.given);
     // It hands nothing down so far, so nothing refuses this.
     let _given = one.pledge(Rules::Standard, None, given);

@@ -1,6 +1,11 @@
 //! Laws and worked examples, each the contract of a function that does nothing.
 
 ghost use Rattle.pua_ever.specs.ComingExamples.{ComingRows};
+ghost use Rattle.pua_ever.specs.EnclosedExamples.{EnclosedRows};
+ghost use Rattle.pua_ever.specs.EnclosedForEver.{EnclosedBegins, EnclosedStay};
+ghost use Rattle.pua_ever.specs.EnclosedForEver.{EnclosedThroughExecs, EnclosedWithExecs};
+ghost use Rattle.pua_ever.specs.EnclosedForEver.{EverInside, EverShown, EverShownAfterRead};
+ghost use Rattle.pua_ever.specs.EnclosedForEver.{EverShownLasts, InsideThroughExecs};
 ghost use Rattle.pua_ever.specs.Examples.{EverRows, MovedRows, StartedRows};
 ghost use Rattle.pua_ever.specs.Laws.{EverAfterRead, EverAsRead, EverBeside, EverComplete, EverOfMany};
 ghost use Rattle.pua_ever.specs.Laws.{EverWithExecs, OkaysAreForeseen};
@@ -11,7 +16,8 @@ ghost use Rattle.pua_ever.specs.Through.{EverLasts, EverLastsAfterRead, EverThro
 ghost use Rattle.pua_ever.specs.Through.{FamiliesConfineThrough, FamiliesGoAlong};
 ghost use Rattle.pua_ever.specs.Through.{FamiliesNarrowThrough, NowWithinLasting, StartsThroughExecs};
 ghost use Rattle.pua_ever.specs.ThroughExamples.{ThroughRows};
-ghost use Rattle.pua_ever.specs.Together.{EverTogether, TogetherAfterRead, TogetherLasts};
+ghost use Rattle.pua_ever.specs.Together.{EverTogether, JoinedTurns, TogetherAfterRead};
+ghost use Rattle.pua_ever.specs.Together.{TogetherLasts, TogetherStarts};
 ghost use Rattle.pua_ever.specs.TogetherExamples.{TogetherRows};
 
 /// Whatever a process that can put no veil any more and what it forks ask for, as long as nobody
@@ -101,9 +107,13 @@ pub fn through_examples()
 /// and what they fork ask for, as long as nobody else changes the tree and no exec of theirs
 /// succeeds, each call that is then allowed to one of them has its line in the list of the one that
 /// stands for all of them. So it is through execs, where all that they start is bounded, and after
-/// a listing and a script as a command reads them.
+/// a listing and a script as a command reads them. A file that is made, or that a call of its line
+/// can make a program, or that any of them held open so that it could be written or its mode be
+/// set, has exec in its line wherever it could be started, were it a program.
 pub fn together_law()
     ensures together { EverTogether }
+    ensures turns { JoinedTurns }
+    ensures starts { TogetherStarts }
     ensures lasts { TogetherLasts }
     ensures read { TogetherAfterRead }
 {}
@@ -112,4 +122,29 @@ pub fn together_law()
 #[tactic(auto, using(crate::specs::TogetherExamples::together_rows))]
 pub fn together_examples()
     ensures { TogetherRows }
+{}
+
+/// A process that is enclosed in its root and lacks the promise by which a root is changed is so for
+/// ever: whatever it and what it forks ask for, as long as nobody else changes the tree and no exec
+/// of theirs succeeds, each of them stays so, the rows outside of the root stay, and what is at or
+/// below it was there, or was made there. So it is of several processes with one root, and through
+/// execs, where all that is started is bounded and lacks that promise. Each call that is then
+/// allowed to one of them, on a path that it can spell, has its line in the list of the beginning,
+/// cut at the root, and so after a listing and a script as a command reads them.
+pub fn enclosed_law()
+    ensures begins { EnclosedBegins }
+    ensures stay { EnclosedStay }
+    ensures many { EnclosedWithExecs }
+    ensures through { EnclosedThroughExecs }
+    ensures inside { EverInside }
+    ensures shown { EverShown }
+    ensures inside_through { InsideThroughExecs }
+    ensures lasts { EverShownLasts }
+    ensures after_read { EverShownAfterRead }
+{}
+
+/// Examples of lists for ever that are cut at a root.
+#[tactic(auto, using(crate::specs::EnclosedExamples::enclosed_rows))]
+pub fn enclosed_examples()
+    ensures { EnclosedRows }
 {}

@@ -2,7 +2,7 @@
 use Rattle.std.proofs.Common.{◌≡◌, ◌≢◌, ◌∙◌, ◌∷◌, ℕ, List, [], length, ap, arith, sym}
 use Rattle.pua_tree.specs.Tree.{Tree, WellFormed}
 use Rattle.pua_calls.specs.Calls.{CallTable}
-use Rattle.pua_policy.specs.States.{ProcessState, working_dir}
+use Rattle.pua_policy.specs.States.{ProcessState, start}
 use Rattle.pua_policy.specs.Verdict.{verdict_on}
 use Rattle.pua_calls.specs.declared.call.Call.{Call}
 use Rattle.pua_policy.specs.declared.answer.Verdict.TheVariants.{Allowed}
@@ -21,7 +21,7 @@ use Rattle.pua_objects.specs.declared.list.ListItem.{ListItem}
 pub nowhere : Complete → (t : Tree) (table : CallTable) (h : ProcessState) → WellFormed t → objects t table h ≡ [] →
     (call : Call) (text : List ℕ) → verdict_on t table h call text ≢ Allowed
 nowhere complete t table h tree none call text allowed =
-    let listed = complete t table h (working_dir h) call text tree allowed in
+    let listed = complete t table h (start h) call text tree allowed in
     omega (arith, listed.listed.1, ap length none)
 
 -- an item without calls has no line, and one with calls has

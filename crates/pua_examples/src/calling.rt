@@ -27,7 +27,7 @@ use pua_calls::needs::ending;
 use pua_calls::{Call, CallTable};
 use pua_ever::{EverFault, ever_law, list_ever};
 use pua_objects::{completeness_law, line_of, list_items};
-use pua_path::{Counted, Ending, Errno, Found, Last, PathText, resolve};
+use pua_path::{Counted, Ending, Errno, Found, Last, PathText, Start, resolve};
 use pua_policy::judge::verdict_of;
 use pua_policy::{Process, Verdict};
 use pua_script::{Answer, Script, ScriptFault, World, read_script};
@@ -98,14 +98,14 @@ pub(crate) fn ask<T: FileTree>(
     ensures { result ≡ verdict_on (T.content tree.now) table.now process.now call path.now }
 {
     let mut probe = Counted::new(tree);
-    let found = name(&mut probe, process.dir(), path, ending(call), call.last());
+    let found = name(&mut probe, process.start(), path, ending(call), call.last());
     verdict_of(&mut probe, process, table, call, found)
 }
 
-/// What a path names from a directory.
+/// What a path names from a root and a directory.
 fn name<T: FileTree>(
     probe: &mut Counted<'_, T>,
-    from: NodeId,
+    from: Start,
     path: &[u8],
     ending: Ending,
     last: Last,

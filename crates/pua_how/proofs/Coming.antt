@@ -10,7 +10,7 @@ use Rattle.pua_path.specs.declared.found.Found.{Found}
 use Rattle.pua_calls.specs.Calls.{CallTable, ending_of, last_of}
 use Rattle.pua_calls.specs.TmpTable.{tmp_table}
 use Rattle.pua_calls.specs.declared.call.Call.{Call}
-use Rattle.pua_policy.specs.States.{ProcessState, perms_kept, working_dir}
+use Rattle.pua_policy.specs.States.{ProcessState, perms_kept, start}
 use Rattle.pua_policy.specs.Verdict.{verdict, verdict_of}
 use Rattle.pua_policy.specs.Verdict.{object_named}
 use Rattle.pua_policy.specs.declared.answer.Verdict.TheVariants.{Allowed}
@@ -30,6 +30,8 @@ use Rattle.pua_how.specs.Laws.{NeverComes, NeverComesThrough, WaysAreListed}
 use Rattle.pua_how.proofs.LineOfTarget.{line_about, listed_by, same_veils_same}
 use Rattle.pua_how.proofs.Lived.{LivesThing, lasting_lives, listed_lives}
 use Rattle.pua_ever.specs.Ever.{EverLine, ever}
+use Rattle.pua_path.specs.declared.found.Start.{Start}
+use Rattle.pua_script.specs.declared.request.Action.TheVariants.{Chroot}
 
 same_ok : (a b : Found) → ◌≡◌ {A = Result Found Errno} (Ok a) (Ok b) → a ≡ b
 same_ok a b e = cc
@@ -41,7 +43,7 @@ same_some a b e = cc
 pub unforeseen : (lines : List EverLine) (t u : Tree) (table : CallTable) (now last : ProcessState) → WellFormed t →
     ((line : EverLine) → Contains lines line → LivesThing t line.thing) → ForeseesIn lines t table now u last →
     (asked : Target) (call : Call) → IsGiven t asked → is_listed lines asked call ≡ false →
-    (from : ℕ) (text : List ℕ) (object : Found) → resolution_of_text u from (ending_of call) text (last_of call) ≡ Ok object →
+    (from : Start) (text : List ℕ) (object : Found) → resolution_of_text u from (ending_of call) text (last_of call) ≡ Ok object →
     is_of u now asked object ≡ true → verdict u table last call object ≡ Allowed → ⊥
 unforeseen lines t u table now last well live foresees asked call given unlisted from text object named same allowed =
     let foreseen : IsForeseenIn lines t now u call (resolution_of_text u from (ending_of call) text (last_of call)) =
@@ -89,6 +91,7 @@ module _ (table : CallTable) (process : ℕ) where
   child_more (Hold number call path) members e = e
   child_more (Close number) members e = e
   child_more (Fchdir number) members e = e
+  child_more (Chroot path) members e = e
   child_more (Take number from theirs) members e = e
   child_more Comment members e = e
 
@@ -150,7 +153,7 @@ ways_are_listed complete table sound needs w process now here confined stand ask
     let narrow_is : narrow.0 ≡ h = same_some narrow.0 h (sym narrow.1 ∙ way.reaches.kept) in
     let foresees : Foresees w.tree tmp now before.tree h = subst (Foresees w.tree tmp now before.tree) last_is last.2 in
     let foreseen : IsForeseen w.tree tmp now before.tree call (object_named before.tree h call way.text) =
-    foresees (working_dir h) call way.text (ap (verdict_of before.tree tmp h call) way.reaches.named ∙ way.reaches.allowed) in
+    foresees (start h) call way.text (ap (verdict_of before.tree tmp h call) way.reaches.named ∙ way.reaches.allowed) in
     let is : foreseen.object ≡ way.reaches.object =
     same_ok foreseen.object way.reaches.object (sym foreseen.names ∙ way.reaches.named) in
     let well = first_tree table w way.first trees in

@@ -19,6 +19,7 @@ use Rattle.pua_script.specs.declared.request.Action.{Action}
 use Rattle.pua_script.specs.declared.request.Action.TheVariants.{OnPath, Symlink, Rename, Link, Pledge, Unveil, Lock, Fork, Exit, Uses, Hold, Close, Fchdir, Take, Comment}
 use Rattle.pua_script.proofs.ForCallers.{by_request, by_decision, decisions_are_guarded, put_back}
 use Rattle.pua_how.specs.Ways.{call_of}
+use Rattle.pua_script.specs.declared.request.Action.TheVariants.{Chroot}
 
 module _ (w : World) (process : ℕ) (h : ProcessState) (here : kept_at w process ≡ Some h) where
   -- where it is answered `ok`, what it leaves is the world
@@ -81,6 +82,7 @@ look_leaves table w ask call text called looks = by ask.action refl called
     by (Hold number other path) is same = absurd (None≢Some (call, text) same)
     by (Close number) is same = absurd (None≢Some (call, text) same)
     by (Fchdir number) is same = absurd (None≢Some (call, text) same)
+    by (Chroot path) is same = absurd (None≢Some (call, text) same)
     by (Take number from theirs) is same = absurd (None≢Some (call, text) same)
     by Comment is same = absurd (None≢Some (call, text) same)
 

@@ -13,7 +13,8 @@ use Rattle.pua_script.specs.Family.{is_exec, is_okay}
 use Rattle.pua_script.specs.Worlds.{WorldState, apply_to, world_of}
 use Rattle.pua_script.specs.declared.answer.Answer.{Answer}
 use Rattle.pua_script.specs.declared.answer.Answer.TheVariants as answers
-use Rattle.pua_how.specs.Steps.{comes, goes_on, is_some_by, made_behind, request_of_step}
+use Rattle.pua_path.specs.declared.found.Start.{Start}
+use Rattle.pua_how.specs.Steps.{comes, goes_on, is_some_by, made_behind, request_of_step, start_in}
 use Rattle.pua_how.specs.declared.line.WayLine.{WayLine}
 use Rattle.pua_how.specs.declared.step.Step.{Step}
 use Rattle.pua_how.specs.declared.target.Target.{Target}
@@ -35,19 +36,19 @@ module _ (rules : Rules) (table : CallTable) (process : ℕ) (call : Call) (targ
   later = comes rules table process call target (rest ++ last ∷ [])
 
   comes_on : comes rules table process call target (step ∷ (rest ++ last ∷ [])) w made
-      ≡ is_some_by (goes_on table process call target later w made step) (request_of_step rules w.tree process made step)
+      ≡ is_some_by (goes_on table process call target later w made step) (request_of_step rules w.tree (start_in w process) process made step)
   comes_on = by rest
     where
       by : (rest : List Step) → comes rules table process call target (step ∷ (rest ++ last ∷ [])) w made
           ≡ is_some_by (goes_on table process call target (comes rules table process call target (rest ++ last ∷ [])) w made step)
-          (request_of_step rules w.tree process made step)
+          (request_of_step rules w.tree (start_in w process) process made step)
       by [] = refl
       by (next ∷ more) = refl
 
-  without_line : None ≡ request_of_step rules w.tree process made step → comes rules table process call target (step ∷ (rest ++ last ∷ [])) w made ≡ false
+  without_line : None ≡ request_of_step rules w.tree (start_in w process) process made step → comes rules table process call target (step ∷ (rest ++ last ∷ [])) w made ≡ false
   without_line none = comes_on ∙ ap (is_some_by (goes_on table process call target later w made step)) (sym none)
 
-  module _ (ask : Asked) (asked : Some ask ≡ request_of_step rules w.tree process made step) where
+  module _ (ask : Asked) (asked : Some ask ≡ request_of_step rules w.tree (start_in w process) process made step) where
     asked_on : comes rules table process call target (step ∷ (rest ++ last ∷ [])) w made ≡ goes_on table process call target later w made step ask
     asked_on = comes_on ∙ ap (is_some_by (goes_on table process call target later w made step)) (sym asked)
 
@@ -73,10 +74,10 @@ AreOn rules before process steps i now made =
 -- the next of them, as it is read
 module _ (rules : Rules) (before now : WorldState) (process : ℕ) (steps : List Step) (i : ℕ) (step : Step) (made : ℕ)
     (on : AreOn rules before process steps i now made) (within : i < length steps) (is : step ≡ slice_index_or steps i step)
-    (t : Tree) (tree : t ≡ now.tree) (read : Option WayLine)
-    (asked : option_map (λ (line : WayLine). line.request) read ≡ request_of_step rules t process made step) where
-  asked_now : option_map (λ (line : WayLine). line.request) read ≡ request_of_step rules now.tree process made step
-  asked_now = asked ∙ ap (λ u. request_of_step rules u process made step) tree
+    (t : Tree) (tree : t ≡ now.tree) (from : Start) (starts : from ≡ start_in (world_of now) process) (read : Option WayLine)
+    (asked : option_map (λ (line : WayLine). line.request) read ≡ request_of_step rules t from process made step) where
+  asked_now : option_map (λ (line : WayLine). line.request) read ≡ request_of_step rules now.tree (start_in (world_of now) process) process made step
+  asked_now = asked ∙ (λ i. request_of_step rules (tree i) (starts i) process made step)
 
   module _ (call : Call) (target : Target) (last : Step) where
     left : comes rules before.table process call target (steps ++ last ∷ []) (world_of before) 0
@@ -90,7 +91,7 @@ module _ (rules : Rules) (before now : WorldState) (process : ℕ) (steps : List
         (ap (option_map (λ (line : WayLine). line.request)) (no_line read none) ∙ asked_now)
 
   module _ (line : WayLine) (line_is : read ≡ Some line) where
-    its : Some line.request ≡ request_of_step rules now.tree process made step
+    its : Some line.request ≡ request_of_step rules now.tree (start_in (world_of now) process) process made step
     its = sym (ap (option_map (λ (line : WayLine). line.request)) line_is) ∙ asked_now
 
     pub exec_on : is_exec line.request.action ≡ true → (call : Call) (target : Target) (last : Step) →

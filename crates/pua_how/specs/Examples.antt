@@ -3,7 +3,9 @@ use Rattle.std.specs.Prelude.{◌≡◌, ◌+◌, ℕ, true, false, [], ◌∷�
 use Rattle.std.specs.Fmt.{digits}
 use Rattle.pua_tree.specs.Tree.{Tree, Node, empty_tree}
 use Rattle.pua_tree.specs.declared.node.Kind.TheVariants.{Dir, File}
+use Rattle.pua_path.specs.Resolution.{from_top}
 use Rattle.pua_path.specs.declared.found.Found.TheVariants.{Whole, Slot}
+use Rattle.pua_path.specs.declared.found.Start.{Start}
 use Rattle.pua_path.specs.declared.found.Way.TheVariants.{DotDot}
 use Rattle.pua_calls.specs.Promises.{rpath, wpath, cpath, tmppath, reading, writing, creating}
 use Rattle.pua_calls.specs.Calls.{standard_table, openbsd_table}
@@ -198,9 +200,36 @@ pid_name = at.Name (dir.Standing 3) (codes "pid")
 abbrev conf_name : At
 conf_name = at.Name (dir.Standing 1) (codes "conf")
 
+-- paths that start by this root and from this directory
+abbrev starts_at : ℕ → ℕ → Start
+starts_at root dir = record { root = root; dir = dir }
+
+-- `/run`, and beside it `/runs`
+abbrev near_tree : Tree
+near_tree = record empty_tree {
+  rows = ((0, codes "run"), 1) ∷ ((0, codes "runs"), 2) ∷ ((2, codes "in"), 3) ∷ [];
+  nodes = (0, directory) ∷ (1, directory) ∷ (2, directory) ∷ (3, directory) ∷ [];
+  next = 4;
+}
+
+-- who has `/run` as its root, and stands in it or outside
+abbrev rooted_world : World
+rooted_world = record { tree = pid_tree; processes = (1, record pid_now { start = starts_at 3 3 }) ∷ [] }
+
+abbrev open_world : World
+open_world = record { tree = pid_tree; processes = (1, record pid_now { start = starts_at 3 1 }) ∷ [] }
+
 pub record StepRows : Type 0 where
-  pub line : step_text pid_tree 1 0 (step.Link conf_name pid_name) ≡ codes "1 link /etc/conf /run/pid"
-  pub in_what_was_made : step_text pid_tree 1 3 (step.On call.Symlink (at.Name dir.Made (codes "x"))) ≡ codes "1 symlink target /run/x"
+  pub line : step_text pid_tree (from_top 0) 1 0 (step.Link conf_name pid_name) ≡ codes "1 link /etc/conf /run/pid"
+  pub in_what_was_made : step_text pid_tree (from_top 0) 1 3 (step.On call.Symlink (at.Name dir.Made (codes "x"))) ≡ codes "1 symlink target /run/x"
+  -- from a root of its own, and from the working directory to what isn't below that
+  pub from_root : step_text pid_tree (starts_at 3 0) 1 0 (step.Link conf_name pid_name) ≡ codes "1 link ../etc/conf /pid"
+  pub the_root : step_text pid_tree (starts_at 3 0) 1 0 (step.On call.Chdir (at.Directory 3)) ≡ codes "1 chdir /"
+  pub above_the_root : step_text pid_tree (starts_at 3 1) 1 0 (step.On call.Chdir (at.Directory 0)) ≡ codes "1 chdir ../"
+  pub another_name : step_text near_tree (starts_at 1 3) 1 0 (step.On call.Stat (at.Name (dir.Standing 2) (codes "x"))) ≡ codes "1 stat ../../runs/x"
+  pub chrooted : comes Standard standard_table 1 call.OpenRead (target.Node 4) (step.On call.OpenRead pid_name ∷ []) rooted_world 0 ≡ true
+  pub closed : comes Standard standard_table 1 call.OpenRead (target.Node 2) (step.On call.OpenRead conf_name ∷ []) rooted_world 0 ≡ false
+  pub left_open : comes Standard standard_table 1 call.OpenRead (target.Node 2) (step.On call.OpenRead conf_name ∷ []) open_world 0 ≡ true
   pub freed : comes Standard standard_table 1 call.Create (target.Name 3 (codes "pid")) (step.On call.Unlink pid_name ∷ step.On call.Create pid_name ∷ [])
       pid_world 0 ≡ true
   pub not_freed : comes Standard standard_table 1 call.Create (target.Name 3 (codes "pid")) (step.On call.Create pid_name ∷ []) pid_world 0 ≡ false
@@ -213,6 +242,13 @@ unfolding digits
 step_rows = record {
   line = refl;
   in_what_was_made = refl;
+  from_root = refl;
+  the_root = refl;
+  above_the_root = refl;
+  another_name = refl;
+  chrooted = refl;
+  closed = refl;
+  left_open = refl;
   freed = refl;
   not_freed = refl;
   refused = refl;

@@ -25,6 +25,7 @@ use Rattle.pua_how.specs.PathQuestion.{question_by, targets_of, thing_word}
 use Rattle.pua_how.specs.Targets.{IsGiven, is_listed, is_of, target_about}
 use Rattle.pua_how.specs.Ways.{IsWay}
 use Rattle.pua_how.specs.declared.target.Target.{Target}
+use Rattle.pua_path.specs.declared.found.Start.{Start}
 
 -- a call that no line about a thing has: whatever the process and what it forks alone ask for, as long as no exec of theirs
 -- is answered `ok`, it is then allowed to none of them on anything that is this thing, by whatever path from wherever. The requests
@@ -39,7 +40,7 @@ NeverComes =
     (asked : Target) (call : Call) → IsGiven w.tree asked → IsFalse (is_listed (ever w.tree (tmp_table table) now) asked call) →
     (member : ℕ) → IsTrue (is_member (family table w asks (process ∷ [])) member) →
     let after = world_after table w asks in
-    HasKept after member (λ last. (from : ℕ) (text : List ℕ) (object : Found) →
+    HasKept after member (λ last. (from : Start) (text : List ℕ) (object : Found) →
     resolution_of_text after.tree from (ending_of call) text (last_of call) ≡ Ok object → is_of after.tree now asked object ≡ true →
     verdict after.tree (tmp_table table) last call object ≡ Allowed → ⊥)
 
@@ -62,7 +63,7 @@ NeverComesThrough =
     (asked : Target) (call : Call) → IsGiven w.tree asked → IsFalse (is_listed (ever_lasting w.tree (tmp_table table) now) asked call) →
     (member : ℕ) → IsTrue (is_member (family table w asks (process ∷ [])) member) →
     let after = world_after table w asks in
-    HasKept after member (λ last. (from : ℕ) (text : List ℕ) (object : Found) →
+    HasKept after member (λ last. (from : Start) (text : List ℕ) (object : Found) →
     resolution_of_text after.tree from (ending_of call) text (last_of call) ≡ Ok object → is_of after.tree now asked object ≡ true →
     verdict after.tree (tmp_table table) last call object ≡ Allowed → ⊥)
 

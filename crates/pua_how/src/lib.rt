@@ -8,6 +8,7 @@ mod outlook;
 mod path_question;
 mod plan;
 mod serve;
+mod spelled;
 mod step;
 mod target;
 mod trials;

@@ -8,7 +8,7 @@ ghost use Rattle.pua_path.specs.Resolution.{resolution_of_text};
 ghost use Rattle.pua_policy.specs.Verdict.{is_allowed as allows, object_named};
 ghost use Rattle.pua_how.specs.Served.{AreGranted, AreWay};
 ghost use Rattle.pua_how.specs.Steps.{comes, is_some_by, is_the_call, names_asked};
-ghost use Rattle.pua_how.specs.Steps.{reaches as comes_to};
+ghost use Rattle.pua_how.specs.Steps.{reaches as comes_to, start_in};
 ghost use Rattle.pua_how.specs.Ways.{call_of as asked_for};
 ghost use Rattle.pua_how.specs.declared.step.Step.{Step as AnyStep};
 ghost use Rattle.pua_how.specs.declared.target.Target.{Target as Thing};
@@ -20,7 +20,7 @@ use crate::step::Step;
 use crate::target::Target;
 use pua_calls::needs::ending;
 use pua_calls::{Call, CallTable, Effect, Rules};
-use pua_path::{Counted, Ending, Errno, Found, Last, PathText, resolve};
+use pua_path::{Counted, Ending, Errno, Found, Last, PathText, Start, resolve};
 use pua_policy::judge::verdict;
 use pua_policy::{Process, Verdict};
 use pua_script::{Action, Answer, PathBytes, Request, World, WorldFault};
@@ -95,7 +95,16 @@ pub(crate) fn serve_last<T: FileTree>(
     ensures kept { IfOk result (λ found. IfSome found
         (λ _. effect_of call ≡ Effect.Looks → world.new ≡ world.old)) }
 {
-    let line = line_of(alloc, rules, world.tree(), process, step, served.made)?;
+    let from = start_of(world, process);
+    let line = line_of(
+        alloc,
+        rules,
+        world.tree(),
+        process,
+        &from,
+        step,
+        served.made,
+    )?;
     let Some(line) = line else {
         return Ok(None);
     };
@@ -127,7 +136,8 @@ pub(crate) fn serve_first<T: FileTree>(
     let mut lines = Vec::new(alloc);
     let mut made = NodeId::ROOT;
     for step in steps {
-        let line = line_of(alloc, rules, world.tree(), process, step, made)?;
+        let from = start_of(world, process);
+        let line = line_of(alloc, rules, world.tree(), process, &from, step, made)?;
         let Some(line) = line else {
             return Ok(None);
         };
@@ -141,6 +151,16 @@ pub(crate) fn serve_first<T: FileTree>(
         lines.push(line)?;
     }
     Ok(Some(Served { lines, made }))
+}
+
+/// Where the paths of a process start; at the top where there is no process of the number.
+fn start_of<T: FileTree>(world: &World<T>, number: u32) -> Start
+    ensures { result ≡ start_in (world_of world.now) number }
+{
+    match world.process(number) {
+        Some(process) => process.start(),
+        None => Start::from_top(NodeId::ROOT),
+    }
 }
 
 /// Whether a request is an exec.
@@ -231,7 +251,7 @@ fn judge<T: FileTree>(
 {
     let mut probe = Counted::new(tree);
     let wide = table.with_tmppath();
-    match named(&mut probe, process.dir(), path, ending(call), call.last()) {
+    match named(&mut probe, process.start(), path, ending(call), call.last()) {
         Ok(found) => {
             target.is(tree, process, &found)
                 && is_allowed(verdict(&mut probe, process, &wide, call, &found))
@@ -247,10 +267,10 @@ fn is_allowed(verdict: Verdict) -> bool
     matches!(verdict, Verdict::Allowed)
 }
 
-/// What a path names from a directory.
+/// What a path names from a root and a directory.
 fn named<T: FileTree>(
     probe: &mut Counted<'_, T>,
-    from: NodeId,
+    from: Start,
     path: &[u8],
     ending: Ending,
     last: Last,

@@ -163,18 +163,20 @@ pub state_same : (a b : ProcessState) → has_same_state a b ≡ true → a.file
 state_same a b e files_too veils_too =
     let one = both_same _ _ _ e in
     let two = and_parts (beq a.locked b.locked) _ one.2 in
-    let three = and_parts (a.dir == b.dir) _ two.1 in
+    let root_too = and_parts (a.start.root == b.start.root) _ two.1 in
+    let three = and_parts (a.start.dir == b.start.dir) _ root_too.1 in
     let promises = same_option a.promises b.promises one.0 in
     let given = same_option a.execpromises b.execpromises one.1 in
     let locked = same_bool a.locked b.locked two.0 in
-    let dir = eqb-true a.dir b.dir three.0 in
+    let root = eqb-true a.start.root b.start.root root_too.0 in
+    let dir = eqb-true a.start.dir b.start.dir three.0 in
     let ended = same_bool a.ended b.ended three.1 in
     λ z. record {
       promises = promises z;
       execpromises = given z;
       veils = veils_too z;
       locked = locked z;
-      dir = dir z;
+      start = record { root = root z; dir = dir z };
       ended = ended z;
       files = files_too z;
     }
@@ -185,7 +187,8 @@ same_state a b e =
     (and_from (option_eq (λ x y. x == y) a.promises a.promises) _ (option_same a.promises)
     (and_from (option_eq (λ x y. x == y) a.execpromises a.execpromises) _ (option_same a.execpromises)
     (and_from (beq a.locked a.locked) _ (bool_same a.locked)
-    (and_from (a.dir == a.dir) _ (eq-eqb a.dir a.dir refl) (bool_same a.ended)))))
+    (and_from (a.start.root == a.start.root) _ (eq-eqb a.start.root a.start.root refl)
+    (and_from (a.start.dir == a.start.dir) _ (eq-eqb a.start.dir a.start.dir refl) (bool_same a.ended))))))
 
 pub equal_by : (a b : ProcessState) (r : Bool) → has_same_state a b ≡ true → a.files ≡ b.files → Decides r (a.veils ≡ b.veils) → Decides r (a ≡ b)
 equal_by a b r same files d = (λ e. state_same a b same files (d.0 e), λ e. d.1 (ap (λ (p : ProcessState). p.veils) e))

@@ -33,7 +33,8 @@ use Rattle.pua_jointly.specs.declared.crew.Crew.{Crew}
 use Rattle.pua_jointly.specs.declared.crew.Entry.{Entry}
 use Rattle.pua_jointly.specs.declared.crew.Mark.{Mark}
 use Rattle.pua_jointly.specs.declared.crew.Watch.{Watch}
-use Rattle.pua_jointly.specs.declared.setup.Size.{Size}
+use Rattle.pua_jointly.specs.declared.shape.Shape.{Shape}
+use Rattle.pua_jointly.specs.declared.size.Size.{Size}
 use Rattle.pua_jointly.proofs.JointOlds.{if_some}
 use Rattle.pua_jointly.proofs.JointPlaced.{among_got, got_among}
 use Rattle.pua_jointly.proofs.JointWatched.{kept_among}
@@ -152,6 +153,13 @@ module _ (t : Tree) (well : WellFormed t) (table : CallTable) (c : Crew) (all : 
   abbrev n : ℕ
   n = length crew
 
+  -- where rows are
+  after_made : size.seats ≡ dirs_of c + c.shape.agents
+  after_made = subst (λ (s : Shape). size.seats ≡ (s.last + 1) + s.agents) sized.same size.after_made
+
+  after_drops : size.makers ≡ size.seats + (c.shape.agents + c.shape.agents)
+  after_drops = subst (λ (s : Shape). size.makers ≡ size.seats + (s.agents + s.agents)) sized.same size.after_drops
+
   kept_in : (a : ProcessState) (at : Place) (perms : ℕ) → Contains crew a → perms_kept a at ≡ Some perms → Among all (at, perms)
   kept_in a at perms among own =
       subst (λ vs. Among vs (at, perms)) (sym all_are)
@@ -224,10 +232,9 @@ module _ (t : Tree) (well : WellFormed t) (table : CallTable) (c : Crew) (all : 
           IsEntry t (dirs_of c) n i spot entry
       is_entry i spot entry is gives =
           let at = entries i entry is in
-          let room = sized.room in
           let one = at.row in
-          let two = room.seats in
-          let three = room.makers in
+          let two = after_made in
+          let three = after_drops in
           record {
             row = omega (arith, one, two, three, many);
             dir = ap (λ s. s.0) gives;
@@ -358,8 +365,8 @@ module _ (t : Tree) (well : WellFormed t) (table : CallTable) (c : Crew) (all : 
       only_watched = only_watched;
       many = many;
       columns = columns_are ∙ (let wide = sized.columns in omega (arith, wide, many, many_columns));
-      makers = makers_are ∙ (let one = sized.room.seats in let two = sized.room.makers in omega (arith, one, two, many));
-      seats = seats_are ∙ ap numbers (sized.room.seats ∙ ap (λ k. dirs_of c + k) many);
+      makers = makers_are ∙ (let one = after_made in let two = after_drops in omega (arith, one, two, many));
+      seats = seats_are ∙ ap numbers (after_made ∙ ap (λ k. dirs_of c + k) many);
       agents = are_agents;
       entries = record { each = each_row; only = only_row };
       in_order = ordered;

@@ -42,7 +42,7 @@ use Rattle.std.proofs.lemmas.List.Elements.{All-contains, All-from_recursion}
 use Rattle.pua_tree.specs.declared.node.Kind.{Kind}
 use Rattle.pua_tree.specs.declared.node.Kind.TheVariants as kind
 use Rattle.pua_tree.proofs.ForCallers.{Sound, is_living_dir, same_dir}
-use Rattle.pua_path.specs.Resolution.{resolution_of_text}
+use Rattle.pua_path.specs.Resolution.{resolution_of_text, rooted}
 use Rattle.pua_path.specs.declared.errno.Errno.{Errno}
 use Rattle.pua_calls.specs.Calls.{ending_of, last_of, rule_of, calls}
 use Rattle.pua_calls.specs.TmpTable.{tmp_table}
@@ -74,6 +74,7 @@ use Rattle.std.specs.Prelude.{flat_map, Result, Ok, Err, is_none, filter}
 use Rattle.pua_policy.specs.States.{held_set, may_any}
 use Rattle.pua_jointly.proofs.Jointly.{Known, of_then, of_maker, row_kind, Knows, knows_first, knows_then, dir_cover_all, name_cover_all}
 use Rattle.pua_jointly.proofs.Jointly.{free_missing, free_emptied}
+use Rattle.pua_path.specs.declared.found.Start.{Start}
 
 abbrev is_rmdir_call : Call → Bool
 is_rmdir_call call.Rmdir = true
@@ -406,13 +407,13 @@ module _ (table : CallTable) (t0 : Tree) (crew : List ProcessState) (well0 : Wel
       )
 
   -- what was found is what a path named
-  found_hit : (from : ℕ) (text : List ℕ) (object : Found) → resolution_of_text u from (ending_of c) text (last_of c) ≡ Ok object →
+  found_hit : (from : Start) (text : List ℕ) (object : Found) → resolution_of_text u from (ending_of c) text (last_of c) ≡ Ok object →
       verdict_of u table a c (Ok object) ≡ Allowed → Hit object
   found_hit from text object is e =
       let named = named_within_text u from (ending_of c) text (last_of c) object is in
-      hit object ((resolutions_fit u k.well).whole from (ending_of c) text (last_of c) object named) e
+      hit object ((resolutions_fit (rooted u 0) k.well k.well.root).whole from (ending_of c) text (last_of c) object named) e
 
-  pub jointly_foreseen : (from : ℕ) (text : List ℕ) → let named = resolution_of_text u from (ending_of c) text (last_of c) in
+  pub jointly_foreseen : (from : Start) (text : List ℕ) → let named = resolution_of_text u from (ending_of c) text (last_of c) in
       verdict_of u table a c named ≡ Allowed → IsJointlyForeseen t0 table crew a u c named
   jointly_foreseen from text = by (resolution_of_text u from (ending_of c) text (last_of c)) refl
     where
@@ -452,7 +453,7 @@ module _ (table : CallTable) (t0 : Tree) (crew : List ProcessState) (well0 : Wel
           (among_map (λ made. joint_line test [] (Comes made)) all_new new (one_new new))),
     )
 
-    pub jointly_listed : (from : ℕ) (text : List ℕ) → let named = resolution_of_text u from (ending_of c) text (last_of c) in
+    pub jointly_listed : (from : Start) (text : List ℕ) → let named = resolution_of_text u from (ending_of c) text (last_of c) in
         verdict_of u table a c named ≡ Allowed → IsForeseenIn (joint_lines t0 a test) t0 a u c named
     jointly_listed from text = by (resolution_of_text u from (ending_of c) text (last_of c)) refl
       where
@@ -570,7 +571,7 @@ module _ (table : CallTable) (sound : NoCallNeedsError table) (needs : EditsNeed
                 (allowed_is (verdict_of u tmp a call named) allowed);
             starts = λ from text dir name x named kinds allowed.
                 let object : Found = Slot dir name (Some x) in
-                let found = (resolutions_fit u k.well).whole from (ending_of call.Exec) text (last_of call.Exec) object
+                let found = (resolutions_fit (rooted u 0) k.well k.well.root).whole from (ending_of call.Exec) text (last_of call.Exec) object
                 (named_within_text u from (ending_of call.Exec) text (last_of call.Exec) object named) in
                 let needed = rule_of table call.Exec in
                 let parts = parts_of (may_any last.0 needed.alternatives) (cover_fault (cover u last.0 object) needed.perms)

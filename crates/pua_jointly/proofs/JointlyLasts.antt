@@ -6,7 +6,7 @@ use Rattle.pua_jointly.proofs.Common.{Among, among_map, map_among, among_contain
 use Rattle.pua_jointly.proofs.Common.{contained, not}
 use Rattle.std.proofs.lemmas.Bool.{not-true}
 use Rattle.pua_script.specs.Replay.{world_after}
-use Rattle.pua_policy.specs.States.{working_dir}
+use Rattle.pua_policy.specs.States.{start}
 use Rattle.pua_script.proofs.ForCallers.{Members, members_then, first_tree, verdicts_within}
 use Rattle.pua_script.specs.Confinement.{TreesAlong}
 use Rattle.pua_ever.specs.Laws.{EditsNeedC}
@@ -64,7 +64,7 @@ module _ (table : CallTable) (sound : NoCallNeedsError table) (needs : EditsNeed
           let named = object_named w.tree asker.0 call.Exec exec.path in
           let allowed = verdicts_within now asker.0 asker.2.within tmp (tmp_table_needs_no_error table sound) w.tree call.Exec named
           (ap is_allowed exec.allowed) in
-          let seen = jointly_foreseen tmp t0 crew well0 w.tree k now (all_stand now among) call.Exec (working_dir asker.0) exec.path
+          let seen = jointly_foreseen tmp t0 crew well0 w.tree k now (all_stand now among) call.Exec (start asker.0) exec.path
           (allowed_is (verdict_of w.tree tmp now call.Exec named) allowed) in
           never seen.thing seen.can
 

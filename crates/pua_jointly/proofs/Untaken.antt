@@ -5,7 +5,8 @@ use Rattle.pua_jointly.proofs.Common.{exact_spots, is_dir, look, Some≢None, Ca
 use Rattle.pua_jointly.proofs.Common.{Call, Asked, World, apply}
 use Rattle.pua_jointly.proofs.Common.{NoCallNeedsError}
 use Rattle.pua_ever.specs.Ever.{is_yes}
-use Rattle.pua_script.specs.declared.request.Action.TheVariants.{OnPath, Symlink, Rename, Link, Pledge, Unveil, Lock, Fork, Exit, Uses, Hold, Close, Fchdir, Take, Comment}
+use Rattle.pua_script.specs.declared.request.Action.TheVariants.{OnPath, Symlink, Rename, Link, Pledge, Unveil, Lock, Fork, Exit, Uses, Hold}
+use Rattle.pua_script.specs.declared.request.Action.TheVariants.{Close, Fchdir, Chroot, Take, Comment}
 use Rattle.pua_script.specs.Guards.{IsGranted}
 use Rattle.pua_script.specs.Limits.{most_processes}
 use Rattle.pua_path.specs.declared.errno.Errno.TheVariants.{EAGAIN}
@@ -27,7 +28,7 @@ use Rattle.pua_calls.specs.declared.call.Call.TheVariants as call
 use Rattle.pua_policy.specs.declared.answer.May.TheVariants.{Yes}
 use Rattle.pua_script.specs.Decide.{made_by, plain_node, link_node, Change, change_by, CopyAs, TakeFile}
 use Rattle.pua_script.specs.Replay.{edit_effect, edited_tree, kept_at, change_effect, Copies, Fails, sent_by, take_effect}
-use Rattle.pua_script.proofs.ForCallers.{by_own_tree, by_filing, by_going, by_placing, by_tying, by_making, changes_granted, IsWithin}
+use Rattle.pua_script.proofs.ForCallers.{by_own_tree, by_filing, by_going, by_rooting, by_placing, by_tying, by_making, changes_granted, IsWithin}
 use Rattle.pua_ever.proofs.ForCallers.{yes_before}
 use Rattle.pua_jointly.specs.Jointly.{may_take}
 
@@ -127,6 +128,7 @@ module _ (table : CallTable) (w : World) (h : ProcessState) (lacks : may_take ta
       subst Keeps (sym d.1) (by_filing Keeps (rows_same w.tree) number _ (λ file. rows_same w.tree))
   keeps_by (Close number) c d = subst Keeps (sym d.2) (rows_same w.tree)
   keeps_by (Fchdir number) c d = subst Keeps (sym d.is) (rows_same w.tree)
+  keeps_by (Chroot path) c d = subst Keeps (sym d.is) (by_rooting Keeps (rows_same w.tree) d.object (λ dir. rows_same w.tree))
   keeps_by (Take number from theirs) c d = subst Keeps (sym d.1) (keeps_taken number from theirs)
   keeps_by Comment c d = subst Keeps (sym d) (rows_same w.tree)
 

@@ -30,7 +30,7 @@ abbrev pub has_same_state : ProcessState → ProcessState → Bool
 has_same_state a b =
     option_eq (λ x y. x == y) a.promises b.promises
     && (option_eq (λ x y. x == y) a.execpromises b.execpromises
-    && (beq a.locked b.locked && ((a.dir == b.dir) && beq a.ended b.ended)))
+    && (beq a.locked b.locked && ((a.start.root == b.start.root) && ((a.start.dir == b.start.dir) && beq a.ended b.ended))))
 
 -- two veils are the same, and two lists of them
 abbrev pub same_veil : Place × ℕ → Place × ℕ → Bool

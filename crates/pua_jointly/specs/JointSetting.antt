@@ -15,7 +15,7 @@ use Rattle.pua_ever.specs.Laws.{dir_of_place}
 use Rattle.pua_jointly.specs.declared.crew.Entry.{Entry}
 use Rattle.pua_jointly.specs.declared.crew.Mark.{Mark}
 use Rattle.pua_jointly.specs.declared.crew.Watch.{Watch}
-use Rattle.pua_jointly.specs.declared.setup.Size.{Size}
+use Rattle.pua_jointly.specs.declared.size.Size.{Size}
 use Rattle.pua_jointly.specs.declared.shape.Shape.{Shape}
 
 -- the greatest number of a row, and of a veil's directory
@@ -28,15 +28,10 @@ row_number row = greater row.dir row.node
 abbrev pub veil_number : Bor Place × Bor ℕ → ℕ
 veil_number veil = dir_of_place veil.0.now
 
--- where rows are
-pub record HasRoom (shape : Shape) (size : Size) : Type 0 where
-  pub seats : size.seats ≡ (shape.last + 1) + shape.agents
-  pub makers : size.makers ≡ size.seats + (shape.agents + shape.agents)
-  pub small : size.makers < 2 ^ 64
-
+-- how many words a row has, and rows that can all be numbered
 pub record IsSize (shape : Shape) (names watched : ℕ) (size : Size) : Type 0 where
+  pub same : size.shape ≡ shape
   pub columns : size.columns ≡ shape.agents + suc watched
-  pub room : HasRoom shape size
   pub rows : size.makers + 1 + names < 2 ^ 64
 
 -- a name at which something stands

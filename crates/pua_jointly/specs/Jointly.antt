@@ -40,6 +40,7 @@ use Rattle.pua_ever.specs.Ever.{EverLine, all_new, has_ever_calls, own_spot, New
 use Rattle.pua_ever.specs.Ever.{new_kind, is_made_by, is_yes, can_move, can_link, is_exec_call, is_turned_held, lasting_dir, removable_dir, turning_calls}
 use Rattle.pua_ever.specs.Through.{is_bounded, GoAlong}
 use Rattle.pua_ever.specs.Laws.{ForeseesIn, EditsNeedC, VeilsStand, ActsWithin, NoExecLoosens, IsLineOf}
+use Rattle.pua_path.specs.declared.found.Start.{Start}
 
 -- a directory: one of the beginning, or any that this process makes
 pub data Seat : Type 0 where
@@ -298,14 +299,14 @@ pub record IsJointlyForeseen (t : Tree) (table : CallTable) (crew : List Process
 
 abbrev pub ForeseesJointly : Tree → CallTable → List ProcessState → ProcessState → Tree → ProcessState → Type 0
 ForeseesJointly t table crew now later last =
-    (from : ℕ) (call : Call) (text : List ℕ) →
+    (from : Start) (call : Call) (text : List ℕ) →
     let named = resolution_of_text later from (ending_of call) text (last_of call) in
     verdict_of later table last call named ≡ Allowed → IsJointlyForeseen t table crew now later call named
 
 -- and where a kernel makes programs of what they make, write or set the mode of, it starts none whose line has no exec
 abbrev pub ForeseesStartsJointly : Tree → CallTable → List ProcessState → ProcessState → Tree → ProcessState → Type 0
 ForeseesStartsJointly t table crew now later last =
-    (from : ℕ) (text : List ℕ) (dir : ℕ) (name : List ℕ) (node : ℕ) →
+    (from : Start) (text : List ℕ) (dir : ℕ) (name : List ℕ) (node : ℕ) →
     resolution_of_text later from (ending_of call.Exec) text (last_of call.Exec) ≡ Ok (Slot dir name (Some node)) →
     kind_at later node ≡ Some kind.File →
     IsTrue (is_allowed (covered_verdict later table last call.Exec (cover later last (Slot dir name (Some node))) IsProg)) →

@@ -18,6 +18,7 @@ mod old;
 mod rounds;
 mod setup;
 mod shape;
+mod size;
 mod starting;
 mod watching;
 mod words;

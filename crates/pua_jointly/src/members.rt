@@ -109,7 +109,8 @@ fn has_same_state(one: &Process, other: &Process) -> bool
     one.promises() == other.promises()
         && one.execpromises() == other.execpromises()
         && one.locked() == other.locked()
-        && one.dir() == other.dir()
+        && one.start().root == other.start().root
+        && one.start().dir == other.start().dir
         && one.ended() == other.ended()
 }
 

@@ -9,7 +9,7 @@ ghost use Rattle.pua_ever.specs.Laws.{dir_of_place};
 ghost use Rattle.pua_jointly.specs.JointMembers.{Each, SameMembers, states, veil_now};
 ghost use Rattle.pua_jointly.specs.JointSetting.{AreInOrder, AreMarksOf, IsEntryAt};
 ghost use Rattle.pua_jointly.specs.JointSetting.{IsMarkOf, IsRowIn};
-ghost use Rattle.pua_jointly.specs.JointSetting.{HasRoom, IsSize, entry_of, greater as greater_of};
+ghost use Rattle.pua_jointly.specs.JointSetting.{IsSize, entry_of, greater as greater_of};
 ghost use Rattle.pua_jointly.specs.JointSetting.{mark_spot, row_number, veil_number};
 ghost use Rattle.pua_jointly.specs.JointSetup.{IsWorkedOut, crew_told};
 ghost use Rattle.pua_jointly.specs.JointTable.{numbers};
@@ -19,23 +19,13 @@ use crate::crew::{Agent, Crew, Entry, Mark, Watch, entry_at};
 use crate::doing::{Doing, calls_by_cover, covers_for, may_take};
 use crate::members::{all_veils, distinct, know_perms};
 use crate::shape::Shape;
+use crate::size::Size;
 use crate::watching::find_watches;
 use pua_calls::{CallTable, Perms};
 use pua_ever::{Made, has_c, turned_nodes};
 use pua_policy::{Cover, Place, Process};
 use pua_tree::{FileTree, Kind, LentRow, Name, NodeId, OutOfMemory};
 use std::alloc::{AllocError, Global};
-
-/// How many words a row of the table has, and where its kinds of rows end.
-#[derive(Clone, Copy)]
-pub(crate) struct Size {
-    /// How many words a row has.
-    columns: usize,
-    /// The row after those of directories and of what each process makes.
-    seats: usize,
-    /// The row of what each process can make.
-    makers: usize,
-}
 
 /// Works out what the facts of several processes are found by: of equal ones there is one. The only
 /// error is that a growth was refused, or that the table of facts would have more rows than can be
@@ -58,11 +48,11 @@ pub(crate) fn work_out<'t, T: FileTree>(
         agents: members.len(),
         last: last_number(&rows, &veils),
     };
-    let (watches, watch_columns) = find_watches(alloc, tree, shape, &veils)?;
+    let (watches, watch_columns) = find_watches(alloc, tree, &members, shape.last, &veils)?;
     let Some(size) = size_of(shape, rows.len(), watches.len()) else {
         return Err(OutOfMemory);
     };
-    let agents = ask_agents(alloc, &members, table, shape, size)?;
+    let agents = ask_agents(alloc, &members, table, size)?;
     let entries = find_entries(alloc, tree, &rows, size)?;
     let marks = find_marks(alloc, tree, &entries, &veils)?;
     let seats = all_seats(alloc, size)?;
@@ -124,6 +114,7 @@ fn size_of(shape: Shape, names: usize, watched: usize) -> Option<Size>
     let makers = drops.checked_add(shape.agents)?;
     let _names = makers.checked_add(1)?.checked_add(names)?;
     Some(Size {
+        shape,
         columns,
         seats,
         makers,
@@ -135,19 +126,17 @@ fn ask_agents<'t>(
     alloc: Global,
     members: &[&'t Process],
     table: &CallTable,
-    shape: Shape,
     size: Size,
 ) -> Result<Vec<Agent<'t>>, OutOfMemory>
-    requires room { HasRoom shape size }
-    requires many { length members.now ≡ shape.agents }
+    requires { length members.now ≡ size.shape.agents }
     ensures crew { IfOk result (λ agents.
         map (λ agent. agent.process.now) agents.items ≡ states members.now) }
-    ensures each { IfOk result (λ agents. Each (λ i agent.
-        IsAgent table.now (shape.last + 1) shape.agents i agent.process.now agent) agents.items) }
+    ensures each { IfOk result (λ agents. Each (λ i agent. IsAgent table.now
+        (size.shape.last + 1) size.shape.agents i agent.process.now agent) agents.items) }
 {
     let mut agents = Vec::new(alloc);
     for (place, process) in members.iter().enumerate() {
-        let agent = ask_agent(alloc, process, table, place, shape, size)?;
+        let agent = ask_agent(alloc, process, table, place, size)?;
         agents.push(agent)?;
     }
     Ok(agents)
@@ -160,13 +149,11 @@ fn ask_agent<'t>(
     process: &'t Process,
     table: &CallTable,
     place: usize,
-    shape: Shape,
     size: Size,
 ) -> Result<Agent<'t>, OutOfMemory>
-    requires room { HasRoom shape size }
-    requires low { place < shape.agents }
-    ensures is { IfOk result (λ agent.
-        IsAgent table.now (shape.last + 1) shape.agents place process.now agent) }
+    requires { place < size.shape.agents }
+    ensures is { IfOk result (λ agent. IsAgent table.now
+        (size.shape.last + 1) size.shape.agents place process.now agent) }
     ensures process { IfOk result (λ agent. agent.process.now ≡ process.now) }
 {
     let turned = turned_nodes(alloc, process)?;
@@ -176,7 +163,7 @@ fn ask_agent<'t>(
         process,
         place,
         landing: size.seats + place,
-        drops: size.seats + shape.agents + place,
+        drops: size.seats + size.shape.agents + place,
         named,
         may_take: may_take(process, table),
         moving: covers_for(process, table, Doing::Moving),

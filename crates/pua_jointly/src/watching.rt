@@ -1,6 +1,6 @@
 //! The directories that are watched.
 
-ghost use Rattle.std.specs.Prelude.{◌≡◌, ◌<◌, ◌+◌, ◌^◌, ◌==◌, ◌||◌, ℕ, false, get_or, length};
+ghost use Rattle.std.specs.Prelude.{◌≡◌, ◌<◌, ◌+◌, ◌==◌, ◌||◌, ℕ, false, get_or, length};
 ghost use Rattle.std.specs.Prelude.{map, IfOk};
 ghost use Rattle.pua_tree.specs.Tree.{is_within};
 ghost use Rattle.pua_jointly.specs.JointFacts.{watches_by};
@@ -9,33 +9,33 @@ ghost use Rattle.pua_jointly.specs.JointSetting.{AreColumns, AreWatched, is_watc
 
 use crate::crew::Watch;
 use crate::marks::{is_marked, mark, no_marks};
-use crate::shape::Shape;
 use pua_calls::Perms;
 use pua_ever::has_c;
-use pua_policy::{Cover, Place};
+use pua_policy::{Cover, Place, Process};
 use pua_tree::{FileTree, Kind, NodeId};
 use std::alloc::{AllocError, Global};
 
-/// The watched directories, and the column of each directory that is watched, by its number. The
-/// only error is that a growth was refused.
+/// The directories up to a number that are watched, with their columns after those of these members,
+/// and the column of each directory that is watched, by its number. The only error is that a growth
+/// was refused.
 pub(crate) fn find_watches<T: FileTree>(
     alloc: Global,
     tree: &T,
-    shape: Shape,
+    members: &[&Process],
+    last: u32,
     veils: &[(&Place, &Perms)],
 ) -> Result<(Vec<Watch>, Vec<Option<usize>>), AllocError>
-    requires { shape.agents < 2 ^ 63 }
-    ensures watches { IfOk result (λ both. AreWatched (T.content tree.now) shape.agents
-        (shape.last + 1) (map veil_now veils.now) both.0.items) }
+    ensures watches { IfOk result (λ both. AreWatched (T.content tree.now) (length members.now)
+        (last + 1) (map veil_now veils.now) both.0.items) }
     ensures columns { IfOk result (λ both. AreColumns both.0.items both.1.items) }
 {
-    let watched = find_watched(alloc, tree, shape.last as usize + 1, veils)?;
+    let watched = find_watched(alloc, tree, last as usize + 1, veils)?;
     let mut watches = Vec::new(alloc);
     let mut columns = Vec::new(alloc);
-    for number in 0..shape.last as usize + 1 {
+    for number in 0..last as usize + 1 {
         let dir = NodeId::new(number as u32);
         let column = if is_marked(&watched, dir) {
-            let column = shape.agents + 1 + watches.len();
+            let column = members.len() + 1 + watches.len();
             watches.push(Watch { dir, column })?;
             Some(column)
         } else {

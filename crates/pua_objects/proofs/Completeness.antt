@@ -13,7 +13,7 @@ use Rattle.pua_calls.specs.Calls.{ending_of}
 use Rattle.pua_calls.specs.CallSets.{bit_of}
 use Rattle.pua_calls.specs.declared.call.Call.TheVariants.{Stat}
 use Rattle.pua_calls.proofs.ForCallers.{bit_below, call_at_bit}
-use Rattle.pua_policy.specs.States.{may_any, working_dir}
+use Rattle.pua_policy.specs.States.{may_any, start}
 use Rattle.pua_policy.specs.Verdict.{verdict_of}
 use Rattle.pua_policy.specs.declared.answer.May.{May}
 use Rattle.pua_policy.specs.declared.answer.May.TheVariants as may
@@ -26,6 +26,8 @@ use Rattle.pua_objects.specs.Laws.{IsListed, Complete, ReachIsListed}
 use Rattle.pua_objects.proofs.Among.{Among, among_at, among_map, among_filter, filter_among, contained, among_contained}
 use Rattle.pua_objects.proofs.Judged.{told}
 use Rattle.pua_objects.proofs.Listing.{has_item}
+use Rattle.pua_path.specs.Resolution.{rooted}
+use Rattle.pua_path.specs.declared.found.Start.{Start}
 
 pub one_of_calls : (call : Call) → Among calls call
 one_of_calls call = among_at calls (bit_of call) Stat call (bit_below call) (call_at_bit call)
@@ -40,7 +42,7 @@ failed may.Enosys errno e = cc
 failed may.Death errno e = cc
 
 -- a text without fault names what its resolution does
-pub named_within_text : (t : Tree) (from : ℕ) (ending : Ending) (text : List ℕ) (mode : Last) (object : Found) →
+pub named_within_text : (t : Tree) (from : Start) (ending : Ending) (text : List ℕ) (mode : Last) (object : Found) →
     resolution_of_text t from ending text mode ≡ Ok object → resolution t from ending text mode ≡ Ok object
 named_within_text t from ending text mode object e = by (path_fault text) refl
   where
@@ -75,7 +77,7 @@ module _ (t : Tree) (fits : WellFormed t) (table : CallTable) (h : ProcessState)
       living (Whole other w) fit dir way e = let same : other ≡ dir = cc in ap (is_dir t) (sym same) ∙ fit
       living (Slot other name o) fit dir way e = cc
 
-  pub complete_from : (from : ℕ) (text : List ℕ) → let named = resolution_of_text t from (ending_of call) text (last_of call) in
+  pub complete_from : (from : Start) (text : List ℕ) → let named = resolution_of_text t from (ending_of call) text (last_of call) in
       verdict_of t table h call named ≡ Allowed → IsListed t table h call named
   complete_from from text = by (resolution_of_text t from (ending_of call) text (last_of call)) refl
     where
@@ -84,7 +86,7 @@ module _ (t : Tree) (fits : WellFormed t) (table : CallTable) (h : ProcessState)
       by (Err errno) is e = absurd (failed (may_any h (rule_of table call).alternatives) errno e)
       by (Ok object) is e =
           let named = named_within_text t from (ending_of call) text (last_of call) object is in
-          listed (Ok object) object refl ((resolutions_fit t fits).whole from (ending_of call) text (last_of call) object named) e
+          listed (Ok object) object refl ((resolutions_fit (rooted t 0) fits fits.root).whole from (ending_of call) text (last_of call) object named) e
 
 pub complete : Complete
 complete t table h from call text fits e = complete_from t fits table h call from text e
@@ -97,4 +99,4 @@ allowed_is Death e = cc
 pub reach_is_listed : ReachIsListed
 reach_is_listed s fits word call there =
     let pair = filter_among (is_reached s) (pairs s.alphabet s.limit) (word, call) (among_contained (reach s) (word, call) there) in
-    complete_from s.tree fits s.table s.process call (working_dir s.process) (path_of s.base word) (allowed_is _ pair.1)
+    complete_from s.tree fits s.table s.process call (start s.process) (path_of s.base word) (allowed_is _ pair.1)

@@ -5,6 +5,8 @@ pub mod Fronts
 pub mod Judged
 pub mod Listing
 pub mod Completeness
+pub mod Enclosed
+pub mod ShownLines
 pub mod Leading
 pub mod Soundness
 pub mod Rising

@@ -14,64 +14,73 @@ use Rattle.pua_path.specs.declared.found.Part.{Part}
 use Rattle.pua_path.specs.declared.found.Part.TheVariants as parts
 use Rattle.pua_calls.specs.CallSets.{is_kept}
 use Rattle.pua_calls.specs.Calls.{ending_of}
-use Rattle.pua_policy.specs.States.{working_dir}
+use Rattle.pua_policy.specs.States.{root_dir, start, working_dir}
 use Rattle.pua_policy.specs.Verdict.{verdict_of, object_named}
-use Rattle.pua_objects.specs.Laws.{path_from_root, IsAllowedBy, IsCallTold, SoundLines}
-use Rattle.pua_objects.proofs.Among.{Among, filter_among, map_among, among_contained}
+use Rattle.pua_objects.specs.Laws.{path_from_root, IsAllowedBy, IsCallTold, IsCallToldBehind, SoundBelow, SoundLines}
+use Rattle.std.specs.List.{Contains}
+use Rattle.std.specs.Prelude.{◌==◌}
+use Rattle.std.proofs.lemmas.Bool.{or_right}
+use Rattle.pua_tree.specs.Tree.{is_within}
+use Rattle.pua_objects.proofs.Common.{calls_on, Item}
+use Rattle.pua_objects.specs.Objects.{objects}
+use Rattle.pua_objects.specs.Roots.{dir_of, is_shown, shown_objects, shows}
+use Rattle.pua_objects.proofs.ShownLines.{encloses, not_top}
+use Rattle.pua_objects.proofs.Among.{Among, contained, filter_among, map_among, among_contained}
 use Rattle.pua_objects.proofs.Judged.{others_verdict}
 use Rattle.pua_objects.proofs.Completeness.{allowed_is}
 use Rattle.pua_objects.proofs.Leading.{AreNames, with_last, names_path, Leads, resolve_along, IsPlainThere, IsNamed, slot_resolved}
-use Rattle.pua_objects.proofs.Leading.{whole_resolved, IsPlaced, items_placed}
+use Rattle.pua_objects.proofs.Leading.{whole_resolved, IsPlaced, beneath, items_placed}
+use Rattle.pua_path.specs.Resolution.{has_root, rooted}
 
-module _ (t : Tree) (h : ProcessState) where
+module _ (t : Tree) (h : ProcessState) (root : ℕ) (top : root_dir h ≡ root) (lives : has_root t root ≡ true) where
   -- a path without fault from the root names what its parts do
   named_by_parts : (call : Call) (text : List ℕ) (ps : List Part) (object : Found) → path_fault text ≡ None → is_absolute text ≡ true →
       parts_of (ending_of call) text ≡ ps →
-      (resolve_parts most_links t (last_of call) 0 Top ps >>= λ found. Ok found.0) ≡ Ok object → object_named t h call text ≡ Ok object
+      (resolve_parts most_links (rooted t root) (last_of call) root Top ps >>= λ found. Ok found.0) ≡ Ok object → object_named t h call text ≡ Ok object
   named_by_parts call text ps object fault absolute are e = whole fault ∙ from_root ∙ e
     where
       whole : path_fault text ≡ None →
-          resolution_of_text t (working_dir h) (ending_of call) text (last_of call) ≡ resolution t (working_dir h) (ending_of call) text
-          (last_of call)
+          resolution_of_text t (start h) (ending_of call) text (last_of call) ≡ resolution t (start h) (ending_of call) text (last_of call)
       whole none = rw none refl
 
-      from_root : resolution t (working_dir h) (ending_of call) text (last_of call)
-          ≡ (resolve_parts most_links t (last_of call) 0 Top ps >>= λ found. Ok found.0)
+      from_root : resolution t (start h) (ending_of call) text (last_of call)
+          ≡ (resolve_parts most_links (rooted t root) (last_of call) root Top ps >>= λ found. Ok found.0)
       from_root =
-          ap (λ b. if not b && not (is_dir t (working_dir h)) then Err ENOENT else
-          (resolve_parts most_links t (last_of call) (if b then 0 else working_dir h) Top (parts_of (ending_of call) text) >>= λ found.
-          Ok found.0)) absolute
-          ∙ ap (λ qs. resolve_parts most_links t (last_of call) 0 Top qs >>= λ found. Ok found.0) are
+          (λ i. if not (if absolute i then has_root t (top i) else is_dir t (working_dir h)) then Err ENOENT
+          else (resolve_parts most_links (rooted t (if has_root t (top i) then top i else 0)) (last_of call)
+          (if absolute i then top i else working_dir h) Top (are i) >>= λ found. Ok found.0))
+          ∙ ap (λ b. if not b then Err ENOENT else (resolve_parts most_links (rooted t (if b then root else 0)) (last_of call) root Top ps
+          >>= λ found. Ok found.0)) lives
 
   names_before : (over : Word) (name : List ℕ) → map parts.Name (over ++ name ∷ []) ≡ map parts.Name over ++ parts.Name name ∷ []
   names_before [] name = refl
   names_before (other ∷ over) name = ap (λ ps. parts.Name other ∷ ps) (names_before over name)
 
   -- a directory is named by the names that lead to it
-  whole_named : (call : Call) (word : Word) (dir : ℕ) (way : Way) → AreNames word → Leads t word dir way →
+  whole_named : (call : Call) (word : Word) (dir : ℕ) (way : Way) → AreNames word → Leads t root word dir way →
       length (path_from_root word) ≤ 1023 → object_named t h call (path_from_root word) ≡ Ok (Whole dir way)
   whole_named call word dir way all leads short =
       let is = names_path word all short in
       named_by_parts call (path_from_root word) (map parts.Name word ++ []) (Whole dir way) is.fault is.absolute (is.parts (ending_of call)
       ∙ sym (append-nil (map parts.Name word)))
-      (ap (λ r. r >>= λ found. Ok found.0) (resolve_along t (last_of call) most_links word dir way [] leads ∙
-      whole_resolved t (last_of call) most_links dir way))
+      (ap (λ r. r >>= λ found. Ok found.0) (resolve_along t root (last_of call) most_links word dir way [] leads ∙
+      whole_resolved t root (last_of call) most_links dir way))
 
   -- and anything else by one name more
   slot_named : (call : Call) (over : Word) (dir : ℕ) (way : Way) (name : List ℕ) (o : Option ℕ) → AreNames (over ++ name ∷ []) →
-      Leads t over dir way → look t dir name ≡ o → IsPlainThere t o → IsNamed t (last_of call) o
+      Leads t root over dir way → look t dir name ≡ o → IsPlainThere t root o → IsNamed t root (last_of call) o
       → length (path_from_root (over ++ name ∷ [])) ≤ 1023 →
       object_named t h call (path_from_root (over ++ name ∷ [])) ≡ Ok (Slot dir name o)
   slot_named call over dir way name o all leads row plain named short =
       let is = names_path (over ++ name ∷ []) all short in
       named_by_parts call (path_from_root (over ++ name ∷ [])) (map parts.Name over ++ parts.Name name ∷ []) (Slot dir name o) is.fault
       is.absolute (is.parts (ending_of call) ∙ names_before over name)
-      (ap (λ r. r >>= λ found. Ok found.0) (resolve_along t (last_of call) most_links over dir way (parts.Name name ∷ []) leads ∙
-      slot_resolved t (last_of call) most_links dir way name o row plain named))
+      (ap (λ r. r >>= λ found. Ok found.0) (resolve_along t root (last_of call) most_links over dir way (parts.Name name ∷ []) leads ∙
+      slot_resolved t root (last_of call) most_links dir way name o row plain named))
 
   -- a link is named by the calls that keep it
   named_slot : (call : Call) (dir : ℕ) (name : List ℕ) (o : Option ℕ) (mode : Last) →
-      (is_kept mode || not (is_link t (Slot dir name o))) ≡ true → IsNamed t mode o
+      (is_kept mode || not (is_link t (Slot dir name o))) ≡ true → IsNamed t root mode o
   named_slot call dir name o Kept e = tt
   named_slot call dir name None Followed e = tt
   named_slot call dir name (Some x) Followed e = denied (is_link_kind (option_map (λ n. n.kind) (node_at t x))) e
@@ -85,7 +94,7 @@ module _ (t : Tree) (h : ProcessState) where
         verdict t table h call object ≡ Allowed → IsAllowedBy t table h call word object
     allowed_by call word object names allowed = record { names = names; allowed = ap (verdict_of t table h call) names ∙ allowed }
 
-    told_of : (call : Call) (word : Word) (subject : Subject) → AreNames word → IsPlaced t word subject →
+    told_of : (call : Call) (word : Word) (subject : Subject) → AreNames word → IsPlaced t root word subject →
         is_named_by t call subject ≡ true → subject_verdict t table h call subject ≡ Allowed → IsCallTold t table h call word subject
     told_of call word (At (Whole dir way)) all leads named allowed =
         λ short. allowed_by call word (Whole dir way) (whole_named call word dir way all leads short) allowed
@@ -102,20 +111,44 @@ module _ (t : Tree) (h : ProcessState) where
         place.1 none tt (named_missing (last_of call)) short)
         (others_verdict t sound table h call dir name unveiled ∙ allowed)
       where
-        named_missing : (mode : Last) → IsNamed t mode None
+        named_missing : (mode : Last) → IsNamed t root mode None
         named_missing Kept = tt
         named_missing Followed = tt
 
+-- what is so of a line that is listed
+module _ (t : Tree) (table : CallTable) (h : ProcessState) (line : Line) (call : Call) where
+  of_item : (P : Line → Type 0) → ((item : Item) → Among (items t (veils h)) item → item.subject ≡ line.subject →
+      is_named_by t call item.subject ≡ true → subject_verdict t table h call item.subject ≡ Allowed → P (line_of t table h item)) →
+      Contains (objects t table h) line → Contains line.calls call → P line
+  of_item P so there here =
+      let a = filter_among has_calls (map (line_of t table h) (items t (veils h))) line (among_contained _ line there) in
+      let b = map_among (line_of t table h) (items t (veils h)) line a.0 in
+      let item = b.0 in
+      let calls_of : Among (calls_on t table h item.subject) call =
+      subst (λ (l : Line). Among l.calls call) (sym b.2) (among_contained line.calls call here) in
+      let d = filter_among (λ other. is_named_by t other item.subject && is_allowed (subject_verdict t table h other item.subject)) calls call
+      calls_of in
+      let e = and_parts (is_named_by t call item.subject) (is_allowed (subject_verdict t table h call item.subject)) d.1 in
+      subst P b.2 (so item b.1 (ap (λ (l : Line). l.subject) b.2) e.0 (allowed_is _ e.1))
+
 pub sound_lines : SoundLines
-sound_lines t table h fits places line there call here =
-    let a = filter_among has_calls (map (line_of t table h) (items t (veils h))) line (among_contained _ line there) in
-    let b = map_among (line_of t table h) (items t (veils h)) line a.0 in
-    let item = b.0 in
-    let placed = items_placed t fits (sound_from t fits) h places item b.1 in
-    let P : Line → Type 0 = λ l. Among l.calls call → IsCallTold t table h call l.word l.subject in
-    subst P b.2 (λ c.
-    let d = filter_among (λ other. is_named_by t other item.subject && is_allowed (subject_verdict t table h other item.subject)) calls call
-    c in
-    let e = and_parts (is_named_by t call item.subject) (is_allowed (subject_verdict t table h call item.subject)) d.1 in
-    told_of t h (sound_from t fits) table call item.word item.subject placed.names placed.place e.0 (allowed_is _ e.1))
-    (among_contained line.calls call here)
+sound_lines t table h fits places top line there call here =
+    of_item t table h line call (λ l. IsCallTold t table h call l.word l.subject) (λ item a same named allowed.
+    let placed = items_placed t fits (sound_from t fits) h places item a in
+    subst (λ (w : Word). IsCallTold t table h call w item.subject) (sym placed.word)
+    (told_of t h 0 top refl (sound_from t fits) table call placed.rest item.subject placed.names placed.place named allowed)) there here
+
+pub sound_below : SoundBelow
+sound_below t table h fits places root below line there unlike call here =
+    let around = encloses t h root below in
+    let kept = filter_among (λ (l : Line). is_shown t h l.subject) (objects t table h) line (among_contained (shown_objects t table h) line there) in
+    let within : is_within t (dir_of line.subject) root ≡ true = ap (λ s. shows t s line.subject) (sym below) ∙ kept.1 in
+    of_item t table h line call (λ l. IsCallToldBehind t table h call l.word l.subject) (λ item a same named allowed.
+    let placed = beneath t fits (sound_from t fits) h places root (not_top t h root below) item a
+    (ap (λ s. is_within t (dir_of s) root) same ∙ within) (λ way is. unlike way (sym same ∙ is)) in (
+      placed.0,
+      placed.1.rest,
+      placed.1.word,
+      told_of t h root around.is (or_right (root == 0) (is_dir t root) around.lives) (sound_from t fits) table call placed.1.rest item.subject placed.1.names
+          placed.1.place named allowed,
+    )) (contained (objects t table h) line kept.0) here

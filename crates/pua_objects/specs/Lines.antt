@@ -17,6 +17,8 @@ use Rattle.pua_objects.specs.Objects.{Subject, Item, Line, line_of, has_calls, s
 use Rattle.pua_objects.specs.declared.kind.ObjectKind.{ObjectKind}
 use Rattle.pua_objects.specs.declared.kind.ObjectKind.TheVariants as kind
 use Rattle.pua_objects.specs.declared.line.ObjectLine.{ObjectLine}
+use Rattle.pua_objects.specs.Roots.{shows}
+use Rattle.pua_objects.specs.declared.roots.Shown.{Shown}
 
 -- the word of what a line is about
 abbrev pub kind_word : ObjectKind → List ℕ
@@ -40,6 +42,16 @@ pub record IsLineOn (t : Tree) (table : CallTable) (h : ProcessState) (subject :
   pub kind : kind_word line.kind ≡ subject_word t subject
   pub calls : (call : Call) → has line.calls call ≡ (is_named_by t call subject && is_allowed (subject_verdict t table h call subject))
 
+-- the same where a list shows the subject; else no call
+pub record IsShownLine (t : Tree) (table : CallTable) (h : ProcessState) (shown : Shown) (subject : Subject) (line : ObjectLine) : Type 0 where
+  pub kind : kind_word line.kind ≡ subject_word t subject
+  pub calls : (call : Call) → has line.calls call
+      ≡ (shows t shown subject && (is_named_by t call subject && is_allowed (subject_verdict t table h call subject)))
+
 -- the lines of items, but for those without calls
 abbrev pub lines_of : Tree → CallTable → ProcessState → List Item → List Line
 lines_of t table h items = filter has_calls (map (line_of t table h) items)
+
+-- and those of them that are shown
+abbrev pub shown_lines : Tree → CallTable → ProcessState → Shown → List Item → List Line
+shown_lines t table h shown items = filter (λ line. shows t shown line.subject) (lines_of t table h items)

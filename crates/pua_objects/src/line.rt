@@ -11,13 +11,14 @@ ghost use Rattle.pua_policy.specs.Objects.{object_seen};
 ghost use Rattle.pua_policy.specs.Verdict.{cover as cover_of, object_of};
 ghost use Rattle.pua_objects.specs.Objects.{Subject as About, At, Others, cover_in};
 ghost use Rattle.pua_objects.specs.Items.{IsItemOn};
-ghost use Rattle.pua_objects.specs.Lines.{AreAllowed, IsLineOn};
+ghost use Rattle.pua_objects.specs.Lines.{AreAllowed, IsLineOn, IsShownLine};
 
 use crate::item::{Item, Subject};
 use crate::kind::ObjectKind;
+use crate::roots::Shown;
 use pua_calls::{CallTable, Calls};
 use pua_policy::{AllowedCalls, Object, Process, judge};
-use pua_tree::Kind;
+use pua_tree::{FileTree, Kind};
 
 /// A line of the list, but for the names that lead there.
 #[derive(Clone, Copy, PartialEq, Eq)]
@@ -46,6 +47,28 @@ pub fn allowed_line(allowed: &AllowedCalls, item: &Item<'_>) -> ObjectLine
         IsItemOn t process about item.now → IsLineOn t table process about result }
 {
     line_with(item, allowed.on(item.cover, item.object))
+}
+
+/// The same where its list shows the item; else it has no calls.
+pub fn shown_line<T: FileTree>(
+    tree: &T,
+    shown: Shown,
+    allowed: &AllowedCalls,
+    item: &Item<'_>,
+) -> ObjectLine
+    ensures { (process : ProcessState) (table : Rules) (about : About) →
+        AreWorkedOut process table allowed.now →
+        IsItemOn (T.content tree.now) process about item.now →
+        IsShownLine (T.content tree.now) table process shown about result }
+{
+    let line = allowed_line(allowed, item);
+    if shown.shows(tree, &item.subject) {
+        return line;
+    }
+    ObjectLine {
+        kind: line.kind,
+        calls: Calls::NONE,
+    }
 }
 
 /// The line of an item on whose object these calls are allowed.

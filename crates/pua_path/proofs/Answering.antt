@@ -1,6 +1,7 @@
 -- A trace answers as the resolution does.
+use Rattle.pua_path.proofs.Common.{Tree, RootedTree, Start, above_in, has_root, rooted, seen_from, starts}
 use Rattle.pua_path.proofs.Common.{◌≡◌, ℕ, zero, suc, Bool, true, false, List, [], ◌∷◌, ◌++◌, Some, None, refl, ap, ◌∙◌, Result, Ok, Err}
-use Rattle.pua_path.proofs.Common.{if◌then◌else◌, not, ◌&&◌, option_map, Tree, Spot, is_dir, ◌>>=◌, parts_of, is_absolute, Resolved}
+use Rattle.pua_path.proofs.Common.{if◌then◌else◌, not, ◌&&◌, option_map, Spot, is_dir, ◌>>=◌, parts_of, is_absolute, Resolved}
 use Rattle.pua_path.proofs.Common.{Directory, Linked, Plain, Nothing, standing_at, is_followed, slot_or, walk, start_of, resolve_parts}
 use Rattle.pua_path.proofs.Common.{resolution, Errno, ENOENT, ENOTDIR, ELOOP, Ending, Part, Last, Way, Named, Dot, DotDot, Top, Found, Slot}
 use Rattle.pua_path.proofs.Common.{Stop, NoEntry, NoDirectory, LinkBeyond, Trace, at_once, after_links, slot_or_stop, walk_traced}
@@ -21,7 +22,7 @@ slot_answers : (rest : List Part) (found : Found) (stop : Stop) (links : ℕ) �
 slot_answers [] found stop links = refl
 slot_answers (p ∷ rest) found stop links = refl
 
-module _ (t : Tree) (mode : Last) (links : ℕ) (traced : Spot → List ℕ → List Part → Trace) (follow : ℕ → List ℕ → List Part → Resolved)
+module _ (t : RootedTree) (mode : Last) (links : ℕ) (traced : Spot → List ℕ → List Part → Trace) (follow : ℕ → List ℕ → List Part → Resolved)
     (follows : (dir : ℕ) (name target : List ℕ) (rest : List Part) →
     resolved_as (traced (dir, name) target rest).outcome ≡ follow dir target rest) where
   link_answers : (v : Bool) (dir : ℕ) (name target : List ℕ) (x : ℕ) (rest : List Part) →
@@ -35,7 +36,7 @@ module _ (t : Tree) (mode : Last) (links : ℕ) (traced : Spot → List ℕ → 
   walk_answers [] dir way = refl
   walk_answers (parts.Dot ∷ ps) dir way = walk_answers ps dir Dot
   walk_answers (parts.DotDot ∷ ps) dir way = walk_answers ps _ DotDot
-  walk_answers (parts.Name name ∷ ps) dir way = elim (standing_at t dir name) as (λ s.
+  walk_answers (parts.Name name ∷ ps) dir way = elim (standing_at t.tree dir name) as (λ s.
       ◌≡◌ {A = Resolved} (resolved_as (Trace.outcome (elim s [
         | Directory x ↦ walk_traced t mode links traced x (Named dir name) ps
         | Linked x target ↦ if is_followed mode ps then traced (dir, name) target ps else at_once (Ok (Slot dir name (Some x), links))
@@ -60,29 +61,29 @@ traces_answer t mode zero dir way ps =
     (λ dir name target rest. refl) ps dir way
 traces_answer t mode (suc links) dir way ps =
     walk_answers t mode (suc links)
-    (λ spot target rest. after_links (spot ∷ []) (trace_parts links t mode (start_of target spot.0) Top (parts_of ending.Dot target
+    (λ spot target rest. after_links (spot ∷ []) (trace_parts links t mode (start_of t.root target spot.0) Top (parts_of ending.Dot target
     ++ rest)))
-    (λ from target rest. resolve_parts links t mode (start_of target from) Top (parts_of ending.Dot target ++ rest))
-    (λ dir name target rest. traces_answer t mode links (start_of target dir) Top (parts_of ending.Dot target ++ rest)) ps dir way
+    (λ from target rest. resolve_parts links t mode (start_of t.root target from) Top (parts_of ending.Dot target ++ rest))
+    (λ dir name target rest. traces_answer t mode links (start_of t.root target dir) Top (parts_of ending.Dot target ++ rest)) ps dir way
 
 -- what is named, where the links left are forgotten
 forgets : (r : Result (Found × ℕ) Stop) → object_or_errno (named_or_stopped r) ≡ (resolved_as r >>= λ found. Ok found.0)
 forgets (Ok found) = refl
 forgets (Err stop) = refl
 
-pub from_answers : (t : Tree) (from : ℕ) (ending : Ending) (text : List ℕ) (mode : Last) →
+pub from_answers : (t : Tree) (from : Start) (ending : Ending) (text : List ℕ) (mode : Last) →
     object_or_errno (trace_from t from ending text mode).outcome ≡ resolution t from ending text mode
 unfolding trace_from
-from_answers t from ending text mode = by (not (is_absolute text) && not (is_dir t from))
+from_answers t from ending text mode = by (not (starts t from text))
   where
-    by : (v : Bool) → object_or_errno
-        (PathTrace.outcome (if v then fails_in NoStart else as_path_trace (trace_parts most_links t mode (start_of text from) Top
-        (parts_of ending text))))
-        ≡ (if v then Err ENOENT else (resolve_parts most_links t mode (start_of text from) Top (parts_of ending text) >>= λ found. Ok
-        found.0))
+    by : (v : Bool) → object_or_errno (PathTrace.outcome (if v then fails_in NoStart else as_path_trace
+        (trace_parts most_links (seen_from t from) mode (start_of from.root text from.dir) Top (parts_of ending text))))
+        ≡ (if v then Err ENOENT else (resolve_parts most_links (seen_from t from) mode (start_of from.root text from.dir) Top
+        (parts_of ending text) >>= λ found. Ok found.0))
     by true = refl
-    by false = forgets (trace_parts most_links t mode (start_of text from) Top (parts_of ending text)).outcome
-        ∙ ap (λ r. r >>= λ found. Ok found.0) (traces_answer t mode most_links (start_of text from) Top (parts_of ending text))
+    by false = forgets (trace_parts most_links (seen_from t from) mode (start_of from.root text from.dir) Top (parts_of ending text)).outcome
+        ∙ ap (λ r. r >>= λ found. Ok found.0)
+        (traces_answer (seen_from t from) mode most_links (start_of from.root text from.dir) Top (parts_of ending text))
 
 pub text_traces_answer : TextTracesAnswer
 text_traces_answer t from ending text mode = by (text_fault text)

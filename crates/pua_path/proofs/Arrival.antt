@@ -1,6 +1,7 @@
 -- A part that another follows, by the part alone: what was found there, and the errno where it is no directory.
+use Rattle.pua_path.proofs.Common.{Tree, RootedTree, Start, above_in, has_root, rooted, seen_from, starts}
 use Rattle.pua_path.proofs.Common.{◌≡◌, ℕ, zero, suc, Bool, true, false, List, [], ◌∷◌, ◌++◌, Some, None, refl, sym, ap, ◌∙◌, append_assoc}
-use Rattle.pua_path.proofs.Common.{◌-◌, Result, Ok, Err, if◌then◌else◌, not, ◌&&◌, Tree, is_dir, ◌>>=◌, parts_of, is_absolute, Resolved}
+use Rattle.pua_path.proofs.Common.{◌-◌, Result, Ok, Err, if◌then◌else◌, not, ◌&&◌, is_dir, ◌>>=◌, parts_of, is_absolute, Resolved}
 use Rattle.pua_path.proofs.Common.{Standing, Directory, Linked, Plain, Nothing, standing_at, walk, start_of, resolve_parts, resolution}
 use Rattle.pua_path.proofs.Common.{dir_with_links, step, most_links, Errno, ENOENT, ENOTDIR, ELOOP, Ending, Part, Last, Followed, Way}
 use Rattle.pua_path.proofs.Common.{Found, Whole, Slot}
@@ -15,7 +16,7 @@ abbrev pub arrived : Found × ℕ → Result (ℕ × ℕ) Errno
 arrived (Whole dir way, links) = Ok (dir, most_links - links)
 arrived (Slot dir name node, links) = Err (if is_some node then ENOTDIR else ENOENT)
 
-module _ (t : Tree) (links : ℕ) (follow : ℕ → List ℕ → List Part → Resolved)
+module _ (t : RootedTree) (links : ℕ) (follow : ℕ → List ℕ → List Part → Resolved)
     (follows : (from : ℕ) (target : List ℕ) (rest : List Part) →
     (follow from target (rest ++ parts.Dot ∷ []) >>= dir_with_links) ≡ (follow from target rest >>= arrived)) where
   met_arrives : (ps : List Part) (dir : ℕ) (name : List ℕ) (s : Standing) →
@@ -37,34 +38,39 @@ module _ (t : Tree) (links : ℕ) (follow : ℕ → List ℕ → List Part → R
   walk_arrives (parts.DotDot ∷ ps) dir way = walk_arrives ps _ ways.DotDot
   walk_arrives (parts.Name name ∷ ps) dir way =
       ap (λ r. r >>= dir_with_links) (walk_name t Followed links follow dir way name (ps ++ parts.Dot ∷ []))
-      ∙ met_arrives ps dir name (standing_at t dir name) (λ x. walk_arrives ps x (ways.Named dir name))
+      ∙ met_arrives ps dir name (standing_at t.tree dir name) (λ x. walk_arrives ps x (ways.Named dir name))
       ∙ sym (ap (λ r. r >>= arrived) (walk_name t Followed links follow dir way name ps))
 
-pub arrives : (t : Tree) (links dir : ℕ) (way : Way) (ps : List Part) →
+pub arrives : (t : RootedTree) (links dir : ℕ) (way : Way) (ps : List Part) →
     (resolve_parts links t Followed dir way (ps ++ parts.Dot ∷ []) >>= dir_with_links)
     ≡ (resolve_parts links t Followed dir way ps >>= arrived)
 arrives t zero dir way ps = walk_arrives t 0 (λ from target rest. Err ELOOP) (λ from target rest. refl) ps dir way
 arrives t (suc links) dir way ps =
-    walk_arrives t (suc links) (λ from target rest. resolve_parts links t Followed (start_of target from) ways.Top
+    walk_arrives t (suc links) (λ from target rest. resolve_parts links t Followed (start_of t.root target from) ways.Top
     (parts_of ending.Dot target ++ rest))
-    (λ from target rest. ap (λ qs. resolve_parts links t Followed (start_of target from) ways.Top qs >>= dir_with_links)
+    (λ from target rest. ap (λ qs. resolve_parts links t Followed (start_of t.root target from) ways.Top qs >>= dir_with_links)
     (sym (append_assoc (parts_of ending.Dot target) rest (parts.Dot ∷ [])))
-    ∙ arrives t links (start_of target from) ways.Top (parts_of ending.Dot target ++ rest)) ps dir way
+    ∙ arrives t links (start_of t.root target from) ways.Top (parts_of ending.Dot target ++ rest)) ps dir way
 
 -- a step is the part alone, resolved and arrived at
-pub step_arrives : (t : Tree) (dir used : ℕ) (part : Part) (found : Resolved) →
+pub step_arrives : (t : RootedTree) (dir used : ℕ) (part : Part) (found : Resolved) →
     found ≡ resolve_parts (most_links - used) t Followed dir ways.Top (part ∷ []) → (found >>= arrived) ≡ step t dir used part
 step_arrives t dir used part found e = ap (λ r. r >>= arrived) e ∙ sym (arrives t (most_links - used) dir ways.Top (part ∷ []))
 
-pub starts_at : (guard : Bool) (start begin : ℕ) (further : ℕ → Result Found Errno) → Some start ≡ (if guard then None else Some begin) →
-    further start ≡ (if guard then Err ENOENT else further begin)
+pub starts_at : (guard : Bool) (start begin : Start) (further : Start → Result Found Errno) →
+    Some start ≡ (if guard then None else Some begin) → further start ≡ (if guard then Err ENOENT else further begin)
 starts_at true start begin further e = cc
 starts_at false start begin further e = let same : start ≡ begin = cc in ap further same
 
+-- where a text starts, beside the root by which it goes on
+abbrev pub begun : Tree → Start → List ℕ → Start
+begun t from text = record { root = (seen_from t from).root; dir = start_of from.root text from.dir }
+
 -- the resolution of a path from where it starts
-pub resolution_starts : (t : Tree) (from : ℕ) (end : Ending) (text : List ℕ) (mode : Last) (start : ℕ) (found : Result Found Errno) →
-    Some start ≡ (if not (is_absolute text) && not (is_dir t from) then None else Some (start_of text from)) →
-    found ≡ (resolve_parts most_links t mode start ways.Top (parts_of end text) >>= λ f. Ok f.0) → found ≡ resolution t from end text mode
+pub resolution_starts : (t : Tree) (from : Start) (end : Ending) (text : List ℕ) (mode : Last) (start : Start) (found : Result Found Errno) →
+    Some start ≡ (if not (starts t from text) then None else Some (begun t from text)) →
+    found ≡ (resolve_parts most_links (rooted t start.root) mode start.dir ways.Top (parts_of end text) >>= λ f. Ok f.0) →
+    found ≡ resolution t from end text mode
 resolution_starts t from end text mode start found s e =
-    e ∙ starts_at (not (is_absolute text) && not (is_dir t from)) start (start_of text from)
-    (λ begin. resolve_parts most_links t mode begin ways.Top (parts_of end text) >>= λ f. Ok f.0) s
+    e ∙ starts_at (not (starts t from text)) start (begun t from text)
+    (λ begin. resolve_parts most_links (rooted t begin.root) mode begin.dir ways.Top (parts_of end text) >>= λ f. Ok f.0) s

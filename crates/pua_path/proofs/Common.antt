@@ -11,6 +11,7 @@ pub use Rattle.pua_tree.specs.Tree.{above, is_dir, Node, node_at, Spot, Tree}
 pub use Rattle.pua_tree.specs.declared.node.Kind.{Kind}
 pub use Rattle.pua_path.specs.Paths.{is_absolute, part_of, parts_of}
 pub use Rattle.pua_path.specs.Remaining.{after_slashes, has_no_part, is_readable, Remaining, rest_parts}
+pub use Rattle.pua_path.specs.Resolution.{above_in, has_root, rooted, RootedTree, seen_from, starts}
 pub use Rattle.pua_path.specs.Resolution.{dir_with_links, Directory, is_followed, last, Linked, most_links, Nothing, Plain, resolution}
 pub use Rattle.pua_path.specs.Resolution.{resolve_parts, Resolved, slot_or, Standing, standing_at, start_of, step, walk}
 pub use Rattle.pua_path.specs.Traces.{after_links, as_path_trace, at_once, PathTrace, slot_or_stop, Trace, trace_parts, walk_traced}
@@ -23,6 +24,7 @@ pub use Rattle.pua_path.specs.declared.found.Found.TheVariants.{Slot, Whole}
 pub use Rattle.pua_path.specs.declared.found.Last.{Last}
 pub use Rattle.pua_path.specs.declared.found.Last.TheVariants.{Followed, Kept}
 pub use Rattle.pua_path.specs.declared.found.Part.{Part}
+pub use Rattle.pua_path.specs.declared.found.Start.{Start}
 pub use Rattle.pua_path.specs.declared.found.Way.{Way}
 pub use Rattle.pua_path.specs.declared.found.Way.TheVariants.{Dot, DotDot, Named, Top}
 pub use Rattle.pua_path.specs.declared.text.Ending.{Ending}

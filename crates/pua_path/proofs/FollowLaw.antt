@@ -1,6 +1,7 @@
 -- What a part names where no link was used before tells it for any number of links used before.
+use Rattle.pua_path.proofs.Common.{RootedTree, above_in}
 use Rattle.pua_path.proofs.Common.{◌≡◌, ℕ, ◌+◌, ◌-◌, ◌≤◌, List, [], ◌∷◌, ◌++◌, Bool, true, false, Option, Some, None, refl, sym, ap, ◌∙◌}
-use Rattle.pua_path.proofs.Common.{subst, arith, Result, Ok, Err, Tree, Node, above, node_at, Kind, ◌>>=◌, parts_of, Resolved, Standing}
+use Rattle.pua_path.proofs.Common.{subst, arith, Result, Ok, Err, Tree, Node, node_at, Kind, ◌>>=◌, parts_of, Resolved, Standing}
 use Rattle.pua_path.proofs.Common.{Directory, Linked, Plain, Nothing, standing_at, start_of, resolve_parts, step, last, most_links, Errno}
 use Rattle.pua_path.proofs.Common.{ELOOP, Part, Followed, Kept, Found, Whole, Slot}
 use Rattle.std.proofs.Common.{option_map}
@@ -30,7 +31,7 @@ arrives_entered : (found : Found) (left used : ℕ) → most_links - left ≡ us
 arrives_entered (Whole dir way) left used e = ap (λ n. Ok (dir, n)) e
 arrives_entered (Slot dir name found) left used e = refl
 
-module _ (t : Tree) (dir used : ℕ) (part : Part) (low : used ≤ most_links) where
+module _ (t : RootedTree) (dir used : ℕ) (part : Part) (low : used ≤ most_links) where
   abbrev answer : ℕ → Resolved
   answer links = resolve_parts links t Followed dir ways.Top (part ∷ [])
 
@@ -78,13 +79,13 @@ kept_at dir name (Linked x target) = Slot dir name (Some x)
 kept_at dir name (Plain x) = Slot dir name (Some x)
 kept_at dir name Nothing = Slot dir name None
 
-kept_found : Tree → ℕ → Part → Found
+kept_found : RootedTree → ℕ → Part → Found
 kept_found t dir parts.Dot = Whole dir ways.Dot
-kept_found t dir parts.DotDot = Whole (above t dir) ways.DotDot
-kept_found t dir (parts.Name name) = kept_at dir name (standing_at t dir name)
+kept_found t dir parts.DotDot = Whole (above_in t dir) ways.DotDot
+kept_found t dir (parts.Name name) = kept_at dir name (standing_at t.tree dir name)
 
-module _ (t : Tree) (links dir : ℕ) where
-  kept_name : (name : List ℕ) (s : Standing) → s ≡ standing_at t dir name →
+module _ (t : RootedTree) (links dir : ℕ) where
+  kept_name : (name : List ℕ) (s : Standing) → s ≡ standing_at t.tree dir name →
       resolve_parts links t Kept dir ways.Top (parts.Name name ∷ []) ≡ Ok (kept_at dir name s, links)
   unfolding kept_at
   kept_name name (Directory x) e = resolve_directory t Kept links dir ways.Top name [] x e ∙
@@ -96,8 +97,8 @@ module _ (t : Tree) (links dir : ℕ) where
   kept_free : (part : Part) → resolve_parts links t Kept dir ways.Top (part ∷ []) ≡ Ok (kept_found t dir part, links)
   unfolding kept_found
   kept_free parts.Dot = resolve_dot t Kept links dir ways.Top [] ∙ resolve_end t Kept links dir ways.Dot
-  kept_free parts.DotDot = resolve_dotdot t Kept links dir ways.Top [] ∙ resolve_end t Kept links (above t dir) ways.DotDot
-  kept_free (parts.Name name) = kept_name name (standing_at t dir name) refl
+  kept_free parts.DotDot = resolve_dotdot t Kept links dir ways.Top [] ∙ resolve_end t Kept links (above_in t dir) ways.DotDot
+  kept_free (parts.Name name) = kept_name name (standing_at t.tree dir name) refl
 
 pub kept_follows_none : KeptFollowsNone
 kept_follows_none t dir used part =
@@ -106,12 +107,12 @@ kept_follows_none t dir used part =
     after (most_links - used) ∙ sym (after (most_links - 0))
 
 -- a name where nothing stands is found as such, by no link
-pub missing_follows : (t : Tree) (dir : ℕ) (name : List ℕ) → look t dir name ≡ None →
+pub missing_follows : (t : RootedTree) (dir : ℕ) (name : List ℕ) → look t.tree dir name ≡ None →
     follow t dir (parts.Name name) ≡ Ok (Slot dir name None, 0)
 missing_follows t dir name none =
     ap (λ (r : Resolved). r >>= found_with_links) (resolve_name t Followed most_links dir ways.Top name [] Nothing (by none))
   where
-    by : look t dir name ≡ None → Nothing ≡ standing_at t dir name
+    by : look t.tree dir name ≡ None → Nothing ≡ standing_at t.tree dir name
     by e = rw e refl
 
 -- files stand plainly at their names
@@ -121,50 +122,50 @@ stands_plainly x node kinds.Prog same file = rw same refl
 stands_plainly x node kinds.Dir same file = absurd (false≢true file)
 stands_plainly x node kinds.Link same file = absurd (false≢true file)
 
-module _ (t : Tree) (dir : ℕ) (name : List ℕ) (x : ℕ) (kind : Kind) (file : is_file kind ≡ true) where
-  by_node : (y : ℕ) (node : Option Node) → look t dir name ≡ Some y → node_at t y ≡ node →
-      option_map {U = ℕ × Kind} (λ k. (y, k)) (option_map (λ n. n.kind) node) ≡ Some (x, kind) → Plain x ≡ standing_at t dir name
+module _ (t : RootedTree) (dir : ℕ) (name : List ℕ) (x : ℕ) (kind : Kind) (file : is_file kind ≡ true) where
+  by_node : (y : ℕ) (node : Option Node) → look t.tree dir name ≡ Some y → node_at t.tree y ≡ node →
+      option_map {U = ℕ × Kind} (λ k. (y, k)) (option_map (λ n. n.kind) node) ≡ Some (x, kind) → Plain x ≡ standing_at t.tree dir name
   by_node y None here at e = absurd (None≢Some (x, kind) e)
   by_node y (Some node) here at e =
       let pair : ◌≡◌ {A = ℕ × Kind} (y, node.kind) (x, kind) = same_Some (y, node.kind) (x, kind) e in
       rw here (rw at (sym (stands_plainly y node kind (ap (λ (p : ℕ × Kind). p.1) pair) file ∙ ap Plain (ap (λ (p : ℕ × Kind). p.0) pair))))
 
-  by_row : (row : Option ℕ) → look t dir name ≡ row →
-      option_and_then {U = ℕ × Kind} (λ y. option_map {U = ℕ × Kind} (λ k. (y, k)) (kind_at t y)) row ≡ Some (x, kind) →
-      Plain x ≡ standing_at t dir name
+  by_row : (row : Option ℕ) → look t.tree dir name ≡ row →
+      option_and_then {U = ℕ × Kind} (λ y. option_map {U = ℕ × Kind} (λ k. (y, k)) (kind_at t.tree y)) row ≡ Some (x, kind) →
+      Plain x ≡ standing_at t.tree dir name
   by_row None here e = absurd (None≢Some (x, kind) e)
-  by_row (Some y) here e = by_node y (node_at t y) here refl e
+  by_row (Some y) here e = by_node y (node_at t.tree y) here refl e
 
   -- a file is found at its name, by no link
-  pub file_follows : tree.found_at t dir name ≡ Some (x, kind) → follow t dir (parts.Name name) ≡ Ok (Slot dir name (Some x), 0)
+  pub file_follows : tree.found_at t.tree dir name ≡ Some (x, kind) → follow t dir (parts.Name name) ≡ Ok (Slot dir name (Some x), 0)
   file_follows e = ap (λ (r : Resolved). r >>= found_with_links) (resolve_name t Followed most_links dir ways.Top name [] (Plain x)
-      (by_row (look t dir name) refl e))
+      (by_row (look t.tree dir name) refl e))
 
 -- the kind of what is found at a name
-pub found_kind : (t : Tree) (dir : ℕ) (name : List ℕ) (x : ℕ) (kind : Kind) → tree.found_at t dir name ≡ Some (x, kind) →
-    kind_at t x ≡ Some kind
-found_kind t dir name x kind e = by_row (look t dir name) e
+pub found_kind : (t : RootedTree) (dir : ℕ) (name : List ℕ) (x : ℕ) (kind : Kind) → tree.found_at t.tree dir name ≡ Some (x, kind) →
+    kind_at t.tree x ≡ Some kind
+found_kind t dir name x kind e = by_row (look t.tree dir name) e
   where
-    by_kind : (y : ℕ) (k : Option Kind) → kind_at t y ≡ k → option_map {U = ℕ × Kind} (λ k. (y, k)) k ≡ Some (x, kind) →
-        kind_at t x ≡ Some kind
+    by_kind : (y : ℕ) (k : Option Kind) → kind_at t.tree y ≡ k → option_map {U = ℕ × Kind} (λ k. (y, k)) k ≡ Some (x, kind) →
+        kind_at t.tree x ≡ Some kind
     by_kind y None at e = absurd (None≢Some (x, kind) e)
     by_kind y (Some k) at e =
         let pair : ◌≡◌ {A = ℕ × Kind} (y, k) (x, kind) = same_Some (y, k) (x, kind) e in
-        ap (kind_at t) (sym (ap (λ (p : ℕ × Kind). p.0) pair)) ∙ at ∙ ap Some (ap (λ (p : ℕ × Kind). p.1) pair)
+        ap (kind_at t.tree) (sym (ap (λ (p : ℕ × Kind). p.0) pair)) ∙ at ∙ ap Some (ap (λ (p : ℕ × Kind). p.1) pair)
 
-    by_row : (row : Option ℕ) → option_and_then {U = ℕ × Kind} (λ y. option_map {U = ℕ × Kind} (λ k. (y, k)) (kind_at t y)) row ≡ Some (
+    by_row : (row : Option ℕ) → option_and_then {U = ℕ × Kind} (λ y. option_map {U = ℕ × Kind} (λ k. (y, k)) (kind_at t.tree y)) row ≡ Some (
       x,
       kind,
-    ) → kind_at t x ≡ Some kind
+    ) → kind_at t.tree x ≡ Some kind
     by_row None e = absurd (None≢Some (x, kind) e)
-    by_row (Some y) e = by_kind y (kind_at t y) refl e
+    by_row (Some y) e = by_kind y (kind_at t.tree y) refl e
 
 -- a link that is followed counts
 abbrev count_of : Result (Found × ℕ) Errno → ℕ
 count_of (Ok found) = found.1
 count_of (Err errno) = 1
 
-module _ (t : Tree) (from : ℕ) (ps : List Part) where
+module _ (t : RootedTree) (from : ℕ) (ps : List Part) where
   counts_some : (outcome : Result Found Errno) (count : ℕ) → count_of ((outcome >>= λ found. Ok (found, 31 - count)) >>= found_with_links)
       ≡ 0 → ⊥
   counts_some (Ok found) count e = omega (arith, e)
@@ -185,8 +186,8 @@ without_count (Ok found) = Ok found.0
 without_count (Err errno) = Err errno
 
 -- what is found without a link is what is found where the last part is kept
-module _ (t : Tree) (dir : ℕ) where
-  found_at : (name : List ℕ) (found : Found) (s : Standing) → s ≡ standing_at t dir name → follow t dir (parts.Name name) ≡ Ok (found, 0) →
+module _ (t : RootedTree) (dir : ℕ) where
+  found_at : (name : List ℕ) (found : Found) (s : Standing) → s ≡ standing_at t.tree dir name → follow t dir (parts.Name name) ≡ Ok (found, 0) →
       ◌≡◌ {A = Result Found Errno} (Ok found) (Ok (kept_at dir name s))
   unfolding kept_at
   found_at name found (Directory x) same e =
@@ -194,7 +195,7 @@ module _ (t : Tree) (dir : ℕ) where
       ap (λ (r : Resolved). r >>= found_with_links) (resolve_directory t Followed most_links dir ways.Top name [] x same ∙
       resolve_end t Followed most_links x (ways.Named dir name)))
   found_at name found (Linked x target) same e =
-      absurd (link_counts t (start_of target dir) (parts_of ending.Dot target ++ [])
+      absurd (link_counts t (start_of t.root target dir) (parts_of ending.Dot target ++ [])
       (ap count_of (sym (ap (λ (r : Resolved). r >>= found_with_links) (resolve_linked t Followed most_links dir ways.Top name [] x
       target same refl)) ∙ e)))
   found_at name found (Plain x) same e =
@@ -212,10 +213,10 @@ module _ (t : Tree) (dir : ℕ) where
       resolve_end t Followed most_links dir ways.Dot))
   found_kept parts.DotDot found e =
       ap without_count (sym e ∙ ap (λ (r : Resolved). r >>= found_with_links) (resolve_dotdot t Followed most_links dir ways.Top [] ∙
-      resolve_end t Followed most_links (above t dir) ways.DotDot))
-  found_kept (parts.Name name) found e = found_at name found (standing_at t dir name) refl e
+      resolve_end t Followed most_links (above_in t dir) ways.DotDot))
+  found_kept (parts.Name name) found e = found_at name found (standing_at t.tree dir name) refl e
 
-pub unlinked_alike : (t : Tree) (dir : ℕ) (part : Part) (found : Found) → follow t dir part ≡ Ok (found, 0) →
+pub unlinked_alike : (t : RootedTree) (dir : ℕ) (part : Part) (found : Found) → follow t dir part ≡ Ok (found, 0) →
     last t dir 0 part Kept ≡ Ok found
 unlinked_alike t dir part found e = ap (λ (r : Resolved). r >>= λ found. Ok found.0) (kept_free t most_links dir part) ∙
     sym (found_kept t dir part found e)

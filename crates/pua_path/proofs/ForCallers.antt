@@ -8,8 +8,8 @@ pub use Rattle.pua_path.proofs.Composition.{composes}
 pub use Rattle.pua_path.proofs.FollowLaw.{follow_decides, kept_follows_none}
 -- what a name is where nothing stands or a file does, and what is found without a link where the last part is kept
 pub use Rattle.pua_path.proofs.FollowLaw.{missing_follows, file_follows, found_kind, unlinked_alike}
--- the directory above a directory lives, and so does where a target starts
-pub use Rattle.pua_path.proofs.Living.{above_lives, start_lives}
+-- the directory above a directory lives, and so does where a target starts, and the root as paths see it
+pub use Rattle.pua_path.proofs.Living.{above_lives, start_lives, seen_root_lives}
 -- what is true of each element is true of the one found
 pub use Rattle.pua_path.proofs.Living.{find_passes, list_all-find_key}
 -- a trace answers as the resolution does, says what stands in the tree, and says how the path goes

@@ -1,6 +1,7 @@
 -- A trace says how the path goes, and the resolution goes so.
+use Rattle.pua_path.proofs.Common.{RootedTree, above_in}
 use Rattle.pua_path.proofs.Common.{◌≡◌, ℕ, zero, suc, Bool, true, false, List, [], ◌∷◌, ◌++◌, Some, None, refl, sym, ◌∙◌, Result, Ok, Err}
-use Rattle.pua_path.proofs.Common.{Option, subst, if◌then◌else◌, Tree, Spot, above, parts_of, has_no_part, Standing, Directory, Linked}
+use Rattle.pua_path.proofs.Common.{Option, subst, if◌then◌else◌, Spot, parts_of, has_no_part, Standing, Directory, Linked}
 use Rattle.pua_path.proofs.Common.{Plain, Nothing, standing_at, is_followed, start_of, resolve_parts, Part, Last, Way, Named, Dot, DotDot}
 use Rattle.pua_path.proofs.Common.{Top, Found, Whole, Slot, Stop, NoEntry, NoDirectory, LinkBeyond, Trace, at_once, after_links}
 use Rattle.pua_path.proofs.Common.{slot_or_stop, walk_traced, trace_parts}
@@ -14,7 +15,7 @@ use Rattle.pua_path.specs.Goes.{ComingResolves}
 use Rattle.pua_path.proofs.TraceSteps.{met_traced, traced_name}
 
 -- one step in front of a way
-module _ (t : Tree) (mode : Last) (links dir links_on dir_on : ℕ) (ps on : List Part) (more : List Spot → List Spot)
+module _ (t : RootedTree) (mode : Last) (links dir links_on dir_on : ℕ) (ps on : List Part) (more : List Spot → List Spot)
     (goes : (spots : List Spot) (left at : ℕ) (qs : List Part) → Comes t mode links_on dir_on on spots left at qs →
     Comes t mode links dir ps (more spots) left at qs) where
   ends_behind : (spots : List Spot) (found : Found) (left : ℕ) → EndsAt t mode links_on dir_on on spots found left →
@@ -39,8 +40,8 @@ module _ (t : Tree) (mode : Last) (links dir links_on dir_on : ℕ) (ps on : Lis
           }
 
 -- where nothing but a last name is left
-slot_arrives : (t : Tree) (mode : Last) (links dir : ℕ) (name : List ℕ) (rest : List Part) (x : Option ℕ) (stop : Stop) →
-    stop_spot stop ≡ (dir, name) → IsFoundBy (standing_at t dir name) x →
+slot_arrives : (t : RootedTree) (mode : Last) (links dir : ℕ) (name : List ℕ) (rest : List Part) (x : Option ℕ) (stop : Stop) →
+    stop_spot stop ≡ (dir, name) → IsFoundBy (standing_at t.tree dir name) x →
     (has_no_part rest ≡ false → StopsFor t mode links rest stop) →
     Arrives t mode links dir (parts.Name name ∷ rest) (slot_or_stop rest (Slot dir name x) stop links)
 slot_arrives t mode links dir name [] x stop at found why = (there, found)
@@ -55,11 +56,11 @@ slot_arrives t mode links dir name (p ∷ rest) x stop at found why =
       why = why refl;
     }
 
-module _ (t : Tree) (mode : Last) (links : ℕ) (follow : Spot → List ℕ → List Part → Trace)
-    (follows : (dir x : ℕ) (name target : List ℕ) (rest : List Part) → standing_at t dir name ≡ Linked x target →
+module _ (t : RootedTree) (mode : Last) (links : ℕ) (follow : Spot → List ℕ → List Part → Trace)
+    (follows : (dir x : ℕ) (name target : List ℕ) (rest : List Part) → standing_at t.tree dir name ≡ Linked x target →
     is_followed mode rest ≡ true →
     Arrives t mode links dir (parts.Name name ∷ rest) (follow (dir, name) target rest)) where
-  met_arrives : (ps : List Part) (dir : ℕ) (name : List ℕ) (s : Standing) → standing_at t dir name ≡ s →
+  met_arrives : (ps : List Part) (dir : ℕ) (name : List ℕ) (s : Standing) → standing_at t.tree dir name ≡ s →
       ((x : ℕ) → Arrives t mode links x ps (walk_traced t mode links follow x (Named dir name) ps)) →
       Arrives t mode links dir (parts.Name name ∷ ps) (met_traced t mode links follow dir name ps s)
   met_arrives ps dir name (Directory x) e further =
@@ -95,10 +96,10 @@ module _ (t : Tree) (mode : Last) (links : ℕ) (follow : Spot → List ℕ → 
       arrives_behind t mode links dir links dir (parts.Dot ∷ ps) ps (λ spots. spots) (λ spots left at qs c. by_dot c) _
       (walk_arrives ps dir Dot)
   walk_arrives (parts.DotDot ∷ ps) dir way =
-      arrives_behind t mode links dir links (above t dir) (parts.DotDot ∷ ps) ps (λ spots. spots) (λ spots left at qs c. by_dots c) _
-      (walk_arrives ps (above t dir) DotDot)
+      arrives_behind t mode links dir links (above_in t dir) (parts.DotDot ∷ ps) ps (λ spots. spots) (λ spots left at qs c. by_dots c) _
+      (walk_arrives ps (above_in t dir) DotDot)
   walk_arrives (parts.Name name ∷ ps) dir way =
-      rw (traced_name t mode links follow dir way name ps) (met_arrives ps dir name (standing_at t dir name) refl
+      rw (traced_name t mode links follow dir way name ps) (met_arrives ps dir name (standing_at t.tree dir name) refl
       (λ x. walk_arrives ps x (Named dir name)))
 
 pub traces_arrive : TracesArrive
@@ -107,15 +108,15 @@ traces_arrive t mode zero dir way ps =
     (λ dir x name target rest e k. record { left = 0; rest = rest; comes = there; why = (x, target, e, k, refl) }) ps dir way
 traces_arrive t mode (suc links) dir way ps =
     walk_arrives t mode (suc links)
-    (λ spot target rest. after_links (spot ∷ []) (trace_parts links t mode (start_of target spot.0) Top (parts_of ending.Dot target
+    (λ spot target rest. after_links (spot ∷ []) (trace_parts links t mode (start_of t.root target spot.0) Top (parts_of ending.Dot target
     ++ rest)))
     (λ dir x name target rest e k.
-    arrives_behind t mode (suc links) dir links (start_of target dir) (parts.Name name ∷ rest) (parts_of ending.Dot target ++ rest)
+    arrives_behind t mode (suc links) dir links (start_of t.root target dir) (parts.Name name ∷ rest) (parts_of ending.Dot target ++ rest)
     (λ spots. (dir, name) ∷ spots) (λ spots left at qs c. by_target x target e k c) _
-    (traces_arrive t mode links (start_of target dir) Top (parts_of ending.Dot target ++ rest))) ps dir way
+    (traces_arrive t mode links (start_of t.root target dir) Top (parts_of ending.Dot target ++ rest))) ps dir way
 
 -- the same with the way that was come by an equation, for the cases
-resolves : (t : Tree) (mode : Last) {links dir : ℕ} {ps : List Part} {spots : List Spot} {left at : ℕ} {rs : List Part} →
+resolves : (t : RootedTree) (mode : Last) {links dir : ℕ} {ps : List Part} {spots : List Spot} {left at : ℕ} {rs : List Part} →
     Comes t mode links dir ps spots left at rs → has_no_part rs ≡ false →
     (way other : Way) → resolve_parts links t mode dir way ps ≡ resolve_parts left t mode at other rs
 resolves t mode {links} {dir} {ps} there d way other = resolve_passed t mode links dir way other ps d

@@ -1,6 +1,7 @@
 -- How an answer depends on the links that may be followed.
+use Rattle.pua_path.proofs.Common.{RootedTree}
 use Rattle.pua_path.proofs.Common.{◌≡◌, ℕ, zero, suc, Bool, true, false, List, [], ◌∷◌, ◌++◌, Some, None, refl, ap, ◌∙◌, arith, ◌+◌, ◌-◌}
-use Rattle.pua_path.proofs.Common.{◌≤◌, ◌<◌, Result, Ok, Err, Tree, ◌>>=◌, parts_of, Resolved, Standing, Directory, Linked, Plain, Nothing}
+use Rattle.pua_path.proofs.Common.{◌≤◌, ◌<◌, Result, Ok, Err, ◌>>=◌, parts_of, Resolved, Standing, Directory, Linked, Plain, Nothing}
 use Rattle.pua_path.proofs.Common.{standing_at, is_followed, slot_or, start_of, resolve_parts, dir_with_links, step, last, most_links}
 use Rattle.pua_path.proofs.Common.{Errno, ENOENT, ENOTDIR, ELOOP, Part, Last, Followed, Way, Found, Whole, Slot}
 use Rattle.std.proofs.Common.{◌⊎◌, inl, inr}
@@ -47,12 +48,12 @@ slot_alone : (ps : List Part) (found : Found) (errno : Errno) (links : ℕ) →
 slot_alone [] found errno links = refl
 slot_alone (p ∷ ps) found errno links = refl
 
-module _ (t : Tree) (mode : Last) (most : ℕ)
+module _ (t : RootedTree) (mode : Last) (most : ℕ)
     (links_decide : (from : ℕ) (target : List ℕ) (rest : List Part) →
     IsDecidedByLinks (λ links. followed links t mode from target rest) most) where
   name_decides : (dir : ℕ) (way : Way) (name : List ℕ) (ps : List Part) →
       ((x : ℕ) → IsDecidedByLinks (λ links. resolve_parts links t mode x (ways.Named dir name) ps) most) →
-      (s : Standing) → s ≡ standing_at t dir name →
+      (s : Standing) → s ≡ standing_at t.tree dir name →
       IsDecidedByLinks (λ links. resolve_parts links t mode dir way (parts.Name name ∷ ps)) most
   name_decides dir way name ps further (Directory x) e =
       decided_alike _ (λ links. resolve_parts links t mode x (ways.Named dir name) ps) most
@@ -79,7 +80,7 @@ module _ (t : Tree) (mode : Last) (most : ℕ)
       decided_alike _ (λ links. resolve_parts links t mode _ ways.DotDot ps) most (λ links. resolve_dotdot t mode links dir way ps)
       (parts_decide ps _ ways.DotDot)
   parts_decide (parts.Name name ∷ ps) dir way =
-      name_decides dir way name ps (λ x. parts_decide ps x (ways.Named dir name)) (standing_at t dir name) refl
+      name_decides dir way name ps (λ x. parts_decide ps x (ways.Named dir name)) (standing_at t.tree dir name) refl
 
 -- one link more
 one_more_link : (g : ℕ → Resolved) (f : ℕ → Resolved) (most : ℕ) → f zero ≡ Err ELOOP → ((links : ℕ) → f (suc links) ≡ g links) →
@@ -109,9 +110,9 @@ links_decide t mode dir way ps zero =
     no_links from target rest links e = ap (λ n. followed n t mode from target rest) e
 links_decide t mode dir way ps (suc most) =
     parts_decide t mode (suc most)
-    (λ from target rest. one_more_link (λ links. resolve_parts links t mode (start_of target from) ways.Top (parts_of ending.Dot target
+    (λ from target rest. one_more_link (λ links. resolve_parts links t mode (start_of t.root target from) ways.Top (parts_of ending.Dot target
     ++ rest)) (λ links. followed links t mode from target rest) most refl (λ links. refl)
-    (links_decide t mode (start_of target from) ways.Top (parts_of ending.Dot target ++ rest) most)) ps dir way
+    (links_decide t mode (start_of t.root target from) ways.Top (parts_of ending.Dot target ++ rest) most)) ps dir way
 
 -- the directory that a step leads to
 place : Found → Result ℕ Errno

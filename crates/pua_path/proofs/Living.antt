@@ -1,8 +1,9 @@
 -- What is true of the nodes of every tree.
+use Rattle.pua_path.proofs.Common.{RootedTree, Start, above_in, has_root, rooted, seen_from, starts}
 use Rattle.pua_path.proofs.Common.{◌≡◌, ℕ, zero, suc, Bool, true, false, List, [], ◌∷◌, Option, Some, None, length, refl, sym, ap, ◌∙◌}
 use Rattle.pua_path.proofs.Common.{arith, ◌≤◌, ◌++◌, ◌+◌, ◌-◌, ◌<◌, ◌==◌, if◌then◌else◌, nat_lt, not, and_parts, list_all, Bor, has_byte}
 use Rattle.pua_path.proofs.Common.{Tree, Node, Spot, node_at, is_dir, above, Kind, is_absolute, parts_of, Remaining, is_readable, start_of}
-use Rattle.std.proofs.Common.{◌&&◌}
+use Rattle.std.proofs.Common.{◌&&◌, ◌||◌, eqb-true}
 use Rattle.std.proofs.Common.{max, cond, fold, find, option_map, option_and_then, option_copied}
 use Rattle.std.proofs.Common.{length-append, sub-one}
 use Rattle.std.specs.Prelude.{nat_le, unwrap_or}
@@ -107,12 +108,46 @@ seen_target t x None nothing w e n = rw n (target_stands t x None w e)
 seen_target t x (Some target) nothing w e n = target_stands t x (Some target.now) w e
 
 -- a target starts at a living directory
-pub start_lives : (t : Tree) (dir : ℕ) (target : List ℕ) → WellFormed t → is_dir t dir ≡ true → is_dir t (start_of target dir) ≡ true
-start_lives t dir target w h = by (is_absolute target)
+pub start_lives : (t : Tree) (root dir : ℕ) (target : List ℕ) → is_dir t root ≡ true → is_dir t dir ≡ true →
+    is_dir t (start_of root target dir) ≡ true
+start_lives t root dir target r h = by (is_absolute target)
   where
-    by : (v : Bool) → is_dir t (if v then 0 else dir) ≡ true
-    by true = w.root
+    by : (v : Bool) → is_dir t (if v then root else dir) ≡ true
+    by true = r
     by false = h
+
+-- the directory above one by a living root lives
+pub above_in_lives : (t : RootedTree) (dir : ℕ) → WellFormed t.tree → is_dir t.tree t.root ≡ true → is_dir t.tree (above_in t dir) ≡ true
+above_in_lives t dir w r = by (not (t.root == 0) && (dir == t.root))
+  where
+    by : (v : Bool) → is_dir t.tree (if v then t.root else above t.tree dir) ≡ true
+    by true = r
+    by false = above_lives t.tree dir w
+
+-- a root that was not removed lives
+pub root_lives : (t : Tree) (root : ℕ) → WellFormed t → has_root t root ≡ true → is_dir t root ≡ true
+root_lives t root w = by (root == 0) refl
+  where
+    by : (v : Bool) → (root == 0) ≡ v → (v || is_dir t root) ≡ true → is_dir t root ≡ true
+    by true e h = rw (eqb-true root 0 e) w.root
+    by false e h = h
+
+-- and so does the root as paths see it
+pub seen_root_lives : (t : Tree) (from : Start) → WellFormed t → is_dir t (seen_from t from).root ≡ true
+seen_root_lives t from w = by (has_root t from.root) refl
+  where
+    by : (v : Bool) → has_root t from.root ≡ v → is_dir t (if v then from.root else 0) ≡ true
+    by true h = root_lives t from.root w h
+    by false h = w.root
+
+-- and the directory where a text starts
+pub text_start_lives : (t : Tree) (from : Start) (text : List ℕ) → WellFormed t → starts t from text ≡ true →
+    is_dir t (start_of from.root text from.dir) ≡ true
+text_start_lives t from text w = by (is_absolute text)
+  where
+    by : (v : Bool) → (if v then has_root t from.root else is_dir t from.dir) ≡ true → is_dir t (if v then from.root else from.dir) ≡ true
+    by true h = root_lives t from.root w h
+    by false h = h
 
 -- the directory above, as the probe answers it
 pub parent_lives : (t : Tree) (dir : ℕ) → WellFormed t → is_dir t dir ≡ true → is_dir t (unwrap_or (parent t dir) 0) ≡ true

@@ -1,6 +1,7 @@
 -- Steps and a last part are the resolution of the whole.
+use Rattle.pua_path.proofs.Common.{RootedTree}
 use Rattle.pua_path.proofs.Common.{◌≡◌, ℕ, zero, suc, Bool, true, false, List, [], ◌∷◌, ◌++◌, Some, None, refl, sym, ap, ◌∙◌, arith, ◌-◌}
-use Rattle.pua_path.proofs.Common.{◌≤◌, Result, Ok, Err, if◌then◌else◌, Tree, ◌>>=◌, parts_of, Resolved, Standing, Directory, Linked, Plain}
+use Rattle.pua_path.proofs.Common.{◌≤◌, Result, Ok, Err, if◌then◌else◌, ◌>>=◌, parts_of, Resolved, Standing, Directory, Linked, Plain}
 use Rattle.pua_path.proofs.Common.{Nothing, standing_at, is_followed, slot_or, walk, start_of, resolve_parts, dir_with_links, step, last}
 use Rattle.pua_path.proofs.Common.{most_links, Errno, ENOENT, ENOTDIR, ELOOP, Part, Last, Followed, Way, Found, Whole, Slot}
 use Rattle.pua_path.specs.Laws.{onwards, steps, StepsCompose}
@@ -19,7 +20,7 @@ slot_shrinks : (links : ℕ) (ps : List Part) (found : Found) (errno : Errno) �
 slot_shrinks links [] found errno = omega arith
 slot_shrinks links (p ∷ ps) found errno = tt
 
-module _ (t : Tree) (mode : Last) (links : ℕ) (follow : ℕ → List ℕ → List Part → Resolved)
+module _ (t : RootedTree) (mode : Last) (links : ℕ) (follow : ℕ → List ℕ → List Part → Resolved)
     (follows : (from : ℕ) (target : List ℕ) (rest : List Part) → Shrinks links (follow from target rest)) where
   met_shrinks : (ps : List Part) (dir : ℕ) (name : List ℕ) (s : Standing) →
       ((x : ℕ) → Shrinks links (walk t mode links follow x (ways.Named dir name) ps)) →
@@ -39,22 +40,22 @@ module _ (t : Tree) (mode : Last) (links : ℕ) (follow : ℕ → List ℕ → L
   walk_shrinks (parts.DotDot ∷ ps) dir way = walk_shrinks ps _ ways.DotDot
   walk_shrinks (parts.Name name ∷ ps) dir way =
       rw (walk_name t mode links follow dir way name ps)
-      (met_shrinks ps dir name (standing_at t dir name) (λ x. walk_shrinks ps x (ways.Named dir name)))
+      (met_shrinks ps dir name (standing_at t.tree dir name) (λ x. walk_shrinks ps x (ways.Named dir name)))
 
 fewer : (links : ℕ) (r : Resolved) → Shrinks links r → Shrinks (suc links) r
 fewer links (Ok found) h = omega (arith, h)
 fewer links (Err errno) h = tt
 
-pub shrinks : (t : Tree) (mode : Last) (links dir : ℕ) (way : Way) (ps : List Part) → Shrinks links (resolve_parts links t mode dir way ps)
+pub shrinks : (t : RootedTree) (mode : Last) (links dir : ℕ) (way : Way) (ps : List Part) → Shrinks links (resolve_parts links t mode dir way ps)
 shrinks t mode zero dir way ps = walk_shrinks t mode 0 (λ from target rest. Err ELOOP) (λ from target rest. tt) ps dir way
 shrinks t mode (suc links) dir way ps =
-    walk_shrinks t mode (suc links) (λ from target rest. resolve_parts links t mode (start_of target from) ways.Top
+    walk_shrinks t mode (suc links) (λ from target rest. resolve_parts links t mode (start_of t.root target from) ways.Top
     (parts_of ending.Dot target ++ rest))
-    (λ from target rest. fewer links _ (shrinks t mode links (start_of target from) ways.Top (parts_of ending.Dot target ++ rest))) ps dir
+    (λ from target rest. fewer links _ (shrinks t mode links (start_of t.root target from) ways.Top (parts_of ending.Dot target ++ rest))) ps dir
     way
 
 -- what comes after a first part, by the directory and the links used there
-then_on : (t : Tree) (mode : Last) (links : ℕ) (r : Resolved) (next : Part) (rest : List Part) (further : ℕ × ℕ → Result Found Errno) →
+then_on : (t : RootedTree) (mode : Last) (links : ℕ) (r : Resolved) (next : Part) (rest : List Part) (further : ℕ × ℕ → Result Found Errno) →
     links ≤ most_links → Shrinks links r →
     ((dir used : ℕ) → used ≤ most_links → (resolve_parts (most_links - used) t mode dir ways.Top (next ∷ rest) >>= λ found. Ok found.0)
     ≡ further (dir, used)) →

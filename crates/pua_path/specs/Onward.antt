@@ -2,10 +2,11 @@
 use Rattle.std.specs.Prelude.{ℕ, zero, suc, Bool, true, not, ◌++◌, if◌then◌else◌, List, Some, None, Result, Ok, Err}
 use Rattle.std.specs.Prelude.{IsTrue}
 use Rattle.pua_tree.specs.Names.{is_name}
-use Rattle.pua_tree.specs.Tree.{Tree, is_dir, above}
+use Rattle.pua_tree.specs.Tree.{Tree, is_dir}
 use Rattle.pua_tree.specs.Steps.{◌>>=◌}
 use Rattle.pua_path.specs.Paths.{parts_of}
-use Rattle.pua_path.specs.Resolution.{Resolved, Standing, Directory, Linked, Plain, Nothing, standing_at, start_of, resolve_parts}
+use Rattle.pua_path.specs.Resolution.{Resolved, RootedTree, above_in, Standing, Directory, Linked, Plain, Nothing, standing_at}
+use Rattle.pua_path.specs.Resolution.{start_of, resolve_parts}
 use Rattle.pua_path.specs.Walks.{HasFewParts, found_seen, way_of}
 use Rattle.pua_path.specs.declared.errno.Errno.{Errno}
 use Rattle.pua_path.specs.declared.errno.Errno.TheVariants.{ENOENT, ENOTDIR, ELOOP}
@@ -45,16 +46,16 @@ onward_at mode dir name last (Plain x) = ends_or last (Slot dir name (Some x)) E
 onward_at mode dir name last Nothing = ends_or last (Slot dir name None) ENOENT
 
 -- by a part
-abbrev pub onward_by : Tree → Last → ℕ → Part → Bool → Onward
+abbrev pub onward_by : RootedTree → Last → ℕ → Part → Bool → Onward
 onward_by t mode dir parts.Dot last = Goes dir ways.Dot
-onward_by t mode dir parts.DotDot last = Goes (above t dir) ways.DotDot
-onward_by t mode dir (parts.Name name) last = onward_at mode dir name last (standing_at t dir name)
+onward_by t mode dir parts.DotDot last = Goes (above_in t dir) ways.DotDot
+onward_by t mode dir (parts.Name name) last = onward_at mode dir name last (standing_at t.tree dir name)
 
 -- what comes of following a link, with so many links left before it
-abbrev pub followed : ℕ → Tree → Last → ℕ → List ℕ → List Part → Resolved
+abbrev pub followed : ℕ → RootedTree → Last → ℕ → List ℕ → List Part → Resolved
 followed zero t mode from target rest = Err ELOOP
 followed (suc links) t mode from target rest =
-    resolve_parts links t mode (start_of target from) ways.Top (parts_of Dot target ++ rest)
+    resolve_parts links t mode (start_of t.root target from) ways.Top (parts_of Dot target ++ rest)
 
 -- what was found, apart from the links left
 abbrev pub found_alone : Resolved → Result Found Errno

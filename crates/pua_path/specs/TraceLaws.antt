@@ -1,9 +1,10 @@
 -- What is true of traces.
 use Rattle.std.specs.Prelude.{◌≡◌, ℕ, ◌+◌, ◌≤◌, List, [], ◌∷◌, length, Result, Ok, Err}
 use Rattle.pua_tree.specs.Tree.{Tree, Spot}
-use Rattle.pua_path.specs.Resolution.{Linked, Plain, Nothing, standing_at, resolve_parts, resolution_of_text}
+use Rattle.pua_path.specs.Resolution.{RootedTree, Linked, Plain, Nothing, standing_at, resolve_parts, resolution_of_text}
 use Rattle.pua_path.specs.declared.text.Ending.{Ending}
 use Rattle.pua_path.specs.declared.found.Part.{Part}
+use Rattle.pua_path.specs.declared.found.Start.{Start}
 use Rattle.pua_path.specs.declared.found.Last.{Last}
 use Rattle.pua_path.specs.declared.found.Way.{Way}
 use Rattle.pua_path.specs.declared.found.Found.{Found}
@@ -13,11 +14,11 @@ use Rattle.pua_path.specs.Traces.{Trace, trace_parts, resolved_as, trace_of_text
 
 -- a trace answers as the resolution does
 abbrev pub TracesAnswer : Type 0
-TracesAnswer = (t : Tree) (mode : Last) (links dir : ℕ) (way : Way) (ps : List Part) →
+TracesAnswer = (t : RootedTree) (mode : Last) (links dir : ℕ) (way : Way) (ps : List Part) →
     resolved_as (trace_parts links t mode dir way ps).outcome ≡ resolve_parts links t mode dir way ps
 
 abbrev pub TextTracesAnswer : Type 0
-TextTracesAnswer = (t : Tree) (from : ℕ) (ending : Ending) (text : List ℕ) (mode : Last) →
+TextTracesAnswer = (t : Tree) (from : Start) (ending : Ending) (text : List ℕ) (mode : Last) →
     object_or_errno (trace_of_text t from ending text mode).outcome ≡ resolution_of_text t from ending text mode
 
 -- what stands where it stops is what the stop says
@@ -54,5 +55,5 @@ pub record TraceHolds (t : Tree) (links : ℕ) (trace : Trace) : Type 0 where
   pub count : CountsLinks links trace
 
 abbrev pub TracesHold : Type 0
-TracesHold = (t : Tree) (mode : Last) (links dir : ℕ) (way : Way) (ps : List Part) →
-    TraceHolds t links (trace_parts links t mode dir way ps)
+TracesHold = (t : RootedTree) (mode : Last) (links dir : ℕ) (way : Way) (ps : List Part) →
+    TraceHolds t.tree links (trace_parts links t mode dir way ps)

@@ -1,16 +1,18 @@
 -- How a path goes: what it names or where it stops, and the links that were followed by then.
-use Rattle.std.specs.Prelude.{ℕ, zero, suc, not, ◌&&◌, if◌then◌else◌, List, [], ◌∷◌, ◌++◌, Option, Some, None, Result, Ok, Err}
-use Rattle.pua_tree.specs.Tree.{Tree, Spot, is_dir, above}
+use Rattle.std.specs.Prelude.{ℕ, zero, suc, not, if◌then◌else◌, List, [], ◌∷◌, ◌++◌, Option, Some, None, Result, Ok, Err}
+use Rattle.pua_tree.specs.Tree.{Tree, Spot}
 use Rattle.pua_path.specs.Limits.{most_links}
 pub use Rattle.pua_path.specs.Paths.{text_errno, text_fault}
-use Rattle.pua_path.specs.Paths.{parts_of, is_absolute}
-use Rattle.pua_path.specs.Resolution.{Resolved, Directory, Linked, Plain, Nothing, standing_at, is_followed, start_of}
+use Rattle.pua_path.specs.Paths.{parts_of}
+use Rattle.pua_path.specs.Resolution.{Resolved, RootedTree, above_in, Directory, Linked, Plain, Nothing, standing_at, is_followed, start_of}
+use Rattle.pua_path.specs.Resolution.{starts, seen_from}
 use Rattle.pua_path.specs.declared.errno.Errno.{Errno}
 use Rattle.pua_path.specs.declared.errno.Errno.TheVariants.{ENOENT, ENOTDIR, ELOOP}
 use Rattle.pua_path.specs.declared.text.Ending.{Ending}
 use Rattle.pua_path.specs.declared.text.Ending.TheVariants as ending
 use Rattle.pua_path.specs.declared.found.Part.{Part}
 use Rattle.pua_path.specs.declared.found.Part.TheVariants as parts
+use Rattle.pua_path.specs.declared.found.Start.{Start}
 use Rattle.pua_path.specs.declared.found.Last.{Last}
 use Rattle.pua_path.specs.declared.found.Way.{Way}
 use Rattle.pua_path.specs.declared.found.Way.TheVariants.{Named, Dot, DotDot, Top}
@@ -51,11 +53,11 @@ slot_or_stop [] found stop links = at_once (Ok (found, links))
 slot_or_stop (part ∷ rest) found stop links = at_once (Err stop)
 
 -- as `walk` goes, with the name of the link that it follows
-abbrev pub walk_traced : Tree → Last → ℕ → (Spot → List ℕ → List Part → Trace) → ℕ → Way → List Part → Trace
+abbrev pub walk_traced : RootedTree → Last → ℕ → (Spot → List ℕ → List Part → Trace) → ℕ → Way → List Part → Trace
 walk_traced t mode links follow dir way [] = at_once (Ok (Whole dir way, links))
 walk_traced t mode links follow dir way (parts.Dot ∷ rest) = walk_traced t mode links follow dir Dot rest
-walk_traced t mode links follow dir way (parts.DotDot ∷ rest) = walk_traced t mode links follow (above t dir) DotDot rest
-walk_traced t mode links follow dir way (parts.Name name ∷ rest) = elim (standing_at t dir name) [
+walk_traced t mode links follow dir way (parts.DotDot ∷ rest) = walk_traced t mode links follow (above_in t dir) DotDot rest
+walk_traced t mode links follow dir way (parts.Name name ∷ rest) = elim (standing_at t.tree dir name) [
   | Directory x ↦ walk_traced t mode links follow x (Named dir name) rest
   | Linked x target ↦ if is_followed mode rest then follow (dir, name) target rest else at_once (Ok (Slot dir name (Some x), links))
   | Plain x ↦ slot_or_stop rest (Slot dir name (Some x)) (NoDirectory (dir, name)) links
@@ -63,11 +65,11 @@ walk_traced t mode links follow dir way (parts.Name name ∷ rest) = elim (stand
 ]
 
 -- as `resolve_parts` goes
-abbrev pub trace_parts : ℕ → Tree → Last → ℕ → Way → List Part → Trace
+abbrev pub trace_parts : ℕ → RootedTree → Last → ℕ → Way → List Part → Trace
 trace_parts zero t mode dir way parts = walk_traced t mode 0 (λ spot target rest. at_once (Err (LinkBeyond spot))) dir way parts
 trace_parts (suc links) t mode dir way parts =
     walk_traced t mode (suc links)
-    (λ spot target rest. after_links (spot ∷ []) (trace_parts links t mode (start_of target spot.0) Top (parts_of ending.Dot target
+    (λ spot target rest. after_links (spot ∷ []) (trace_parts links t mode (start_of t.root target spot.0) Top (parts_of ending.Dot target
     ++ rest))) dir way parts
 
 -- the outcome, by its errno
@@ -75,7 +77,7 @@ abbrev pub resolved_as : Result (Found × ℕ) Stop → Resolved
 resolved_as (Ok found) = Ok found
 resolved_as (Err stop) = Err (stop_errno stop)
 
--- why a path names nothing: its text, a working directory that was removed, or where it stops
+-- why a path names nothing: its text, a directory to start at that was removed, or where it stops
 abbrev pub path_errno : PathFault → Errno
 path_errno (InText fault) = text_errno fault
 path_errno NoStart = ENOENT
@@ -97,13 +99,13 @@ abbrev pub as_path_trace : Trace → PathTrace
 as_path_trace trace = record { links = trace.links; outcome = named_or_stopped trace.outcome }
 
 -- the trace of a text without fault, which computes each link's further trace twice and so is unfolded by hand
-unfoldable pub trace_from : Tree → ℕ → Ending → List ℕ → Last → PathTrace
+unfoldable pub trace_from : Tree → Start → Ending → List ℕ → Last → PathTrace
 trace_from t from ending text mode =
-    if not (is_absolute text) && not (is_dir t from) then fails_in NoStart
-    else as_path_trace (trace_parts most_links t mode (start_of text from) Top (parts_of ending text))
+    if not (starts t from text) then fails_in NoStart
+    else as_path_trace (trace_parts most_links (seen_from t from) mode (start_of from.root text from.dir) Top (parts_of ending text))
 
 -- and of any text
-abbrev pub trace_of_text : Tree → ℕ → Ending → List ℕ → Last → PathTrace
+abbrev pub trace_of_text : Tree → Start → Ending → List ℕ → Last → PathTrace
 trace_of_text t from ending text mode = after (text_fault text)
   where
     after : Option PathTextFault → PathTrace

@@ -5,7 +5,7 @@ use Rattle.pua_tree.specs.Tree.{Tree, Spot, WellFormed, is_dir}
 use Rattle.pua_path.specs.Limits.{most_links}
 use Rattle.pua_path.specs.Paths.{parts_of}
 use Rattle.pua_path.specs.Remaining.{Remaining}
-use Rattle.pua_path.specs.Resolution.{Resolved, Standing, Directory, Linked, Plain, Nothing, resolve_parts}
+use Rattle.pua_path.specs.Resolution.{Resolved, rooted, Standing, Directory, Linked, Plain, Nothing, resolve_parts}
 use Rattle.pua_path.specs.Bounds.{most_parts}
 use Rattle.pua_path.specs.Traces.{Trace, at_once, after_links, trace_parts}
 use Rattle.pua_path.specs.declared.errno.Errno.{Errno}
@@ -98,17 +98,17 @@ traced_on spot linked (Err errno) left further = at_once (Err (stop_at spot errn
 
 -- where a resolution on its way comes to: by the parts that it has left, and with one more before them
 abbrev pub walk_end : Tree → Last → Resolving → Resolved
-walk_end t mode walk = resolve_parts walk.left t mode walk.here (way_of walk.way) walk.rest.parts
+walk_end t mode walk = resolve_parts walk.left (rooted t walk.root) mode walk.here (way_of walk.way) walk.rest.parts
 
 abbrev pub walk_end_by : Part → Tree → Last → Resolving → Resolved
-walk_end_by part t mode walk = resolve_parts walk.left t mode walk.here (way_of walk.way) (part ∷ walk.rest.parts)
+walk_end_by part t mode walk = resolve_parts walk.left (rooted t walk.root) mode walk.here (way_of walk.way) (part ∷ walk.rest.parts)
 
 -- the same of its trace
 abbrev pub walk_trace : Tree → Last → Resolving → Trace
-walk_trace t mode walk = trace_parts walk.left t mode walk.here (way_of walk.way) walk.rest.parts
+walk_trace t mode walk = trace_parts walk.left (rooted t walk.root) mode walk.here (way_of walk.way) walk.rest.parts
 
 abbrev pub walk_trace_by : Part → Tree → Last → Resolving → Trace
-walk_trace_by part t mode walk = trace_parts walk.left t mode walk.here (way_of walk.way) (part ∷ walk.rest.parts)
+walk_trace_by part t mode walk = trace_parts walk.left (rooted t walk.root) mode walk.here (way_of walk.way) (part ∷ walk.rest.parts)
 
 -- one part leads from a walk to an answer, or to the walk that is left
 abbrev pub LeadsOn : Tree → Last → Part → Resolving → Result (Option LentFound) Errno → Resolving → Type 0
@@ -127,8 +127,9 @@ potential t left rest = length rest.parts + most_parts t * left
 abbrev pub potential_of : Tree → Resolving → ℕ
 potential_of t walk = potential t walk.left walk.rest
 
--- a resolution that can go on: from a living directory, with room for the targets that may come
-pub record CanGoOn (t : Tree) (here left : ℕ) (rest : Remaining) : Type 0 where
+-- a resolution that can go on: from a living directory, by a living root, with room for the targets that may come
+pub record CanGoOn (t : Tree) (root here left : ℕ) (rest : Remaining) : Type 0 where
   pub tree : WellFormed t
+  pub by : IsTrue (is_dir t root)
   pub dir : IsTrue (is_dir t here)
   pub room : rest.depth + left ≤ most_links

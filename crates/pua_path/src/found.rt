@@ -1,4 +1,7 @@
-//! Parts of paths, and what they name.
+//! Parts of paths, where these start, and what they name.
+
+ghost use Rattle.std.specs.Prelude.{◌≡◌};
+ghost use Rattle.pua_path.specs.Resolution.{from_top};
 
 use pua_tree::{Name, NodeId};
 
@@ -11,6 +14,23 @@ pub enum Part {
     DotDot,
     /// A name in the directory.
     Name(Name),
+}
+
+/// Where paths start: those that begin with a slash at the root, the others at the directory.
+#[derive(Clone, Copy, PartialEq, Eq)]
+pub struct Start {
+    pub root: NodeId,
+    pub dir: NodeId,
+}
+
+impl Start {
+    /// From this directory, where the root is that of the whole tree.
+    pub fn from_top(dir: NodeId) -> Start
+        ensures { result ≡ from_top dir }
+    {
+        let root = NodeId::ROOT;
+        Start { root, dir }
+    }
 }
 
 /// What becomes of a link that the last part names.

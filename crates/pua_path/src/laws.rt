@@ -2,7 +2,7 @@
 
 ghost use Rattle.std.specs.Prelude.{◌≡◌};
 ghost use Rattle.pua_path.specs.Limits.{most_links, most_path};
-ghost use Rattle.pua_path.specs.Examples.{ResolutionRows, StepRows, TraceRows};
+ghost use Rattle.pua_path.specs.Examples.{ResolutionRows, RootRows, StepRows, TraceRows};
 ghost use Rattle.pua_path.specs.Laws.{FollowDecides, KeptFollowsNone, LastsFollow, LinksDecide};
 ghost use Rattle.pua_path.specs.Laws.{ResolutionComposes, ResolutionsFit};
 ghost use Rattle.pua_path.specs.Laws.{StepsCompose, StepsFollow};
@@ -14,6 +14,7 @@ use crate::limits::{MOST_LINKS, MOST_PATH};
 /// Examples of what texts and parts name, and of how texts go.
 pub fn resolution_examples()
     ensures texts { ResolutionRows }
+    ensures roots { RootRows }
     ensures steps { StepRows }
     ensures traces { TraceRows }
 {}

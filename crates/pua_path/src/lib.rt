@@ -15,7 +15,7 @@ mod text;
 mod traced;
 
 pub use errno::Errno;
-pub use found::{Found, Last, Part, Way};
+pub use found::{Found, Last, Part, Start, Way};
 pub use laws::{
     fitting_law, going_law, limits_law, links_law, resolution_examples, resolution_law, steps_law,
     stop_law, trace_law,

@@ -5,11 +5,12 @@ mod tracing;
 ghost use Rattle.std.specs.Prelude.{◌≡◌, ◌≤◌, ◌<◌, ◌+◌, ◌-◌, ◌*◌};
 ghost use Rattle.std.specs.Prelude.{[], ◌∷◌, ◌++◌, Some, None, Ok, Err, is_some};
 ghost use Rattle.std.specs.Prelude.{IsTrue, IfSome, IfOk, IfErr, OnOk};
-ghost use Rattle.std.specs.Prelude.{not, true, ◌&&◌, ◌==◌, if◌then◌else◌, length};
+ghost use Rattle.std.specs.Prelude.{not, true, ◌==◌, if◌then◌else◌, length};
 ghost use Rattle.pua_tree.specs.Names.{is_name};
-ghost use Rattle.pua_tree.specs.Tree.{above, is_dir};
+ghost use Rattle.pua_tree.specs.Tree.{is_dir};
 ghost use Rattle.pua_path.specs.Resolution.{resolution, resolve_parts, step, last, follow};
-ghost use Rattle.pua_path.specs.Resolution.{standing_at, start_of};
+ghost use Rattle.pua_path.specs.Resolution.{above_in, has_root, rooted, seen_from};
+ghost use Rattle.pua_path.specs.Resolution.{standing_at, start_of, starts};
 ghost use Rattle.pua_path.specs.Limits.{most_links};
 ghost use Rattle.pua_path.specs.Paths.{is_absolute, part_of, parts_of};
 ghost use Rattle.pua_path.specs.Walks.{way_of, way_seen, founds_seen, resolved_seen};
@@ -29,7 +30,7 @@ ghost use Rattle.pua_path.specs.declared.resolver.Onward.TheVariants as onward;
 ghost use Rattle.pua_path.specs.declared.text.Ending.TheVariants as ending;
 
 use crate::errno::Errno;
-use crate::found::{Found, Last, Part, Way};
+use crate::found::{Found, Last, Part, Start, Way};
 use crate::lent::{LentFound, LentWay};
 use crate::limits::MOST_LINKS;
 use crate::piece::{Piece, Readable, next_piece};
@@ -39,16 +40,18 @@ use crate::text::PathText;
 use pua_tree::{Kind, LentName, NodeId};
 pub use tracing::trace;
 
-/// What a path names from a directory, by the rules of path resolution (intro(2), symlink(7)): 32
-/// links are followed at most (this profile). A relative path needs `from` to be a living
-/// directory. Errors: `ENOENT` where `from` is none, or a part before the last one is missing;
+/// What a path names from a root and a directory, by the rules of path resolution (intro(2),
+/// symlink(7), chroot(2)): 32 links are followed at most (this profile). A path that begins with a
+/// slash starts at the root, as a link's target that does, and any other at the directory; the root
+/// is above itself. Errors: `ENOENT` where the one at which the path starts is no living directory,
+/// or a part before the last one is missing;
 /// `ENOTDIR` where such a part is no directory; `ELOOP` where a 33rd link would be followed. What
 /// is found is of the tree as it stands: its directory lives, and what was found by a name stands
 /// at that name. Takes no memory.
 #[inline(always)]
 pub fn resolve<'t, P: Probe<'t>>(
     probe: &mut P,
-    from: NodeId,
+    from: Start,
     text: &PathText<'_>,
     mode: Last,
 ) -> Result<Found, Errno>
@@ -68,7 +71,7 @@ pub fn resolve<'t, P: Probe<'t>>(
 #[inline(always)]
 pub fn resolve_lent<'a, 't: 'a, P: Probe<'t>>(
     probe: &mut P,
-    from: NodeId,
+    from: Start,
     text: &PathText<'a>,
     mode: Last,
 ) -> Result<LentFound<'a>, Errno>
@@ -89,35 +92,42 @@ pub fn resolve_lent<'a, 't: 'a, P: Probe<'t>>(
 /// the first link on `follow_on` goes on, which has it, so that a path without links pays for none.
 fn resolve_text<'a, 't: 'a, P: Probe<'t>>(
     probe: &mut P,
-    start: NodeId,
+    start: Start,
     left: u8,
     text: Readable<'a>,
     mode: Last,
 ) -> Result<LentFound<'a>, Errno>
-    requires dir { IsTrue (is_dir (P.tree probe.old) start) }
+    requires root { IsTrue (is_dir (P.tree probe.old) start.root) }
+    requires dir { IsTrue (is_dir (P.tree probe.old) start.dir) }
     requires left { left ≤ most_links }
-    ensures exact { let t = P.tree probe.old in let parts = rest_parts text.entry.bytes.now in
-        founds_seen result ≡ found_alone (resolve_parts left t mode start ways.Top parts) }
+    ensures exact { let t = rooted (P.tree probe.old) start.root in
+        let parts = rest_parts text.entry.bytes.now in founds_seen result
+        ≡ found_alone (resolve_parts left t mode start.dir ways.Top parts) }
     ensures tree { P.tree probe.new ≡ P.tree probe.old }
 {
-    let mut here = start;
+    let root = start.root;
+    let mut dir = start.dir;
     let mut way = Nameless::Top;
     let mut rest = text;
     while !rest.bytes.is_empty() {
         let (piece, behind) = next_piece(rest);
         rest = behind;
+        let here = Start { root, dir };
         match lead_by_piece(probe, here, piece, rest.bytes.is_empty(), mode) {
-            Onward::Directory(dir, named) => {
-                here = dir;
+            Onward::Directory(next, named) => {
+                dir = next;
                 way = named;
             }
-            Onward::Link(target) => return follow_on(probe, here, left, target, rest, mode),
+            Onward::Link(target) => {
+                let from = Start { root, dir };
+                return follow_on(probe, from, left, target, rest, mode);
+            }
             Onward::Found(lent) => return Ok(lent),
             Onward::Nowhere(errno) => return Err(errno),
         }
     }
     Ok(LentFound::Whole {
-        dir: here,
+        dir,
         way: way.lent(),
     })
 }
@@ -125,19 +135,21 @@ fn resolve_text<'a, 't: 'a, P: Probe<'t>>(
 /// Follows the first link of a resolution, and resolves what is left of the text after it.
 fn follow_on<'a, 't: 'a, P: Probe<'t>>(
     probe: &mut P,
-    dir: NodeId,
+    from: Start,
     left: u8,
     target: Readable<'a>,
     text: Readable<'a>,
     mode: Last,
 ) -> Result<LentFound<'a>, Errno>
-    requires dir { IsTrue (is_dir (P.tree probe.old) dir) }
+    requires root { IsTrue (is_dir (P.tree probe.old) from.root) }
+    requires dir { IsTrue (is_dir (P.tree probe.old) from.dir) }
     requires left { left ≤ most_links }
-    ensures exact { let t = P.tree probe.old in let parts = rest_parts text.entry.bytes.now in
-        founds_seen result ≡ found_alone (followed left t mode dir target.entry.bytes.now parts) }
+    ensures exact { let t = rooted (P.tree probe.old) from.root in
+        let parts = rest_parts text.entry.bytes.now in founds_seen result
+        ≡ found_alone (followed left t mode from.dir target.entry.bytes.now parts) }
     ensures tree { P.tree probe.new ≡ P.tree probe.old }
 {
-    match follow_counted(probe, dir, left, target, text, mode) {
+    match follow_counted(probe, from, left, target, text, mode) {
         Ok((lent, _left)) => Ok(lent),
         Err(errno) => Err(errno),
     }
@@ -146,16 +158,18 @@ fn follow_on<'a, 't: 'a, P: Probe<'t>>(
 /// The same, and how many links are left then.
 fn follow_counted<'a, 't: 'a, P: Probe<'t>>(
     probe: &mut P,
-    dir: NodeId,
+    from: Start,
     left: u8,
     target: Readable<'a>,
     text: Readable<'a>,
     mode: Last,
 ) -> Result<(LentFound<'a>, u8), Errno>
-    requires dir { IsTrue (is_dir (P.tree probe.old) dir) }
+    requires root { IsTrue (is_dir (P.tree probe.old) from.root) }
+    requires dir { IsTrue (is_dir (P.tree probe.old) from.dir) }
     requires left { left ≤ most_links }
-    ensures exact { let parts = rest_parts text.entry.bytes.now in resolved_seen result
-        ≡ followed left (P.tree probe.old) mode dir target.entry.bytes.now parts }
+    ensures exact { let t = rooted (P.tree probe.old) from.root in
+        let parts = rest_parts text.entry.bytes.now in
+        resolved_seen result ≡ followed left t mode from.dir target.entry.bytes.now parts }
     ensures left { IfOk result (λ found. found.1 ≤ left) }
     ensures tree { P.tree probe.new ≡ P.tree probe.old }
     ensures count { let left_parts = length (rest_parts text.entry.bytes.now) in
@@ -163,31 +177,33 @@ fn follow_counted<'a, 't: 'a, P: Probe<'t>>(
         ≤ P.count probe.old + 3 * (left_parts + most_parts (P.tree probe.old) * left) }
 {
     probe.known();
-    let mut walk = Resolving::new(dir, left, Rest::of_top(text));
+    let mut walk = Resolving::new(from, left, Rest::of_top(text));
     walk.follow(target)?;
     walk.finish(probe, mode)
 }
 
 /// What one part that another follows leads to, by the rules of `resolve`, `used` links having been
 /// followed before it: the directory, which lives, and the links followed by then, 32 at most; so
-/// both may be handed to the next `step`, and to `last`. Needs `dir` to be a living directory.
+/// both may be handed to the next `step`, and to `last`. Needs the root and the directory to live.
 /// Errors: `ENOENT` where nothing has that name, `ENOTDIR` where it is no directory, `ELOOP` where
 /// a 33rd link would be followed. Takes no memory, and a bounded number of probes.
 pub fn step<'t, P: Probe<'t>>(
     probe: &mut P,
-    dir: NodeId,
+    from: Start,
     used: u8,
     part: &Part,
 ) -> Result<(NodeId, u8), Errno>
-    requires dir { IsTrue (is_dir (P.tree probe.old) dir) }
+    requires root { IsTrue (is_dir (P.tree probe.old) from.root) }
+    requires dir { IsTrue (is_dir (P.tree probe.old) from.dir) }
     requires used { used ≤ most_links }
-    ensures exact { result ≡ step (P.tree probe.old) dir used part.now }
+    ensures exact { result
+        ≡ step (rooted (P.tree probe.old) from.root) from.dir used part.now }
     ensures lives { IfOk result (λ next. IsTrue (is_dir (P.tree probe.old) next.0)) }
     ensures used { IfOk result (λ next. next.1 ≤ most_links) }
     ensures tree { P.tree probe.new ≡ P.tree probe.old }
     ensures cost { P.count probe.new ≤ P.count probe.old + part_cost (P.tree probe.old) }
 {
-    let (found, left) = resolve_part(probe, dir, MOST_LINKS - used, part, Last::Followed)?;
+    let (found, left) = resolve_part(probe, from, MOST_LINKS - used, part, Last::Followed)?;
     match found {
         Found::Whole { dir, .. } => Ok((dir, MOST_LINKS - left)),
         Found::Slot { node, .. } => Err(not_entered(node)),
@@ -206,62 +222,66 @@ fn not_entered(node: Option<NodeId>) -> Errno
 }
 
 /// What the last part names, by the rules of `resolve`, `used` links having been followed before
-/// it. Needs `dir` to be a living directory, and `used` to be 32 at most. Errors are those of
+/// it. Needs the root and the directory to live, and `used` to be 32 at most. Errors are those of
 /// `step`, for the parts of a link's target; a last part that names nothing, or no directory, is
 /// found. What is found is of the tree as it stands, as with `resolve`. Takes no memory.
 pub fn last<'t, P: Probe<'t>>(
     probe: &mut P,
-    dir: NodeId,
+    from: Start,
     used: u8,
     part: &Part,
     mode: Last,
 ) -> Result<Found, Errno>
-    requires dir { IsTrue (is_dir (P.tree probe.old) dir) }
+    requires root { IsTrue (is_dir (P.tree probe.old) from.root) }
+    requires dir { IsTrue (is_dir (P.tree probe.old) from.dir) }
     requires used { used ≤ most_links }
-    ensures exact { result ≡ last (P.tree probe.old) dir used part.now mode }
+    ensures exact { result
+        ≡ last (rooted (P.tree probe.old) from.root) from.dir used part.now mode }
     ensures fits { FoundsFit (P.tree probe.old) result }
     ensures named { IfOk result (StandsAsNamed (P.tree probe.old)) }
     ensures tree { P.tree probe.new ≡ P.tree probe.old }
     ensures cost { P.count probe.new ≤ P.count probe.old + part_cost (P.tree probe.old) }
 {
-    let (found, _) = resolve_part(probe, dir, MOST_LINKS - used, part, mode)?;
+    let (found, _) = resolve_part(probe, from, MOST_LINKS - used, part, mode)?;
     Ok(found)
 }
 
 /// What the last part names where no link was followed before it and its own are, and how many that
 /// are, 32 at most. It decides `last` and `step` for any number of links used before: while both
 /// together are within 32, `last` names the same, and `step` leads to it, with the sum used, if it
-/// is a directory; where they are not, both are `ELOOP`. Needs `dir` to be a living directory.
+/// is a directory; where they are not, both are `ELOOP`. Needs the root and the directory to live.
 /// Errors are those of `last`; what is found is of the tree as it stands. Takes no memory, and as
 /// many probes as `step` at most.
 pub fn follow<'t, P: Probe<'t>>(
     probe: &mut P,
-    dir: NodeId,
+    from: Start,
     part: &Part,
 ) -> Result<(Found, u8), Errno>
-    requires { IsTrue (is_dir (P.tree probe.old) dir) }
-    ensures exact { result ≡ follow (P.tree probe.old) dir part.now }
+    requires root { IsTrue (is_dir (P.tree probe.old) from.root) }
+    requires dir { IsTrue (is_dir (P.tree probe.old) from.dir) }
+    ensures exact { result ≡ follow (rooted (P.tree probe.old) from.root) from.dir part.now }
     ensures fits { IfOk result (λ found. FoundFits (P.tree probe.old) found.0) }
     ensures named { IfOk result (λ found. StandsAsNamed (P.tree probe.old) found.0) }
     ensures links { IfOk result (λ found. found.1 ≤ most_links) }
     ensures tree { P.tree probe.new ≡ P.tree probe.old }
     ensures cost { P.count probe.new ≤ P.count probe.old + part_cost (P.tree probe.old) }
 {
-    let (found, left) = resolve_part(probe, dir, MOST_LINKS, part, Last::Followed)?;
+    let (found, left) = resolve_part(probe, from, MOST_LINKS, part, Last::Followed)?;
     Ok((found, MOST_LINKS - left))
 }
 
 fn resolve_part<'t, P: Probe<'t>>(
     probe: &mut P,
-    dir: NodeId,
+    from: Start,
     left: u8,
     part: &Part,
     mode: Last,
 ) -> Result<(Found, u8), Errno>
-    requires dir { IsTrue (is_dir (P.tree probe.old) dir) }
+    requires root { IsTrue (is_dir (P.tree probe.old) from.root) }
+    requires dir { IsTrue (is_dir (P.tree probe.old) from.dir) }
     requires left { left ≤ most_links }
-    ensures exact { result
-        ≡ resolve_parts left (P.tree probe.old) mode dir ways.Top (part.now ∷ []) }
+    ensures exact { let t = rooted (P.tree probe.old) from.root in
+        result ≡ resolve_parts left t mode from.dir ways.Top (part.now ∷ []) }
     ensures fits { IfOk result (λ found. FoundFits (P.tree probe.old) found.0) }
     ensures named { IfOk result (λ found. StandsAsNamed (P.tree probe.old) found.0) }
     ensures left { IfOk result (λ found. found.1 ≤ left) }
@@ -269,14 +289,16 @@ fn resolve_part<'t, P: Probe<'t>>(
     ensures cost { P.count probe.new ≤ P.count probe.old + part_cost (P.tree probe.old) }
 {
     probe.known();
-    match lead_by_part(probe, dir, part, mode) {
+    let (root, dir) = (from.root, from.dir);
+    match lead_by_part(probe, Start { root, dir }, part, mode) {
         Onward::Directory(dir, way) => {
             let way = way.way();
             Ok((Found::Whole { dir, way }, left))
         }
         Onward::Link(target) => {
             let nothing = Readable { bytes: &[] };
-            match follow_counted(probe, dir, left, target, nothing, mode) {
+            let from = Start { root, dir };
+            match follow_counted(probe, from, left, target, nothing, mode) {
                 Ok((lent, left)) => Ok((lent.found(), left)),
                 Err(errno) => Err(errno),
             }
@@ -286,23 +308,40 @@ fn resolve_part<'t, P: Probe<'t>>(
     }
 }
 
-/// Where a path starts; None where that is no living directory.
-fn start_of<'t, P: Probe<'t>>(probe: &mut P, from: NodeId, text: &[u8]) -> Option<NodeId>
-    ensures start { result ≡
-        (if not (is_absolute text.now) && not (is_dir (P.tree probe.old) from) then None
-        else Some (start_of text.now from)) }
-    ensures ready { IfSome result (λ start.
-        (rest : Remaining) → rest.depth ≡ 0 → CanGoOn (P.tree probe.old) start most_links rest) }
+/// Where a path starts, beside the root by which it goes on; None where that is no living
+/// directory.
+fn start_of<'t, P: Probe<'t>>(probe: &mut P, from: Start, text: &[u8]) -> Option<Start>
+    ensures start { let t = P.tree probe.old in result ≡ (if not (starts t from text.now) then None
+        else Some (record {
+          root = (seen_from t from).root;
+          dir = start_of from.root text.now from.dir;
+        })) }
+    ensures ready { IfSome result (λ start. (rest : Remaining) → rest.depth ≡ 0 →
+        CanGoOn (P.tree probe.old) start.root start.dir most_links rest) }
     ensures tree { P.tree probe.new ≡ P.tree probe.old }
 {
     probe.known();
+    let has_root = has_root(probe, from.root);
+    let root = if has_root { from.root } else { NodeId::ROOT };
     if is_absolute(text) {
-        return Some(NodeId::ROOT);
+        let dir = root;
+        return has_root.then_some(Start { root, dir });
     }
-    match probe.kind(from) {
-        Some(Kind::Dir) => Some(from),
+    let dir = from.dir;
+    match probe.kind(dir) {
+        Some(Kind::Dir) => Some(Start { root, dir }),
         _ => None,
     }
+}
+
+/// Whether a root was not removed; node 0 is not asked for.
+fn has_root<'t, P: Probe<'t>>(probe: &mut P, root: NodeId) -> bool
+    ensures has { result ≡ has_root (P.tree probe.old) root }
+    ensures lives { result ≡ true → IsTrue (is_dir (P.tree probe.old) root) }
+    ensures tree { P.tree probe.new ≡ P.tree probe.old }
+{
+    probe.known();
+    root == NodeId::ROOT || matches!(probe.kind(root), Some(Kind::Dir))
 }
 
 fn is_absolute(text: &[u8]) -> bool
@@ -391,45 +430,49 @@ enum Onward<'n> {
 #[inline(always)]
 fn lead_by_piece<'n, 't: 'n, P: Probe<'t>>(
     probe: &mut P,
-    dir: NodeId,
+    from: Start,
     piece: Piece<'n>,
     is_last: bool,
     mode: Last,
 ) -> Onward<'n>
-    requires { IsTrue (is_dir (P.tree probe.old) dir) }
-    ensures exact { let part = part_of piece.entry.bytes.now in
-        onward_seen result ≡ onward_by (P.tree probe.old) mode dir part is_last }
+    requires root { IsTrue (is_dir (P.tree probe.old) from.root) }
+    requires dir { IsTrue (is_dir (P.tree probe.old) from.dir) }
+    ensures exact { let t = rooted (P.tree probe.old) from.root in
+        let part = part_of piece.entry.bytes.now in
+        onward_seen result ≡ onward_by t mode from.dir part is_last }
     ensures stands { IsOnwardIn (P.tree probe.old) result }
     ensures named { IsByName piece.entry.bytes.now result }
     ensures tree { P.tree probe.new ≡ P.tree probe.old }
     ensures count { P.count probe.new ≤ P.count probe.old + 3 }
 {
     match piece.bytes {
-        [b'.'] => Onward::Directory(dir, Nameless::Dot),
-        [b'.', b'.'] => Onward::Directory(above(probe, dir), Nameless::DotDot),
-        bytes => lead_by_name(probe, dir, LentName { bytes }, is_last, mode),
+        [b'.'] => Onward::Directory(from.dir, Nameless::Dot),
+        [b'.', b'.'] => Onward::Directory(above(probe, from), Nameless::DotDot),
+        bytes => lead_by_name(probe, from, LentName { bytes }, is_last, mode),
     }
 }
 
 /// The same of a part that is the last one.
 fn lead_by_part<'n, 't: 'n, P: Probe<'t>>(
     probe: &mut P,
-    dir: NodeId,
+    from: Start,
     part: &'n Part,
     mode: Last,
 ) -> Onward<'n>
-    requires { IsTrue (is_dir (P.tree probe.old) dir) }
-    ensures exact { onward_seen result ≡ onward_by (P.tree probe.old) mode dir part.now true }
+    requires root { IsTrue (is_dir (P.tree probe.old) from.root) }
+    requires dir { IsTrue (is_dir (P.tree probe.old) from.dir) }
+    ensures exact { let t = rooted (P.tree probe.old) from.root in
+        onward_seen result ≡ onward_by t mode from.dir part.now true }
     ensures stands { IsOnwardIn (P.tree probe.old) result }
     ensures tree { P.tree probe.new ≡ P.tree probe.old }
     ensures count { P.count probe.new ≤ P.count probe.old + 3 }
 {
     match part {
-        Part::Dot => Onward::Directory(dir, Nameless::Dot),
-        Part::DotDot => Onward::Directory(above(probe, dir), Nameless::DotDot),
+        Part::Dot => Onward::Directory(from.dir, Nameless::Dot),
+        Part::DotDot => Onward::Directory(above(probe, from), Nameless::DotDot),
         Part::Name(name) => {
             let bytes = name.bytes();
-            lead_by_name(probe, dir, LentName { bytes }, true, mode)
+            lead_by_name(probe, from, LentName { bytes }, true, mode)
         }
     }
 }
@@ -438,17 +481,19 @@ fn lead_by_part<'n, 't: 'n, P: Probe<'t>>(
 #[inline(always)]
 fn lead_by_name<'n, 't: 'n, P: Probe<'t>>(
     probe: &mut P,
-    dir: NodeId,
+    from: Start,
     name: LentName<'n>,
     is_last: bool,
     mode: Last,
 ) -> Onward<'n>
-    ensures exact { let part = parts.Name name.entry.bytes.now in
-        onward_seen result ≡ onward_by (P.tree probe.old) mode dir part is_last }
+    ensures exact { let t = rooted (P.tree probe.old) from.root in
+        let part = parts.Name name.entry.bytes.now in
+        onward_seen result ≡ onward_by t mode from.dir part is_last }
     ensures stands { IsOnwardIn (P.tree probe.old) result }
     ensures tree { P.tree probe.new ≡ P.tree probe.old }
     ensures count { P.count probe.new ≤ P.count probe.old + 3 }
 {
+    let dir = from.dir;
     match standing_at(probe, dir, name) {
         Standing::Directory(node) => {
             if !is_last {
@@ -496,22 +541,27 @@ fn end_at<'n>(
     Onward::Found(LentFound::Slot { dir, name, node })
 }
 
-/// The directory above a directory.
-fn above<'t, P: Probe<'t>>(probe: &mut P, dir: NodeId) -> NodeId
-    requires { IsTrue (is_dir (P.tree probe.old) dir) }
-    ensures above { result ≡ above (P.tree probe.old) dir }
+/// The directory above a directory, by its root.
+fn above<'t, P: Probe<'t>>(probe: &mut P, from: Start) -> NodeId
+    requires root { IsTrue (is_dir (P.tree probe.old) from.root) }
+    requires dir { IsTrue (is_dir (P.tree probe.old) from.dir) }
+    ensures above { result ≡ above_in (rooted (P.tree probe.old) from.root) from.dir }
     ensures lives { IsTrue (is_dir (P.tree probe.old) result) }
     ensures tree { P.tree probe.new ≡ P.tree probe.old }
     ensures count { P.count probe.new ≤ P.count probe.old + 1 }
 {
     probe.known();
-    probe.parent(dir).unwrap_or(NodeId::ROOT)
+    if from.root != NodeId::ROOT && from.dir == from.root {
+        return from.root;
+    }
+    probe.parent(from.dir).unwrap_or(NodeId::ROOT)
 }
 
-/// A resolution on its way: the directory where it is, how that was named, how many links it may
-/// still follow, and the parts that are left.
+/// A resolution on its way: the root by which it goes, the directory where it is, how that was
+/// named, how many links it may still follow, and the parts that are left.
 #[derive(Drop)]
 struct Resolving<'a> {
+    root: NodeId,
     here: NodeId,
     way: Nameless,
     left: u8,
@@ -520,12 +570,18 @@ struct Resolving<'a> {
 
 impl<'a> Resolving<'a> {
     #[inline(always)]
-    fn new(dir: NodeId, left: u8, rest: Rest<'a>) -> Resolving<'a>
-        ensures { result
-            ≡ record { here = dir; way = nameless.Top; left = left; rest = rest.entry } }
+    fn new(from: Start, left: u8, rest: Rest<'a>) -> Resolving<'a>
+        ensures { result ≡ record {
+          root = from.root;
+          here = from.dir;
+          way = nameless.Top;
+          left = left;
+          rest = rest.entry;
+        } }
     {
         Resolving {
-            here: dir,
+            root: from.root,
+            here: from.dir,
             way: Nameless::Top,
             left,
             rest,
@@ -538,7 +594,8 @@ impl<'a> Resolving<'a> {
         probe: &mut P,
         mode: Last,
     ) -> Result<(LentFound<'a>, u8), Errno>
-        requires ready { CanGoOn (P.tree probe.old) self.old.here self.old.left self.old.rest }
+        requires ready { CanGoOn (P.tree probe.old)
+            self.old.root self.old.here self.old.left self.old.rest }
         ensures exact { resolved_seen result ≡ walk_end (P.tree probe.old) mode self.old }
         ensures left { IfOk result (λ found. found.1 ≤ self.old.left) }
         ensures tree { P.tree probe.new ≡ P.tree probe.old }
@@ -564,7 +621,8 @@ impl<'a> Resolving<'a> {
         piece: Piece<'a>,
         mode: Last,
     ) -> Result<Option<LentFound<'a>>, Errno>
-        requires { CanGoOn (P.tree probe.old) self.old.here self.old.left self.old.rest }
+        requires { CanGoOn (P.tree probe.old)
+            self.old.root self.old.here self.old.left self.old.rest }
         ensures exact { let part = part_of piece.entry.bytes.now in
             LeadsOn (P.tree probe.old) mode part self.old result self.new }
         ensures traced { let bytes = piece.entry.bytes.now in
@@ -572,14 +630,19 @@ impl<'a> Resolving<'a> {
         ensures stopped { IfErr result (λ _. IsTrue (is_name piece.entry.bytes.now)) }
         ensures linked { self.new.left < self.old.left →
             IsTrue (is_name piece.entry.bytes.now) }
-        ensures ready { CanGoOn (P.tree probe.old) self.new.here self.new.left self.new.rest }
+        ensures ready { CanGoOn (P.tree probe.old)
+            self.new.root self.new.here self.new.left self.new.rest }
         ensures left { self.new.left ≤ self.old.left }
         ensures potential { let t = P.tree probe.old in
             potential_of t self.new ≤ potential_of t self.old }
         ensures tree { P.tree probe.new ≡ P.tree probe.old }
         ensures count { P.count probe.new ≤ P.count probe.old + 3 }
     {
-        match lead_by_piece(probe, self.here, piece, self.rest.is_done(), mode) {
+        let here = Start {
+            root: self.root,
+            dir: self.here,
+        };
+        match lead_by_piece(probe, here, piece, self.rest.is_done(), mode) {
             Onward::Directory(dir, way) => {
                 self.here = dir;
                 self.way = way;
@@ -601,8 +664,9 @@ impl<'a> Resolving<'a> {
         ensures err { IfErr result (λ errno. (errno ≡ ELOOP) × (self.old.left ≡ 0)) }
         ensures left { self.new.left ≡ self.old.left - 1 }
         ensures unchanged { self.old.left ≡ 0 → self.new ≡ self.old }
-        ensures here { 0 < self.old.left →
-            self.new.here ≡ start_of target.entry.bytes.now self.old.here }
+        ensures root { self.new.root ≡ self.old.root }
+        ensures here { 0 < self.old.left → self.new.here
+            ≡ start_of self.old.root target.entry.bytes.now self.old.here }
         ensures way { 0 < self.old.left → self.new.way ≡ nameless.Top }
         ensures parts { 0 < self.old.left →
             self.new.rest.parts
@@ -614,7 +678,7 @@ impl<'a> Resolving<'a> {
         }
         self.left -= 1;
         if is_absolute(target.bytes) {
-            self.here = NodeId::ROOT;
+            self.here = self.root;
         }
         self.way = Nameless::Top;
         self.rest.put(target);

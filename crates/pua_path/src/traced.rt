@@ -84,7 +84,7 @@ pub enum PathTextFault {
 pub enum PathFault {
     /// Its text is no path.
     InText(PathTextFault),
-    /// It is relative to what is no living directory.
+    /// It starts at what is no living directory.
     NoStart,
     /// It leads no further.
     Stops(Stop),

@@ -2,9 +2,9 @@
 use Rattle.pua_policy.proofs.Common.{◌≡◌, ℕ, [], ◌∷◌, false, refl, ap, Some, Pledged, Unveiled, Locked, Moved, Ended, Filed, meet}
 use Rattle.pua_policy.proofs.Common.{with_veil}
 use Rattle.std.specs.Prelude.{not, filter, filter_map}
-use Rattle.pua_policy.specs.States.{left_for_exec, set_file}
+use Rattle.pua_policy.specs.States.{left_for_exec, set_file, start_after}
 use Rattle.pua_policy.specs.History.{History, promises_in, execpromises_in, common, veils, files, is_ended, is_filed}
-use Rattle.pua_policy.specs.History.{is_pledge, held_for_exec, is_locked, dir_in}
+use Rattle.pua_policy.specs.History.{is_pledge, held_for_exec, is_locked, start}
 use Rattle.pua_calls.specs.declared.rules.ExecPromises.{ExecPromises}
 use Rattle.pua_calls.specs.declared.rules.ExecPromises.TheVariants.{Unset, Stay}
 
@@ -48,14 +48,14 @@ same_lock (Moved d ∷ h) = same_lock h
 same_lock (Ended ∷ h) = same_lock h
 same_lock (Filed n f ∷ h) = same_lock h
 
-pub same_dirs : (h : History) → filter_map dir_in (others h) ≡ filter_map dir_in h
-same_dirs [] = refl
-same_dirs (Pledged p e ∷ h) = same_dirs h
-same_dirs (Unveiled place perms ∷ h) = same_dirs h
-same_dirs (Locked ∷ h) = same_dirs h
-same_dirs (Moved d ∷ h) = ap (λ ds. d ∷ ds) (same_dirs h)
-same_dirs (Ended ∷ h) = same_dirs h
-same_dirs (Filed n f ∷ h) = same_dirs h
+pub same_starts : (h : History) → start (others h) ≡ start h
+same_starts [] = refl
+same_starts (Pledged p e ∷ h) = same_starts h
+same_starts (Unveiled place perms ∷ h) = same_starts h
+same_starts (Locked ∷ h) = same_starts h
+same_starts (Moved d ∷ h) = ap (start_after d) (same_starts h)
+same_starts (Ended ∷ h) = same_starts h
+same_starts (Filed n f ∷ h) = same_starts h
 
 pub same_end : (h : History) → is_ended (others h) ≡ is_ended h
 same_end [] = refl

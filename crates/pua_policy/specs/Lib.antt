@@ -6,6 +6,7 @@ pub mod Misfits
 pub mod Verdict
 pub mod Reasons
 pub mod Descent
+pub mod Enclosed
 -- What is proved of these.
 pub mod Laws
 pub mod ReasonLaws

@@ -9,8 +9,10 @@ use Rattle.pua_tree.specs.Names.{same_bytes}
 use Rattle.pua_tree.specs.Tree.{is_dir_kind}
 pub use Rattle.pua_policy.specs.Limits.{most_places}
 use Rattle.pua_calls.specs.Promises.{holds, all_promises, error}
+use Rattle.pua_path.specs.Resolution.{from_top}
 use Rattle.pua_path.specs.declared.errno.Errno.{Errno}
 use Rattle.pua_path.specs.declared.errno.Errno.TheVariants.{EPERM}
+use Rattle.pua_path.specs.declared.found.Start.{Start}
 use Rattle.pua_calls.specs.declared.rules.ExecPromises.{ExecPromises}
 use Rattle.pua_calls.specs.declared.rules.ExecPromises.TheVariants.{Unset, Stay}
 use Rattle.pua_calls.specs.declared.rules.Rules.{Rules}
@@ -23,13 +25,18 @@ use Rattle.pua_policy.specs.declared.answer.UnveilFault.TheVariants.{NotPermitte
 use Rattle.pua_policy.specs.declared.answer.May.{May}
 use Rattle.pua_policy.specs.declared.answer.May.TheVariants.{Yes, Enosys, Death}
 
+-- a directory that becomes the working directory of a process, or its root
+pub data Move : Type 0 where
+  ToDir : ℕ → Move
+  ToRoot : ℕ → Move
+
 -- an accepted call that changes what a process may do; an argument that was NULL is None. `Filed` says for which open file a
 -- descriptor stands from now on: for none where it is closed
 pub data Event : Type 0 where
   Pledged : Option ℕ → Option ℕ → Event
   Unveiled : Place → ℕ → Event
   Locked : Event
-  Moved : ℕ → Event
+  Moved : Move → Event
   Ended : Event
   Filed : ℕ → Option OpenFile → Event
 
@@ -40,13 +47,18 @@ pub record ProcessState : Type 0 where
   pub execpromises : Option ℕ
   pub veils : List (Place × ℕ)
   pub locked : Bool
-  pub dir : ℕ
+  pub start : Start
   pub ended : Bool
   pub files : List (ℕ × OpenFile)
 
--- a process that was just made works in the root
+-- a process that was just made works in node 0, and has it as its root
 abbrev pub new_process : ProcessState
-new_process = record { promises = None; execpromises = None; veils = []; locked = false; dir = 0; ended = false; files = [] }
+new_process = record { promises = None; execpromises = None; veils = []; locked = false; start = from_top 0; ended = false; files = [] }
+
+-- where paths start after chdir(2) to a directory, and after chroot(2): the working directory stays
+abbrev pub start_after : Move → Start → Start
+start_after (ToDir dir) start = record start { dir = dir }
+start_after (ToRoot root) start = record start { root = root }
 
 -- the members of all the sets, if there is a set
 abbrev pub meet : ℕ → Option ℕ → ℕ
@@ -136,8 +148,15 @@ is_locked p = p.locked
 abbrev pub is_ended : ProcessState → Bool
 is_ended p = p.ended
 
+-- where its paths start
+abbrev pub start : ProcessState → Start
+start p = p.start
+
 abbrev pub working_dir : ProcessState → ℕ
-working_dir p = p.dir
+working_dir p = p.start.dir
+
+abbrev pub root_dir : ProcessState → ℕ
+root_dir p = p.start.root
 
 -- a pledge gave it promises
 abbrev pub is_pledged : ProcessState → Bool
@@ -156,7 +175,7 @@ state_after (Pledged promises execpromises) p = record p {
 }
 state_after (Unveiled place perms) p = record p { veils = with_veil place perms p.veils }
 state_after Locked p = record p { locked = true }
-state_after (Moved dir) p = record p { dir = dir }
+state_after (Moved move) p = record p { start = start_after move p.start }
 state_after Ended p = record p { ended = true }
 state_after (Filed number file) p = record p { files = set_file number file p.files }
 
@@ -166,11 +185,11 @@ left_for_exec Unset set = None
 left_for_exec Stay set = Some set
 
 -- the program that a successful exec starts: with execpromises they are its promises, and are unset or stay; without them the
--- working directory and the open files alone stay
+-- root, the working directory and the open files alone stay
 abbrev pub state_by_exec : ExecPromises → Option ℕ → ProcessState → ProcessState
 state_by_exec left (Some set) p = record p { promises = Some set; execpromises = left_for_exec left set }
 state_by_exec left None p =
-    record { promises = None; execpromises = None; veils = []; locked = false; dir = p.dir; ended = false; files = p.files }
+    record { promises = None; execpromises = None; veils = []; locked = false; start = p.start; ended = false; files = p.files }
 
 abbrev pub after_exec : ExecPromises → ProcessState → ProcessState
 after_exec left p = state_by_exec left p.execpromises p

@@ -122,7 +122,7 @@ verdict_of t table p call (Err errno) = if_promised (may_any p (rule_of table ca
 
 -- what the text of a call names to a process
 abbrev pub object_named : Tree → ProcessState → Call → List ℕ → Result Found Errno
-object_named t p call text = resolution_of_text t p.dir (ending_of call) text (last_of call)
+object_named t p call text = resolution_of_text t p.start (ending_of call) text (last_of call)
 
 -- the verdict on a call with its path's text
 abbrev pub verdict_on : Tree → CallTable → ProcessState → Call → List ℕ → Verdict

@@ -1,2 +1,3 @@
+pub mod Rooted
 pub mod Served
 pub mod Walks

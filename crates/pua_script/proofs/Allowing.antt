@@ -3,9 +3,11 @@ use Rattle.pua_script.proofs.Common.{◌≡◌, ℕ, List, [], ◌∷◌, Bool, 
 use Rattle.pua_script.proofs.Common.{list_any, AllByRecursion, Option, Some, None, Result, Ok, Err, Tree, is_dir, ◌>>=◌}
 use Rattle.pua_script.proofs.Common.{is_absolute, path_fault, parts_of, resolution_of_text, resolve_parts, most_links, Errno, ENOENT}
 use Rattle.pua_script.proofs.Common.{Ending, Last, Found, holds, CallTable, rule_of, ending_of, last_of, ProcessState}
-use Rattle.pua_script.proofs.Common.{held_set, has_error, is_ended, may_any, working_dir, cover}
+use Rattle.pua_script.proofs.Common.{held_set, has_error, is_ended, may_any, start, cover}
 use Rattle.pua_script.proofs.Common.{cover_fault, or_fault, object_fault, object_of, object_named, Call, May, Yes}
-use Rattle.pua_path.specs.Resolution.{resolution}
+use Rattle.std.specs.Prelude.{if◌then◌else◌}
+use Rattle.pua_path.specs.Resolution.{has_root, resolution, rooted}
+use Rattle.pua_path.specs.declared.found.Start.{Start}
 use Rattle.pua_path.specs.declared.found.Way.TheVariants.{Top}
 use Rattle.pua_policy.specs.States.{SameVeils}
 use Rattle.pua_policy.specs.Verdict.{cover_with}
@@ -75,31 +77,35 @@ module _ (before after : ProcessState) (within : IsWithin before after) where
       (verdicts.Failed errno)
       (may_yes (rule_of table call).alternatives (sound.calls call)) e
 
--- an absolute text names the same from everywhere
-from_root_alike : (t : Tree) (a b : ℕ) (ending : Ending) (text : List ℕ) (mode : Last) → is_absolute text ≡ true →
-    resolution t a ending text mode ≡ resolution t b ending text mode
-from_root_alike t a b ending text mode e = from a ∙ sym (from b)
+-- an absolute text names the same from everywhere, by one root
+from_root_alike : (t : Tree) (root a b : ℕ) (ending : Ending) (text : List ℕ) (mode : Last) → is_absolute text ≡ true →
+    resolution t (record { root = root; dir = a }) ending text mode ≡ resolution t (record { root = root; dir = b }) ending text mode
+from_root_alike t root a b ending text mode e = from a ∙ sym (from b)
   where
-    from : (d : ℕ) → resolution t d ending text mode ≡ (resolve_parts most_links t mode 0 Top (parts_of ending text) >>= λ found. Ok
-        found.0)
-    from d = ap (λ x. cond {A = Result Found Errno} (not x && not (is_dir t d)) (Err ENOENT)
-        (resolve_parts most_links t mode (cond x 0 d) Top (parts_of ending text) >>= λ found. Ok found.0)) e
+    from : (d : ℕ) → resolution t (record { root = root; dir = d }) ending text mode
+        ≡ (if not (has_root t root) then Err ENOENT
+        else (resolve_parts most_links (rooted t (if has_root t root then root else 0)) mode root Top (parts_of ending text) >>= λ found. Ok
+        found.0))
+    from d = ap (λ x. cond {A = Result Found Errno} (not (cond x (has_root t root) (is_dir t d))) (Err ENOENT)
+        (resolve_parts most_links (rooted t (if has_root t root then root else 0)) mode (cond x root d) Top (parts_of ending text)
+        >>= λ found. Ok found.0)) e
 
-named_alike : (t : Tree) (a b : ℕ) (ending : Ending) (text : List ℕ) (mode : Last) → is_absolute text ≡ true →
+named_alike : (t : Tree) (a b : Start) (ending : Ending) (text : List ℕ) (mode : Last) → a.root ≡ b.root → is_absolute text ≡ true →
     resolution_of_text t a ending text mode ≡ resolution_of_text t b ending text mode
-named_alike t a b ending text mode e = by (path_fault text) refl
+named_alike t a b ending text mode same e = by (path_fault text) refl
   where
     by : (o : Option Errno) → path_fault text ≡ o → resolution_of_text t a ending text mode ≡ resolution_of_text t b ending text mode
-    by None is = rw is (from_root_alike t a b ending text mode e)
+    by None is = rw is (ap (λ r. resolution t (record { root = r; dir = a.dir }) ending text mode) same
+        ∙ from_root_alike t b.root a.dir b.dir ending text mode e)
     by (Some errno) is = rw is refl
 
 pub allows_no_more : (table : CallTable) → NoCallNeedsError table → (before after : ProcessState) → IsWithin before after →
     AllowsNoMore table before after
 allows_no_more table sound before after within = record {
-  absolute = λ t call text e allowed. verdicts_within before after within table sound t call (object_named t before call text)
-      (subst (λ r. is_allowed (verdict_of t table after call r) ≡ true) (named_alike t (working_dir after) (working_dir before)
-      (ending_of call) text (last_of call) e) allowed);
-  relative = λ same t call text allowed. verdicts_within before after within table sound t call (object_named t before call text)
-      (subst (λ d. is_allowed (verdict_of t table after call (resolution_of_text t d (ending_of call) text (last_of call))) ≡ true) same
-      allowed);
+  absolute = λ root t call text e allowed. verdicts_within before after within table sound t call (object_named t before call text)
+      (subst (λ r. is_allowed (verdict_of t table after call r) ≡ true) (named_alike t (start after) (start before)
+      (ending_of call) text (last_of call) root e) allowed);
+  relative = λ root dir t call text allowed. verdicts_within before after within table sound t call (object_named t before call text)
+      (subst (λ (s : Start). is_allowed (verdict_of t table after call (resolution_of_text t s (ending_of call) text (last_of call))) ≡ true)
+      (λ i. record { root = root i; dir = dir i }) allowed);
 }

@@ -24,7 +24,7 @@ pub use Rattle.pua_path.specs.declared.text.Ending.{Ending}
 pub use Rattle.pua_path.specs.declared.text.Ending.TheVariants.{Dot, Dropped}
 pub use Rattle.pua_path.specs.declared.traced.PathTextFault.TheVariants.{LongComponent, LongText, NulInText}
 pub use Rattle.pua_policy.specs.States.{Ended, Event, Filed, has_error, held_set, is_pledged, ProcessState, is_ended, is_locked, Locked, may_any, Moved, Pledged}
-pub use Rattle.pua_policy.specs.States.{state_after, Unveiled, working_dir}
+pub use Rattle.pua_policy.specs.States.{state_after, Unveiled, start, working_dir}
 pub use Rattle.pua_policy.specs.Verdict.{cover, cover_fault, object_fault, object_named, object_of, or_fault, place_of}
 pub use Rattle.pua_policy.specs.declared.open_file.OpenFile.{OpenFile}
 pub use Rattle.pua_policy.specs.declared.answer.Cover.{Cover}
@@ -46,7 +46,7 @@ pub use Rattle.pua_script.specs.Confinement.{has_c, object_in, UncoveredStay}
 pub use Rattle.pua_script.specs.Decide.{AddEvent, AddNode, asker_of, BeginProgram, Change, CopyAs, CutRow, decide, decide_link, TakeFile}
 pub use Rattle.pua_script.specs.Decide.{decide_rename, Decision, fault_if, if_may, inside_fault, is_whole, kinds_fault, NoChange, shifting}
 pub use Rattle.pua_script.specs.Decide.{ShiftRow, TieRow}
-pub use Rattle.pua_script.specs.Family.{HasKept, is_chdir, is_done, is_exec, is_member}
+pub use Rattle.pua_script.specs.Family.{HasKept, is_chdir, is_chroot, is_done, is_exec, is_member}
 pub use Rattle.pua_script.specs.Futures.{AreDone}
 pub use Rattle.pua_script.specs.Guards.{IsShift}
 pub use Rattle.pua_script.specs.Judged.{NameFits}

@@ -1,7 +1,7 @@
 -- What a list of requests leaves of the family of a process that can put no veil any more.
 use Rattle.pua_script.proofs.Common.{◌≡◌, ℕ, List, [], ◌∷◌, Bool, true, false, cond, ◌&&◌, ◌||◌, refl, sym, ap, subst, ◌∙◌, Some, ◌==◌}
 use Rattle.pua_script.proofs.Common.{false≢true, eqb-true, and_parts, not-true, CallTable, ProcessState, working_dir, Asked, World, kept_at}
-use Rattle.pua_script.proofs.Common.{apply, world_after, IsConfined, is_member, is_exec, is_chdir, is_done, HasKept, Answer, Okay}
+use Rattle.pua_script.proofs.Common.{apply, world_after, IsConfined, is_member, is_exec, is_chdir, is_chroot, is_done, HasKept, Answer, Okay}
 use Rattle.pua_script.proofs.Common.{Gone, Action, Fork}
 use Rattle.std.specs.Prelude.{not}
 use Rattle.pua_script.specs.Family.{is_okay, with_child, family_then, family, none_done}
@@ -10,6 +10,8 @@ use Rattle.pua_script.specs.declared.answer.Answer.TheVariants.{Failed, Killed}
 use Rattle.pua_script.proofs.Others.{forks_copy}
 use Rattle.pua_script.proofs.Allowing.{IsWithin, allows_no_more}
 use Rattle.pua_script.proofs.Tightening.{is_own, is_one, each_steps, within_self, within_twice}
+use Rattle.pua_policy.specs.States.{root_dir}
+use Rattle.pua_tree.proofs.ForCallers.{same_Some}
 
 -- a member: its state is within that of the process of the beginning, and works in its directory if none moved
 pub record Belongs (now : ProcessState) (still : Bool) (h : ProcessState) : Type 0 where
@@ -126,6 +128,71 @@ module _ (table : CallTable) (now : ProcessState) where
       let is : process ≡ m = eqb-true process m (sym (is_one process m) ∙ belongs) in
       (now, sym (ap (kept_at w) is) ∙ here, record { within = within_self now confined; dir = λ still. refl })
 
+-- members, whether or not one moved
+all_still : (w : World) (members : List ℕ) (now : ProcessState) → Members w members now true → Members w members now false
+all_still w members now are m belongs = let one = are m belongs in (one.0, one.1, record { within = one.2.within; dir = λ moved. absurd (false≢true moved) })
+
+-- each member has the root of the process of the beginning
+module _ (table : CallTable) (now : ProcessState) where
+  abbrev Roots : World → List ℕ → Type 0
+  Roots w members = (m : ℕ) → is_member members m ≡ true → (h : ProcessState) → kept_at w m ≡ Some h → root_dir h ≡ root_dir now
+
+  same_state : (w : World) (m : ℕ) (a b : ProcessState) → kept_at w m ≡ Some a → kept_at w m ≡ Some b → a ≡ b
+  same_state w m a b here there = same_Some a b (sym here ∙ there)
+
+  -- as long as none of them does a chroot
+  roots_then : (w : World) (ask : Asked) (members : List ℕ) → Members w members now false → Roots w members →
+      is_done is_exec table w ask members ≡ false → is_done is_chroot table w ask members ≡ false →
+      Roots (apply table w ask).1 (family_then table w ask members)
+  roots_then w ask members are roots none still m =
+      by (is_member members ask.process) (is_okay (apply table w ask).0) refl refl
+    where
+      old : is_member members m ≡ true → (h : ProcessState) → kept_at (apply table w ask).1 m ≡ Some h → root_dir h ≡ root_dir now
+      old belongs h here =
+          let before = are m belongs in
+          let after = each_steps table w ask m before.0 before.1 before.2.within.tightens.confined
+          (not_by_one is_exec table w ask members m belongs none) in
+          ap root_dir (same_state (apply table w ask).1 m h after.0 here after.1)
+          ∙ after.2.root (not_by_one is_chroot table w ask members m belongs still) ∙ roots m belongs before.0 before.1
+
+      child : (new : ℕ) → ask.action ≡ Fork new → is_member members ask.process ≡ true → is_okay (apply table w ask).0 ≡ true →
+          (h : ProcessState) → kept_at (apply table w ask).1 new ≡ Some h → root_dir h ≡ root_dir now
+      child new forks belongs okay h here =
+          let before = are ask.process belongs in
+          let same : (record { process = ask.process; action = Fork new }) ≡ ask =
+          λ i. record { process = ask.process; action = sym forks i } in
+          let copied = forks_copy table w ask.process new before.0 before.1 (ap (λ a. (apply table w a).0) same ∙
+          is_okay_only (apply table w ask).0 okay) in
+          ap root_dir (same_state (apply table w ask).1 new h before.0 here (sym (ap (λ a. kept_at (apply table w a).1 new) same) ∙ copied))
+          ∙ roots ask.process belongs before.0 before.1
+
+      by : (a b : Bool) → is_member members ask.process ≡ a → is_okay (apply table w ask).0 ≡ b →
+          is_member (cond (a && b) (with_child ask.action members) members) m ≡ true → (h : ProcessState) →
+          kept_at (apply table w ask).1 m ≡ Some h → root_dir h ≡ root_dir now
+      by false b asks told belongs = old belongs
+      by true false asks told belongs = old belongs
+      by true true asks told belongs =
+          child_or_old ask.action members m ((h : ProcessState) → kept_at (apply table w ask).1 m ≡ Some h → root_dir h ≡ root_dir now)
+          belongs old
+          (λ new forks is. subst (λ n. (h : ProcessState) → kept_at (apply table w ask).1 n ≡ Some h → root_dir h ≡ root_dir now) is
+          (child new forks asks told))
+
+  roots_after : (asks : List Asked) (w : World) (members : List ℕ) → Members w members now false → Roots w members →
+      none_done is_exec table w asks members ≡ true → none_done is_chroot table w asks members ≡ true →
+      Roots (world_after table w asks) (family table w asks members)
+  roots_after [] w members are roots none still = roots
+  roots_after (ask ∷ asks) w members are roots none still =
+      let parts = and_parts (not (is_done is_exec table w ask members)) _ none in
+      let stays = and_parts (not (is_done is_chroot table w ask members)) _ still in
+      let first = not-true (is_done is_exec table w ask members) parts.0 in
+      roots_after asks (apply table w ask).1 (family_then table w ask members) (members_then table now w ask members false are first)
+      (roots_then w ask members are roots first (not-true (is_done is_chroot table w ask members) stays.0)) parts.1 stays.1
+
+  roots_begin : (w : World) (process : ℕ) → kept_at w process ≡ Some now → Roots w (process ∷ [])
+  roots_begin w process here m belongs h there =
+      let is : process ≡ m = eqb-true process m (sym (is_one process m) ∙ belongs) in
+      ap root_dir (same_state w m h now there (sym (ap (kept_at w) is) ∙ here))
+
 pub families_narrow : FamiliesNarrow
 families_narrow table w asks process now here confined none m belongs =
     let one = members_after table now asks w (process ∷ []) true (begins table now w process here confined) none m belongs in (
@@ -135,5 +202,7 @@ families_narrow table w asks process now here confined none m belongs =
         tightens = one.2.within.tightens;
         allows = λ sound. allows_no_more table sound now one.0 one.2.within;
         dir = one.2.dir;
+        root = λ still. roots_after table now asks w (process ∷ []) (all_still w (process ∷ []) now (begins table now w process here confined)) (roots_begin table now w process here) none still m
+            belongs one.0 one.1;
       },
     )

@@ -3,7 +3,7 @@ use Rattle.pua_script.proofs.Common.{◌≡◌, ◌≢◌, ℕ, zero, suc, List,
 use Rattle.pua_script.proofs.Common.{None, option_map, Result, Ok, Err, is_some, ◌>>=◌, Tree, is_dir, is_empty, above, parts_of}
 use Rattle.pua_script.proofs.Common.{is_absolute, path_fault, text_errno, resolve_parts, resolution_of_text, most_links, node_named, Errno}
 use Rattle.pua_script.proofs.Common.{ENOENT, EINVAL, ENOSPC, LongText, LongComponent, NulInText, Ending, Last, Found, Slot, holds}
-use Rattle.pua_script.proofs.Common.{CallTable, PairRule, rule_of, ending_of, last_of, ProcessState, working_dir, may_any, place_of, cover}
+use Rattle.pua_script.proofs.Common.{CallTable, PairRule, rule_of, ending_of, last_of, ProcessState, start, may_any, place_of, cover}
 use Rattle.pua_script.proofs.Common.{cover_fault, object_fault, object_of, Call, Cover, May, is_inside, is_same_node}
 use Rattle.pua_script.proofs.Common.{spot_named, Whole, Spot, or_fault, Failed, Change, NoChange, Decision, if_may, asker_of, decide_rename}
 use Rattle.pua_script.proofs.Common.{decide_link, shifting, is_whole, fault_if, kinds_fault, inside_fault}
@@ -37,6 +37,8 @@ use Rattle.pua_script.specs.Decide.{decide_pair, decide_veil, dots_fault, top_fa
 use Rattle.pua_calls.specs.declared.rules.Rules.{Rules}
 use Rattle.pua_calls.specs.declared.rules.Rules.TheVariants.{Standard, Openbsd}
 use Rattle.pua_script.specs.Decide.{unveil_errno}
+use Rattle.pua_path.specs.declared.found.Start.{Start}
+use Rattle.pua_path.specs.Resolution.{RootedTree, above_in, seen_from, starts}
 
 -- faults other than ENOSPC
 abbrev pub Apart : Option Errno → Type 0
@@ -104,7 +106,7 @@ slot_apart : (rest : List Part) (found : Found) (errno : Errno) (links : ℕ) �
 slot_apart [] found errno links other = tt
 slot_apart (part ∷ rest) found errno links other = other
 
-module _ (t : Tree) (mode : Last) (links : ℕ) (follow : ℕ → List ℕ → List Part → Resolved)
+module _ (t : RootedTree) (mode : Last) (links : ℕ) (follow : ℕ → List ℕ → List Part → Resolved)
     (follows : (from : ℕ) (target : List ℕ) (rest : List Part) → IsApart (follow from target rest)) where
   linked_apart : (b : Bool) (from : ℕ) (target : List ℕ) (rest : List Part) (found : Found) →
       IsApart (cond b (follow from target rest) (Ok (found, links)))
@@ -114,8 +116,8 @@ module _ (t : Tree) (mode : Last) (links : ℕ) (follow : ℕ → List ℕ → L
   walk_apart : (ps : List Part) (dir : ℕ) (by : Way) → IsApart (walk t mode links follow dir by ps)
   walk_apart [] dir by = tt
   walk_apart (parts.Dot ∷ ps) dir by = walk_apart ps dir way.Dot
-  walk_apart (parts.DotDot ∷ ps) dir by = walk_apart ps (above t dir) way.DotDot
-  walk_apart (parts.Name name ∷ ps) dir by = elim (standing_at t dir name) as (λ s. IsApart (elim s [
+  walk_apart (parts.DotDot ∷ ps) dir by = walk_apart ps (above_in t dir) way.DotDot
+  walk_apart (parts.Name name ∷ ps) dir by = elim (standing_at t.tree dir name) as (λ s. IsApart (elim s [
     | Directory x ↦ walk t mode links follow x (way.Named dir name) ps
     | Linked x target ↦ cond (is_followed mode ps) (follow dir target ps) (Ok (Slot dir name (Some x), links))
     | Plain x ↦ slot_or ps (Slot dir name (Some x)) ENOTDIR links
@@ -127,10 +129,10 @@ module _ (t : Tree) (mode : Last) (links : ℕ) (follow : ℕ → List ℕ → L
     | Nothing ↦ slot_apart ps (Slot dir name None) ENOENT links (λ e. cc)
   ]
 
-resolve_apart : (links : ℕ) (t : Tree) (mode : Last) (dir : ℕ) (by : Way) (ps : List Part) → IsApart (resolve_parts links t mode dir by ps)
+resolve_apart : (links : ℕ) (t : RootedTree) (mode : Last) (dir : ℕ) (by : Way) (ps : List Part) → IsApart (resolve_parts links t mode dir by ps)
 resolve_apart zero t mode dir by ps = walk_apart t mode 0 (λ from target rest. Err ELOOP) (λ from target rest e. cc) ps dir by
 resolve_apart (suc links) t mode dir by ps =
-    walk_apart t mode (suc links) _ (λ from target rest. resolve_apart links t mode (start_of target from) way.Top
+    walk_apart t mode (suc links) _ (λ from target rest. resolve_apart links t mode (start_of t.root target from) way.Top
     (parts_of ending.Dot target ++ rest)) ps dir by
 
 abbrev errno_of : Result Found Errno → Errno
@@ -149,17 +151,17 @@ named_if : (b : Bool) (r : Result Found Errno) → Named r → Named (cond b (Er
 named_if true r named e = cc
 named_if false r named e = named e
 
-named : (t : Tree) (from : ℕ) (end : Ending) (text : List ℕ) (mode : Last) → Named (resolution_of_text t from end text mode)
+named : (t : Tree) (from : Start) (end : Ending) (text : List ℕ) (mode : Last) → Named (resolution_of_text t from end text mode)
 named t from end text mode = by (path_fault text) refl (path_apart text)
   where
     by : (o : Option Errno) → path_fault text ≡ o → Apart (path_fault text) → Named (resolution_of_text t from end text mode)
     by None e apart = rw e
-        (named_if (not (is_absolute text) && not (is_dir t from)) _
-        (named_from _ (resolve_apart most_links t mode (start_of text from) way.Top (parts_of end text))))
+        (named_if (not (starts t from text)) _
+        (named_from _ (resolve_apart most_links (seen_from t from) mode (start_of from.root text from.dir) way.Top (parts_of end text))))
     by (Some errno) e apart = rw e (λ is. apart (e ∙ ap (λ r. Some (errno_of r)) is))
 
 -- by any rules
-named_any : (whose : Rules) (t : Tree) (from : ℕ) (end : Ending) (text : List ℕ) (mode : Last) → Named (path_named whose t from end text mode)
+named_any : (whose : Rules) (t : Tree) (from : Start) (end : Ending) (text : List ℕ) (mode : Last) → Named (path_named whose t from end text mode)
 named_any whose t from end text mode = by whose (resolution_of_text t from end text mode) (named t from end text mode)
   where
     front : (errno : Errno) (r : Result Found Errno) → Named (Err errno) → Named r → Named (Err (front_errno errno r))
@@ -235,8 +237,8 @@ granted_apart c e = cc
 
 pub object_has_room : (table : CallTable) (t : Tree) (h : ProcessState) (c : Call) (path : List ℕ) (f : Found → Change) →
     HasRoom (decide_object table t (asker_of h) c path (λ x. Ok (f x)))
-object_has_room table t h c path f = named_apart (path_named table.whose t (working_dir h) (ending_of c) path (last_of c)) _
-    (named_any table.whose t (working_dir h) (ending_of c) path (last_of c)) λ x.
+object_has_room table t h c path f = named_apart (path_named table.whose t (start h) (ending_of c) path (last_of c)) _
+    (named_any table.whose t (start h) (ending_of c) path (last_of c)) λ x.
     checked_apart _ _ (or_apart _ _ (cover_apart (cover t h x) (rule_of table c).perms) (object_apart table.whose t c (object_of t x)))
     (granted_apart (f x))
 
@@ -247,8 +249,8 @@ past_apart t h x false perms = λ e. cc
 
 pub opened_has_room : (table : CallTable) (t : Tree) (h : ProcessState) (asks_veils : Bool) (c : Call) (path : List ℕ) (f : Found → Change) →
     HasRoom (decide_object table t (past_promises asks_veils (asker_of h)) c path (λ x. Ok (f x)))
-opened_has_room table t h asks_veils c path f = named_apart (path_named table.whose t (working_dir h) (ending_of c) path (last_of c)) _
-    (named_any table.whose t (working_dir h) (ending_of c) path (last_of c)) λ x.
+opened_has_room table t h asks_veils c path f = named_apart (path_named table.whose t (start h) (ending_of c) path (last_of c)) _
+    (named_any table.whose t (start h) (ending_of c) path (last_of c)) λ x.
     checked_apart _ _ (or_apart _ _ (past_apart t h x asks_veils (rule_of table c).perms) (object_apart table.whose t c (object_of t x)))
     (granted_apart (f x))
 
@@ -257,8 +259,8 @@ pub pair_has_room : (whose : Rules) (pair : PairRule) (t : Tree) (h : ProcessSta
 pair_has_room whose pair t h end old_path new_path f has =
     promised_apart (may_any h pair.old.needs.alternatives) _
     (promised_apart (may_any h pair.new.needs.alternatives) _
-    (named_apart (path_named whose t (working_dir h) end old_path pair.old.last) _ (named_any whose t (working_dir h) end old_path pair.old.last) λ old.
-    named_apart (path_named whose t (working_dir h) end new_path pair.new.last) _ (named_any whose t (working_dir h) end new_path pair.new.last) λ new.
+    (named_apart (path_named whose t (start h) end old_path pair.old.last) _ (named_any whose t (start h) end old_path pair.old.last) λ old.
+    named_apart (path_named whose t (start h) end new_path pair.new.last) _ (named_any whose t (start h) end new_path pair.new.last) λ new.
     checked_apart _ _ (or_apart _ _ (cover_apart (cover t h old) pair.old.needs.perms) (cover_apart (cover t h new) pair.new.needs.perms))
     (has old new)))
 
@@ -282,5 +284,5 @@ link_has_room old new (Some x) =
 
 pub veil_has_room : (whose : Rules) (t : Tree) (h : ProcessState) (path : List ℕ) (perms : Option ℕ) → HasRoom (decide_veil whose t (asker_of h) path perms)
 veil_has_room whose t h path None = λ e. cc
-veil_has_room whose t h path (Some perms) = named_apart _ _ (named_any whose t (working_dir h) ending.Dot path Followed) λ x.
+veil_has_room whose t h path (Some perms) = named_apart _ _ (named_any whose t (start h) ending.Dot path Followed) λ x.
     checked_apart _ _ (veil_apart (unveil_fault h (place_of x) perms)) (granted_apart _)

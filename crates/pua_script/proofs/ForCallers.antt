@@ -28,7 +28,7 @@ pub use Rattle.pua_script.proofs.Possible.{name_fits}
 pub use Rattle.pua_script.proofs.Spared.{c_from_cover, covered_by_c, has_spot}
 -- what is so of each change once its guards are passed is so of what a request leaves
 pub use Rattle.pua_script.proofs.Applied.{by_request, by_living, by_decision, by_tree, by_own_tree}
-pub use Rattle.pua_script.proofs.Changing.{by_placing, by_making, by_cutting, by_filing, by_going, by_tying, by_moves}
+pub use Rattle.pua_script.proofs.Changing.{by_placing, by_making, by_cutting, by_filing, by_going, by_rooting, by_tying, by_moves}
 -- a call that makes a node is one of those that change names
 pub use Rattle.pua_script.proofs.Unchanged.{adding_changes}
 pub use Rattle.pua_script.proofs.Guarding.{decisions_are_guarded, first_none, second_none, not_faulty, takes_ask}

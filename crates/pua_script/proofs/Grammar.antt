@@ -26,18 +26,18 @@ use Rattle.std.specs.Option.{option_or}
 use Rattle.pua_calls.specs.Calls.{call_named_by}
 use Rattle.pua_script.specs.declared.request.Given.{Given}
 use Rattle.pua_script.specs.declared.request.Given.TheVariants.{Null, Good}
-use Rattle.pua_script.specs.declared.request.Action.TheVariants.{Pledge, Lock, Exit, Uses, Hold, Close, Fchdir, Take}
+use Rattle.pua_script.specs.declared.request.Action.TheVariants.{Pledge, Lock, Exit, Uses, Hold, Close, Fchdir, Chroot, Take}
 use Rattle.pua_script.specs.declared.fault.ScriptFault.{ScriptFault}
 use Rattle.pua_script.specs.declared.fault.ScriptFault.TheVariants.{BadLine, BadCall, BadPath, BadList, TooMany}
 use Rattle.pua_script.specs.Scripts.{is_dash, is_equals, path_in, has_empty_word, good_or_unknown, given_in, perms_in, Form, PathForm}
 use Rattle.pua_script.specs.Scripts.{SymlinkForm, RenameForm, LinkForm, PledgeForm, UnveilForm, ForkForm, ExitForm, UsesForm, form_of, with_paths}
 use Rattle.pua_script.specs.Scripts.{set_of_keyword, further_set, sets_of, sets_in, asks_promises}
-use Rattle.pua_script.specs.Scripts.{HoldForm, CloseForm, FchdirForm, TakeForm, descriptor_in, number_in, open_named, hold_form, take_form}
+use Rattle.pua_script.specs.Scripts.{HoldForm, CloseForm, FchdirForm, ChrootForm, TakeForm, descriptor_in, number_in, open_named, hold_form, take_form}
 use Rattle.pua_script.specs.Scripts.{file_form, files_form, if_openbsd}
 use Rattle.pua_script.specs.Scripts.{unveil_of, action_of, form_in, action_in, requests_of, is_blank, text_in, request_of_text}
 use Rattle.pua_script.specs.ScriptGrammar.{SpellsPath, empty, spelled, IsList, SpellsGiven, null, nothing, known, unknown, SpellsPerms}
 use Rattle.pua_script.specs.ScriptGrammar.{no_letter, letters, unknown_letter, SpellsAction, on_path, symlink, rename, link, pledge, unveil}
-use Rattle.pua_script.specs.ScriptGrammar.{lock, fork, exit, uses, hold, close, fchdir, take as taken, SpellsDescriptor, IsKeyword, SpellSets, SpellsRequest, SpellsLine, blank, request}
+use Rattle.pua_script.specs.ScriptGrammar.{lock, fork, exit, uses, hold, close, fchdir, chroot, take as taken, SpellsDescriptor, IsKeyword, SpellSets, SpellsRequest, SpellsLine, blank, request}
 use Rattle.pua_script.specs.ScriptGrammar.{SpellRequests, ScriptsAreRead}
 
 same_to : (a b : List ℕ) → a ≡ b → same_bytes a b ≡ true
@@ -284,20 +284,32 @@ module _ (rules : Rules) where
     fchdir_form word a number action by_kernel named e is =
         subst (SpellsAction rules (word ∷ a ∷ [])) (same_Ok (Fchdir number) action is) (fchdir by_kernel named (descriptor_read a number e))
 
+    chroot_form : (word a : List ℕ) (action : Action) → rules ≡ Openbsd → word ≡ codes "chroot" →
+        action_of n (ChrootForm a) ≡ Ok action → SpellsAction rules (word ∷ a ∷ []) action
+    chroot_form word a action by_kernel named is =
+        let path = step_read (ok_or (path_in a) (BadPath n)) (λ text. Ok (Chroot text)) action is in
+        subst (SpellsAction rules (word ∷ a ∷ [])) (same_Ok (Chroot path.0) action path.2)
+        (chroot by_kernel named (path_read a path.0 (ok_or_read (path_in a) (BadPath n) path.0 path.1)))
+
     one_file : (word a : List ℕ) (form : Form) (action : Action) → rules ≡ Openbsd → file_form word a ≡ Some form →
         action_of n form ≡ Ok action → SpellsAction rules (word ∷ a ∷ []) action
     one_file word a form action by_kernel = by (same_bytes word (codes "close")) refl (same_bytes word (codes "fchdir")) refl
+        (same_bytes word (codes "chroot")) refl
       where
         by : (s : Bool) → same_bytes word (codes "close") ≡ s → (f : Bool) → same_bytes word (codes "fchdir") ≡ f
-            → cond s (option_map CloseForm (descriptor_in a)) (cond f (option_map FchdirForm (descriptor_in a)) None) ≡ Some form →
+            → (r : Bool) → same_bytes word (codes "chroot") ≡ r
+            → cond s (option_map CloseForm (descriptor_in a)) (cond f (option_map FchdirForm (descriptor_in a))
+            (cond r (Some (ChrootForm a)) None)) ≡ Some form →
             action_of n form ≡ Ok action → SpellsAction rules (word ∷ a ∷ []) action
-        by true w f _ e is =
+        by true w f _ r _ e is =
             let number = mapped CloseForm (descriptor_in a) form e in
             close_form word a number.0 action by_kernel (same_word word (codes "close") w) number.1 (ap (action_of n) number.2 ∙ is)
-        by false _ true w e is =
+        by false _ true w r _ e is =
             let number = mapped FchdirForm (descriptor_in a) form e in
             fchdir_form word a number.0 action by_kernel (same_word word (codes "fchdir") w) number.1 (ap (action_of n) number.2 ∙ is)
-        by false _ false _ e is = absurd (None≢Some form e)
+        by false _ false _ true w e is =
+            chroot_form word a action by_kernel (same_word word (codes "chroot") w) (ap (action_of n) (same_Some (ChrootForm a) form e) ∙ is)
+        by false _ false _ false _ e is = absurd (None≢Some form e)
 
     hold_read : (word a b c : List ℕ) (form : Form) (action : Action) → rules ≡ Openbsd → word ≡ codes "hold" →
         hold_form (descriptor_in a) (open_named b) c ≡ Some form → action_of n form ≡ Ok action →
@@ -495,6 +507,11 @@ module _ (rules : Rules) where
       (λ i. form_of (there i) (named i) (a ∷ [])) ∙ ap (option_map FchdirForm) (descriptor_told a number first),
       refl,
     )
+    action_told _ _ (chroot {a = a} {path = path} there named first) = (
+      ChrootForm a,
+      (λ i. form_of (there i) (named i) (a ∷ [])),
+      ap (λ o. ok_or o (BadPath n) >>= λ p. Ok (Chroot p)) (path_told a path first),
+    )
     action_told _ _ (taken {a = a} {b = b} {c = c} {number = number} {from = from} {theirs = theirs} there named first second low high third) = (
       TakeForm number from theirs,
       (λ i. form_of (there i) (named i) (a ∷ b ∷ c ∷ []))
@@ -632,4 +649,5 @@ action_bytes _ _ _ (uses there named spells) = refl
 action_bytes _ _ _ (hold {c = c} {path = path} there named first opens second third) = path_bytes c path third
 action_bytes _ _ _ (close there named first) = refl
 action_bytes _ _ _ (fchdir there named first) = refl
+action_bytes _ _ _ (chroot {a = a} {path = path} there named first) = path_bytes a path first
 action_bytes _ _ _ (taken there named first second low high third) = refl

@@ -3,7 +3,7 @@ use Rattle.pua_script.proofs.Common.{◌≡◌, ℕ, List, [], ◌∷◌, Bool, 
 use Rattle.pua_script.proofs.Common.{IsTrue, is_some, Tree, Node, Spot, target_fits, has_room, has_name_room, spot_named, node_named, Dot}
 use Rattle.pua_script.proofs.Common.{Dropped, Found, Whole, Slot, unveil, CallTable, ProcessState, Event, Filed, Unveiled, Moved, is_locked, may_any}
 use Rattle.pua_script.proofs.Common.{Yes, Call, is_bytes, is_in_bytes, Change, NoChange, AddNode, CutRow, ShiftRow, TieRow, BeginProgram}
-use Rattle.pua_script.proofs.Common.{AddEvent, CopyAs, TakeFile, shifting, is_whole, is_exec, is_chdir, IsShift, Action, OnPath, and_from, and_parts}
+use Rattle.pua_script.proofs.Common.{AddEvent, CopyAs, TakeFile, shifting, is_whole, is_exec, is_chdir, is_chroot, IsShift, Action, OnPath, and_from, and_parts}
 use Rattle.pua_tree.specs.declared.node.Kind.{Kind}
 use Rattle.pua_calls.specs.declared.call.Call.TheVariants as call
 use Rattle.pua_calls.specs.Calls.{effect_of}
@@ -15,6 +15,7 @@ use Rattle.pua_script.specs.Guards.{IsOpened, OnOne, OnTwo}
 use Rattle.pua_script.specs.declared.request.Action.TheVariants.{Take}
 use Rattle.pua_policy.specs.declared.open_file.OpenFile.{OpenFile}
 use Rattle.pua_script.specs.Laws.{adds_node, lacks_room}
+use Rattle.pua_policy.specs.States.{ToDir, ToRoot}
 
 -- the calls that make a name, and those that take one away
 abbrev pub makes : Call → Bool
@@ -83,10 +84,11 @@ module _ (table : CallTable) (t : Tree) (h : ProcessState) (action : Action) whe
     pub on : OnOne table t h call path object ⊎ IsOpened table t h call path object
     pub opened : file_opened t call (node_named object) ≡ Some file
 
-  -- an unveil of a process that may, a move by chdir or fchdir, and such an open file
+  -- an unveil of a process that may, a move by chdir or fchdir, or by chroot, and such an open file
   abbrev pub IsSaid : Event → Type 0
   IsSaid (Unveiled place perms) = (may_any h (unveil ∷ []) ≡ Yes) × (is_locked h ≡ false)
-  IsSaid (Moved dir) = is_chdir action ≡ true
+  IsSaid (Moved (ToDir dir)) = is_chdir action ≡ true
+  IsSaid (Moved (ToRoot dir)) = is_chroot action ≡ true
   IsSaid (Filed number (Some file)) = IsOpening file
   IsSaid _ = Unit {0}
 

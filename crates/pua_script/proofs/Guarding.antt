@@ -2,16 +2,17 @@
 use Rattle.pua_script.proofs.Common.{◌≡◌, ℕ, List, [], ◌∷◌, Bool, true, false, cond, refl, inl, inr, ◌⊎◌, Option, Some, None, Result, Ok}
 use Rattle.pua_script.proofs.Common.{Err, is_some, Tree, is_same_node, path_fault, resolution_of_text, spot_named, node_named, Errno}
 use Rattle.pua_script.proofs.Common.{EINVAL, Ending, Found, proc, unveil, CallTable, PairRule, rule_of, ProcessState, is_locked, may_any}
-use Rattle.pua_script.proofs.Common.{working_dir, place_of, cover, cover_fault, or_fault, object_named, object_fault, object_of, Call, May}
+use Rattle.pua_script.proofs.Common.{start, place_of, cover, cover_fault, or_fault, object_named, object_fault, object_of, Call, May}
 use Rattle.pua_script.proofs.Common.{fault_if, is_whole, inside_fault, kinds_fault, Change, NoChange, Decision, if_may, decide_rename}
 use Rattle.pua_script.proofs.Common.{TakeFile, decide, decide_link, asker_of, shifting, OnPath, Symlink, Rename, Link, Unveil, Fork, IsShift, and_parts, sym}
 use Rattle.pua_script.proofs.Common.{subst, is_bytes, Action, ENOSPC, Failed, ◌≢◌, ◌&&◌}
 use Rattle.std.specs.Prelude.{not, ok_or, ◌||◌}
 use Rattle.std.proofs.lemmas.Bool.{not-false}
-use Rattle.pua_calls.specs.Promises.{recvfd}
+use Rattle.pua_calls.specs.Promises.{id, recvfd}
 use Rattle.pua_policy.specs.declared.open_file.OpenFile.{OpenFile}
 use Rattle.pua_path.specs.declared.errno.Errno.TheVariants.{EBADF, EPERM, EEXIST, ENOTDIR}
 use Rattle.pua_path.specs.declared.text.Ending.TheVariants as ending
+use Rattle.pua_path.specs.declared.found.Found.TheVariants.{Whole, Slot}
 use Rattle.pua_path.specs.declared.found.Last.TheVariants.{Followed}
 use Rattle.pua_calls.specs.declared.rules.Rules.{Rules}
 use Rattle.pua_policy.specs.States.{file_at, is_directory, unveil_fault, pledge_fault}
@@ -22,8 +23,8 @@ use Rattle.pua_script.specs.Decide.{asks_directory, link_node, unveil_errno, giv
 use Rattle.pua_script.specs.Decide.{unless_fault, if_named, adding, change_by, asker_past, cover_past, decide_by, refusals, Sole}
 use Rattle.pua_script.specs.Openings.{Opening, opening_of}
 use Rattle.pua_script.specs.Decide.{covers_by, decide_veil, decide_object, decide_pair, ways_fault, named_by, named_in, path_named}
-use Rattle.pua_script.specs.Decide.{file_opened, filing, holding, past_promises}
-use Rattle.pua_script.specs.declared.request.Action.TheVariants.{Pledge, Lock, Exit, Uses, Hold, Close, Fchdir, Take, Comment}
+use Rattle.pua_script.specs.Decide.{file_opened, filing, holding, past_promises, rooting}
+use Rattle.pua_script.specs.declared.request.Action.TheVariants.{Pledge, Lock, Exit, Uses, Hold, Close, Fchdir, Chroot, Take, Comment}
 use Rattle.pua_script.specs.Guards.{OnOne, OnTwo, IsOpened, IsVeil, ChangesAreGranted, DecisionsAreGuarded}
 use Rattle.pua_script.specs.Guards.{IsDecided}
 use Rattle.pua_script.specs.Laws.{RefusalsLackNoRoom}
@@ -32,6 +33,7 @@ use Rattle.pua_script.proofs.Faults.{pair_has_room, rename_has_room, link_has_ro
 use Rattle.pua_script.proofs.Grounds.{Grounds, on_adding, on_call, on_rename, on_link, link_leads}
 use Rattle.pua_script.proofs.Linking.{target_is}
 use Rattle.pua_script.proofs.Widened.{changes_granted, tmp_one}
+use Rattle.pua_path.specs.declared.found.Start.{Start}
 
 from_promised : (m : May) (d : Decision) (c : Change) → if_may m d ≡ Ok c → (m ≡ may.Yes) × (d ≡ Ok c)
 from_promised may.Yes d c e = (refl, e)
@@ -70,24 +72,39 @@ second_none None b e = e
 second_none (Some errno) b e = cc
 
 -- what a path names by any rules, its text names
-pub named_ok : (whose : Rules) (t : Tree) (from : ℕ) (text : List ℕ) (named : Result Found Errno) (x : Found) →
+pub named_ok : (whose : Rules) (t : Tree) (from : Start) (text : List ℕ) (named : Result Found Errno) (x : Found) →
     named_in whose t from text named ≡ Ok x → named ≡ Ok x
 named_ok whose t from text (Ok y) x e = e
 named_ok whose t from text (Err errno) x e = cc
 
 module _ (t : Tree) (h : ProcessState) where
-  -- a call's object, once its promises are held
-  one : (table : CallTable) (c : Call) (path : List ℕ) (g : Found → Change) (change : Change) →
-      may_any h (rule_of table c).alternatives ≡ may.Yes
-      → (if_named (named_in table.whose t (working_dir h) path (object_named t h c path)) λ x. unless_fault (found_fault t table h c x) (Ok (g x))) ≡ Ok change
-      → (object : Found) × OnOne table t h c path object × (change ≡ g object)
-  one table c path g change may e =
-      let named = named_in table.whose t (working_dir h) path (object_named t h c path) in
+  -- a call's object, its promises aside
+  apart : (table : CallTable) (c : Call) (path : List ℕ) (g : Found → Change) (change : Change) →
+      (if_named (named_in table.whose t (start h) path (object_named t h c path)) λ x. unless_fault (found_fault t table h c x) (Ok (g x)))
+      ≡ Ok change
+      → (object : Found) × (object_named t h c path ≡ Ok object) × (cover_fault (cover t h object) (rule_of table c).perms ≡ None)
+      × (object_fault table.whose t c (object_of t object) ≡ None) × (change ≡ g object)
+  apart table c path g change e =
+      let named = named_in table.whose t (start h) path (object_named t h c path) in
       let at = from_named named (λ x. unless_fault (found_fault t table h c x) (Ok (g x))) change e in
       let free = from_checked (found_fault t table h c at.0) (Ok (g at.0)) change at.2 in
       let a = cover_fault (cover t h at.0) (rule_of table c).perms in
-      let b = object_fault table.whose t c (object_of t at.0) in
-      (at.0, record { promised = may; found = named_ok table.whose t (working_dir h) path (object_named t h c path) at.0 at.1; covered = first_none a b free.0; fitting = second_none a b free.0 }, is_ok _ _ free.1)
+      let b = object_fault table.whose t c (object_of t at.0) in (
+        at.0,
+        named_ok table.whose t (start h) path (object_named t h c path) at.0 at.1,
+        first_none a b free.0,
+        second_none a b free.0,
+        is_ok _ _ free.1,
+      )
+
+  -- a call's object, once its promises are held
+  one : (table : CallTable) (c : Call) (path : List ℕ) (g : Found → Change) (change : Change) →
+      may_any h (rule_of table c).alternatives ≡ may.Yes
+      → (if_named (named_in table.whose t (start h) path (object_named t h c path)) λ x. unless_fault (found_fault t table h c x) (Ok (g x))) ≡ Ok change
+      → (object : Found) × OnOne table t h c path object × (change ≡ g object)
+  one table c path g change may e =
+      let at = apart table c path g change e in
+      (at.0, record { promised = may; found = at.1; covered = at.2; fitting = at.3 }, at.4)
 
   -- a call that a promise opens
   opened : (table : CallTable) (c : Call) (path : List ℕ) (g : Found → Change) (change : Change) (o : Opening) →
@@ -95,7 +112,7 @@ module _ (t : Tree) (h : ProcessState) where
       decide_object table t (past_promises o.asks_veils (asker_of h)) c path (λ x. Ok (g x)) ≡ Ok change →
       (object : Found) × IsOpened table t h c path object × (change ≡ g object)
   opened table c path g change o is e =
-      let named = named_in table.whose t (working_dir h) path (object_named t h c path) in
+      let named = named_in table.whose t (start h) path (object_named t h c path) in
       let asked : Found → Option Errno = λ x. cover_past o.asks_veils (asker_of h).cover Sole t x (rule_of table c).perms in
       let fit : Found → Option Errno = λ x. object_fault table.whose t c (object_of t x) in
       let at = from_named named (λ x. unless_fault (or_fault (asked x) (fit x)) (Ok (g x))) change e in
@@ -104,7 +121,7 @@ module _ (t : Tree) (h : ProcessState) where
         record {
           opening = o;
           opened = is;
-          found = named_ok table.whose t (working_dir h) path (object_named t h c path) at.0 at.1;
+          found = named_ok table.whose t (start h) path (object_named t h c path) at.0 at.1;
           covered = first_none (asked at.0) (fit at.0) free.0;
           fitting = second_none (asked at.0) (fit at.0) free.0;
         },
@@ -122,8 +139,8 @@ module _ (t : Tree) (h : ProcessState) where
   pair whose rules end old new f change never e =
       let may_old = from_promised (may_any h rules.old.needs.alternatives) _ change e in
       let may_new = from_promised (may_any h rules.new.needs.alternatives) _ change may_old.1 in
-      let named_old = path_named whose t (working_dir h) end old rules.old.last in
-      let named_new = path_named whose t (working_dir h) end new rules.new.last in
+      let named_old = path_named whose t (start h) end old rules.old.last in
+      let named_new = path_named whose t (start h) end new rules.new.last in
       let first = from_named named_old (λ a. if_named named_new λ b. unless_fault
       (covers_by rules t (asker_of h) a b) (f a b (node_named a))) change may_new.1 in
       let a = first.0 in
@@ -131,8 +148,8 @@ module _ (t : Tree) (h : ProcessState) where
       (λ b. unless_fault (covers_by rules t (asker_of h) a b) (f a b (node_named a))) change first.2 in
       let b = second.0 in
       let free = from_checked (covers_by rules t (asker_of h) a b) (f a b (node_named a)) change second.2 in
-      by a b (node_named a) refl may_old.0 may_new.0 (named_ok whose t (working_dir h) old (named_by rules.old t h end old) a first.1)
-      (named_ok whose t (working_dir h) new (named_by rules.new t h end new) b second.1) free.0 free.1
+      by a b (node_named a) refl may_old.0 may_new.0 (named_ok whose t (start h) old (named_by rules.old t h end old) a first.1)
+      (named_ok whose t (start h) new (named_by rules.new t h end new) b second.1) free.0 free.1
     where
       by : (a b : Found) (o : Option ℕ) → node_named a ≡ o → may_any h rules.old.needs.alternatives ≡ may.Yes →
           may_any h rules.new.needs.alternatives ≡ may.Yes → named_by rules.old t h end old ≡ Ok a → named_by rules.new t h end new ≡ Ok b
@@ -182,7 +199,7 @@ module _ (t : Tree) (h : ProcessState) where
       decide_veil whose t (asker_of h) path letters ≡ Ok change → IsVeil t h path letters change
   veiled whose path None change may unlocked e = cc
   veiled whose path (Some perms) change may unlocked e =
-      let at = from_named (path_named whose t (working_dir h) ending.Dot path Followed) _ change e in
+      let at = from_named (path_named whose t (start h) ending.Dot path Followed) _ change e in
       let free = from_checked (unveil_errno (unveil_fault h (place_of at.0) perms)) _ change at.2 in
       record {
         object = at.0;
@@ -190,7 +207,7 @@ module _ (t : Tree) (h : ProcessState) where
         promised = may;
         unlocked = unlocked;
         known = refl;
-        found = named_ok whose t (working_dir h) path (resolution_of_text t (working_dir h) ending.Dot path Followed) at.0 at.1;
+        found = named_ok whose t (start h) path (resolution_of_text t (start h) ending.Dot path Followed) at.0 at.1;
         room = free.0;
         is = is_ok _ _ free.1;
       }
@@ -264,6 +281,17 @@ decisions_are_guarded table t h (Fchdir number) change e =
       directory = not-false (is_directory at.0) (not_faulty (not (is_directory at.0)) ENOTDIR free.0);
       is = is_ok _ _ free.1;
     }
+decisions_are_guarded table t h (Chroot path) change e =
+    let may = from_promised (may_any h (id ∷ [])) _ change e in
+    let at = apart t h table call.Chdir path rooting change may.1 in
+    record {
+      object = at.0;
+      promised = may.0;
+      found = at.1;
+      covered = at.2;
+      fitting = at.3;
+      is = at.4;
+    }
 decisions_are_guarded table t h (Take number from theirs) change e =
     let may = from_promised (may_any h (recvfd ∷ [])) _ change e in (may.0, is_ok _ _ may.1)
 decisions_are_guarded table t h Comment change e = is_ok _ _ e
@@ -302,6 +330,11 @@ module _ (table : CallTable) (t : Tree) (h : ProcessState) where
       filed (Some file) is = record { call = asked; path = path; object = d.0; on = d.1; opened = is }
   grounds (Close number) c d = subst (Grounds table t h (Close number)) (sym d.2) tt
   grounds (Fchdir number) c d = subst (Grounds table t h (Fchdir number)) (sym d.is) refl
+  grounds (Chroot path) c d = subst (Grounds table t h (Chroot path)) (sym d.is) (rooted d.object)
+    where
+      rooted : (x : Found) → Grounds table t h (Chroot path) (rooting x)
+      rooted (Whole dir way) = refl
+      rooted (Slot dir name y) = tt
   grounds (Take number from theirs) c d = subst (Grounds table t h (Take number from theirs)) (sym d.1) refl
   grounds Comment c d = subst (Grounds table t h Comment) (sym d) tt
 
@@ -343,5 +376,6 @@ refusals_lack_no_room table t h (Hold number c path) = by (opening_of table h c 
 refusals_lack_no_room table t h (Close number) = file_has_room (file_at h.files number) _ (λ file. granted_apart _)
 refusals_lack_no_room table t h (Fchdir number) = file_has_room (file_at h.files number) _ λ file.
     checked_apart _ _ (if_apart (not (is_directory file)) ENOTDIR (λ e. cc)) (granted_apart _)
+refusals_lack_no_room table t h (Chroot path) = promised_apart _ _ (object_has_room table t h call.Chdir path rooting)
 refusals_lack_no_room table t h (Take number from theirs) = promised_apart _ _ (granted_apart _)
 refusals_lack_no_room table t h Comment = granted_apart _

@@ -98,7 +98,7 @@ module _ (table : CallTable) (sound : NoCallNeedsError table) (now : ProcessStat
   opening_now : (t : Tree) (h : ProcessState) (action : Action) (file : OpenFile) → IsWithin now h → IsOpening table t h action file → P file
   opening_now t h action file within g = openable file (record {
     tree = t;
-    from = h.dir;
+    from = h.start;
     call = g.call;
     path = g.path;
     object = g.object;
@@ -111,7 +111,7 @@ module _ (table : CallTable) (sound : NoCallNeedsError table) (now : ProcessStat
       On : Type 0
       On = OnOne table t h g.call g.path g.object ⊎ IsOpened table t h g.call g.path g.object
 
-      found : On → resolution_of_text t h.dir (ending_of g.call) g.path (last_of g.call) ≡ Ok g.object
+      found : On → resolution_of_text t h.start (ending_of g.call) g.path (last_of g.call) ≡ Ok g.object
       found (inl on) = on.found
       found (inr on) = on.found
 

@@ -5,7 +5,7 @@ use Rattle.pua_script.proofs.Common.{nat_cmp-IsAntisymmetric, Tree, Node, WellFo
 use Rattle.pua_script.proofs.Common.{with_row, without_row, without_unnamed, with_new, add, tie, cut, cut_found, shift, shift_found}
 use Rattle.pua_script.proofs.Common.{with_row_moved, is_full_dir, is_full_dir_there, is_inside, is_same_node, has_room, has_name_room}
 use Rattle.pua_script.proofs.Common.{TreeFault, put_here, put_elsewhere, None≢Some, spot_named, resolution_of_text, EAGAIN, Ending, Dot}
-use Rattle.pua_script.proofs.Common.{Dropped, Found, Whole, Slot, CallTable, ending_of, last_of, ProcessState, working_dir, most_processes}
+use Rattle.pua_script.proofs.Common.{Dropped, Found, Whole, Slot, CallTable, ending_of, last_of, ProcessState, start, most_processes}
 use Rattle.pua_script.proofs.Common.{is_bytes, is_in_bytes, Change, AddNode, CutRow, ShiftRow, TieRow, CopyAs, World, Fails, Copies}
 use Rattle.pua_script.proofs.Common.{edit_effect, edited_tree, kept_at, apply, change_effect, tree_left, Action, Last, TakeFile, Errno, OpenFile}
 use Rattle.pua_script.proofs.Common.{is_pledged, sent_by, take_effect}
@@ -187,12 +187,12 @@ module _ (w : World) (is_tree : IsByteTree w.tree) (h : ProcessState) where
   keeps _ fits = is_tree
 
   found_named : (end : Ending) (path : List ℕ) (mode : Last) (x : Found) → is_bytes path ≡ true →
-      resolution_of_text w.tree (working_dir h) end path mode ≡ Ok x → has_name x ≡ true
+      resolution_of_text w.tree (start h) end path mode ≡ Ok x → has_name x ≡ true
   found_named end path mode x small found =
-      subst (FoundNamed w.tree is_tree) found (text_named w.tree is_tree (working_dir h) end path mode small)
+      subst (FoundNamed w.tree is_tree) found (text_named w.tree is_tree (start h) end path mode small)
 
   name_in_bytes : (end : Ending) (path : List ℕ) (mode : Last) (x : Found) (s : Spot) → is_bytes path ≡ true →
-      resolution_of_text w.tree (working_dir h) end path mode ≡ Ok x → spot_named x ≡ Some s → is_name s.1 ≡ true
+      resolution_of_text w.tree (start h) end path mode ≡ Ok x → spot_named x ≡ Some s → is_name s.1 ≡ true
   name_in_bytes end path mode x s small found at = spot_is_name w.tree is_tree h x (found_named end path mode x small found) s at
 
   fits_bytes : (table : CallTable) (action : Action) (c : Change) → Grounds table w.tree h action c → is_in_bytes action ≡ true →

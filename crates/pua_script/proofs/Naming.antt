@@ -23,6 +23,8 @@ use Rattle.pua_path.specs.declared.found.Part.TheVariants as parts
 use Rattle.pua_path.specs.declared.found.Way.{Way}
 use Rattle.pua_path.specs.declared.found.Way.TheVariants as way
 use Rattle.pua_script.specs.Bytes.{IsByteTree}
+use Rattle.pua_path.specs.declared.found.Start.{Start}
+use Rattle.pua_path.specs.Resolution.{above_in, rooted, seen_from, starts}
 
 abbrev slash : ℕ → Bool
 slash b = b == 47
@@ -157,7 +159,7 @@ module _ (t : Tree) (is_tree : IsByteTree t) where
       at None e = rw e (λ is. cc)
       at (Some y) e = rw e (λ is. node y (node_at t y) refl is)
 
-  module _ (mode : Last) (links : ℕ) (follow : ℕ → List ℕ → List Part → Resolved)
+  module _ (root : ℕ) (mode : Last) (links : ℕ) (follow : ℕ → List ℕ → List Part → Resolved)
       (follows : (from : ℕ) (target : List ℕ) (rest : List Part) → IsLead target → list_all is_named rest ≡ true →
       IsNamed (follow from target rest)) where
     linked_named : (b : Bool) (from : ℕ) (target : List ℕ) (rest : List Part) (found : Found) → IsLead target →
@@ -166,14 +168,14 @@ module _ (t : Tree) (is_tree : IsByteTree t) where
     linked_named false from target rest found lead all is = is
 
     walk_named : (ps : List Part) (dir : ℕ) (by : Way) → list_all is_named ps ≡ true → has_name (Whole dir by) ≡ true →
-        IsNamed (walk t mode links follow dir by ps)
+        IsNamed (walk (rooted t root) mode links follow dir by ps)
     walk_named [] dir by all is = is
     walk_named (parts.Dot ∷ ps) dir by all is = walk_named ps dir way.Dot all refl
-    walk_named (parts.DotDot ∷ ps) dir by all is = walk_named ps (above t dir) way.DotDot all refl
+    walk_named (parts.DotDot ∷ ps) dir by all is = walk_named ps (above_in (rooted t root) dir) way.DotDot all refl
     walk_named (parts.Name name ∷ ps) dir by all is =
         let two = and_parts (is_name name) (list_all is_named ps) all in
         (elim (standing_at t dir name) as (λ s. standing_at t dir name ≡ s → IsNamed (elim s [
-          | Directory x ↦ walk t mode links follow x (way.Named dir name) ps
+          | Directory x ↦ walk (rooted t root) mode links follow x (way.Named dir name) ps
           | Linked x target ↦ cond (is_followed mode ps) (follow dir target ps) (Ok (Slot dir name (Some x), links))
           | Plain x ↦ slot_or ps (Slot dir name (Some x)) ENOTDIR links
           | Nothing ↦ slot_or ps (Slot dir name None) ENOENT links
@@ -192,12 +194,12 @@ module _ (t : Tree) (is_tree : IsByteTree t) where
       let c = and_parts (not (has_byte 0 target)) (has_short_components target) b.1 in
       text_parts ending.Dot target (not-true (has_byte 0 target) c.0) c.1 lead.1
 
-  resolve_named : (mode : Last) (links : ℕ) (dir : ℕ) (by : Way) (ps : List Part) → list_all is_named ps ≡ true →
-      has_name (Whole dir by) ≡ true → IsNamed (resolve_parts links t mode dir by ps)
-  resolve_named mode zero dir by ps all is =
-      walk_named mode 0 (λ from target rest. Err ELOOP) (λ from target rest lead all. tt) ps dir by all is
-  resolve_named mode (suc links) dir by ps all is =
-      walk_named mode (suc links) _ (λ from target rest lead rest_all. resolve_named mode links (start_of target from) way.Top
+  resolve_named : (root : ℕ) (mode : Last) (links : ℕ) (dir : ℕ) (by : Way) (ps : List Part) → list_all is_named ps ≡ true →
+      has_name (Whole dir by) ≡ true → IsNamed (resolve_parts links (rooted t root) mode dir by ps)
+  resolve_named root mode zero dir by ps all is =
+      walk_named root mode 0 (λ from target rest. Err ELOOP) (λ from target rest lead all. tt) ps dir by all is
+  resolve_named root mode (suc links) dir by ps all is =
+      walk_named root mode (suc links) _ (λ from target rest lead rest_all. resolve_named root mode links (start_of root target from) way.Top
       (parts_of ending.Dot target ++ rest)
       (list_all-append is_named (parts_of ending.Dot target) rest ∙
       and_from (list_all is_named (parts_of ending.Dot target)) _ (target_parts target lead) rest_all) refl) ps dir by all is
@@ -223,7 +225,7 @@ module _ (t : Tree) (is_tree : IsByteTree t) where
   fault_free false true true e = cc
   fault_free false true false e = (refl, refl)
 
-  pub text_named : (from : ℕ) (end : Ending) (text : List ℕ) (mode : Last) → is_bytes text ≡ true →
+  pub text_named : (from : Start) (end : Ending) (text : List ℕ) (mode : Last) → is_bytes text ≡ true →
       FoundNamed (resolution_of_text t from end text mode)
   text_named from end text mode small = by (path_fault text) refl
     where
@@ -233,7 +235,7 @@ module _ (t : Tree) (is_tree : IsByteTree t) where
 
       by : (o : Option Errno) → path_fault text ≡ o → FoundNamed (resolution_of_text t from end text mode)
       by None e = let two = fits text e in rw e
-          (named_if (not (is_absolute text) && not (is_dir t from)) _
-          (named_from _ (resolve_named mode most_links (start_of text from) way.Top (parts_of end text)
+          (named_if (not (starts t from text)) _
+          (named_from _ (resolve_named (seen_from t from).root mode most_links (start_of from.root text from.dir) way.Top (parts_of end text)
           (text_parts end text two.0 two.1 small) refl)))
       by (Some errno) e = rw e tt

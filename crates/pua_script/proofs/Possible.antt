@@ -3,7 +3,7 @@ use Rattle.pua_script.proofs.Common.{◌≡◌, ℕ, List, true, false, not, ◌
 use Rattle.pua_script.proofs.Common.{IsOk, ◌==◌, is_some, and_parts, not-true, same_Some, Tree, WellFormed, Spot, is_dir, is_empty, look}
 use Rattle.pua_script.proofs.Common.{shift, shift_found, with_row_moved, is_inside, is_same_node, is_full_dir_there, path_fault}
 use Rattle.pua_script.proofs.Common.{resolution_of_text, spot_named, node_named, Errno, EINVAL, Ending, Dot, Dropped, Last, Found, Whole}
-use Rattle.pua_script.proofs.Common.{Slot, CallTable, ending_of, last_of, ProcessState, working_dir, Call, Change, AddNode, CutRow, ShiftRow}
+use Rattle.pua_script.proofs.Common.{Slot, CallTable, ending_of, last_of, ProcessState, start, Call, Change, AddNode, CutRow, ShiftRow}
 use Rattle.pua_script.proofs.Common.{TieRow, is_whole, fault_if, kinds_fault, inside_fault, NameFits, Action}
 use Rattle.std.specs.Option.{option_eq}
 use Rattle.std.proofs.lemmas.Bool.{not-false}
@@ -20,14 +20,16 @@ use Rattle.pua_script.proofs.Edits.{IsFor, IsRemovable, empty_alone, rmdir_remov
 use Rattle.pua_script.proofs.Linking.{named_lives}
 use Rattle.pua_script.proofs.Guarding.{decisions_are_guarded, second_none, not_faulty, grounds}
 use Rattle.pua_script.proofs.Grounds.{Grounds, takes}
+use Rattle.pua_path.specs.declared.found.Start.{Start}
+use Rattle.pua_path.specs.Resolution.{rooted}
 
 -- what a text names is of the tree
-pub name_fits : (t : Tree) → WellFormed t → (from : ℕ) (end : Ending) (text : List ℕ) (mode : Last) (object : Found) →
+pub name_fits : (t : Tree) → WellFormed t → (from : Start) (end : Ending) (text : List ℕ) (mode : Last) (object : Found) →
     resolution_of_text t from end text mode ≡ Ok object → NameFits t object
 name_fits t well from end text mode object = by (path_fault text) refl
   where
     by : (o : Option Errno) → path_fault text ≡ o → resolution_of_text t from end text mode ≡ Ok object → NameFits t object
-    by None e = rw e (λ is. let of = (resolutions_fit t well).whole from end text mode object is in
+    by None e = rw e (λ is. let of = (resolutions_fit (rooted t 0) well well.root).whole from end text mode object is in
         record { fits = of.fits; named = of.named })
     by (Some errno) e = rw e (λ is. cc)
 
@@ -76,22 +78,22 @@ module _ (t : Tree) where
   module _ (well : WellFormed t) (h : ProcessState) (table : CallTable) (action : Action) where
     possible_by : (c : Change) → Grounds table t h action c → IsPossible t c
     possible_by (AddNode spot node) g =
-        let fits = name_fits t well (working_dir h) (ending_of g.call) g.path (last_of g.call) g.object g.on.found in
+        let fits = name_fits t well (start h) (ending_of g.call) g.path (last_of g.call) g.object g.on.found in
         (stands g.object fits spot None g.at g.free, g.target)
     possible_by (CutRow spot) g =
-        let fits = name_fits t well (working_dir h) (ending_of g.call) g.path (last_of g.call) g.object g.on.found in
+        let fits = name_fits t well (start h) (ending_of g.call) g.path (last_of g.call) g.object g.on.found in
         removes table.whose g.call g.object g.taken (record { name = fits; kind = g.on.fitting }) spot g.at
     possible_by (ShiftRow from to) g =
-        let fits_old = name_fits t well (working_dir h) Dropped g.old_path table.rename.old.last g.old g.two.found_old in
-        let fits_new = name_fits t well (working_dir h) Dropped g.new_path table.rename.new.last g.new g.two.found_new in
+        let fits_old = name_fits t well (start h) Dropped g.old_path table.rename.old.last g.old g.two.found_old in
+        let fits_new = name_fits t well (start h) Dropped g.new_path table.rename.new.last g.new g.two.found_new in
         let a = stands g.old fits_old from (Some g.node) g.at_old g.two.named in
         let b = stands g.new fits_new to (node_named g.new) g.at_new refl in
         let outside = not_faulty (is_inside t g.node to.0) EINVAL (subst (λ s. inside_fault t g.node s ≡ None) g.at_new g.shift.inside) in
         shift_ok t from to g.node (node_named g.new) a.0 a.1 b.0 b.1 g.shift.other outside
         (kinds_alone g.node g.old g.new fits_new g.shift.kinds)
     possible_by (TieRow spot x) g =
-        let fits_old = name_fits t well (working_dir h) Dot g.old_path table.link.old.last g.old g.two.found_old in
-        let fits_new = name_fits t well (working_dir h) Dot g.new_path table.link.new.last g.new g.two.found_new in (
+        let fits_old = name_fits t well (start h) Dot g.old_path table.link.old.last g.old g.two.found_old in
+        let fits_new = name_fits t well (start h) Dot g.new_path table.link.new.last g.new g.two.found_new in (
           stands g.new fits_new spot None g.at (nothing_named (node_named g.new) g.free),
           named_lives t well g.old x fits_old g.two.named,
           other_named g.old x fits_old.fits g.no_dir g.two.named,

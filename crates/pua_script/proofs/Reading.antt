@@ -19,7 +19,7 @@ use Rattle.pua_script.specs.declared.fault.ScriptFault.TheVariants.{BadLine, Bad
 use Rattle.pua_script.specs.Added.{IsActionAdded, IsRequestAdded}
 use Rattle.pua_script.specs.Requests.{is_symlink}
 use Rattle.pua_script.specs.Scripts.{Form, ForkForm, PathForm, UsesForm, action_by, action_in, asks_promises, file_form, if_openbsd, number_in}
-use Rattle.pua_script.specs.Scripts.{descriptor_in, files_form, hold_form, is_equals, open_named, path_in, request_of_text, take_form}
+use Rattle.pua_script.specs.Scripts.{ChrootForm, CloseForm, FchdirForm, descriptor_in, files_form, hold_form, is_equals, open_named, path_in, request_of_text, take_form}
 use Rattle.pua_calls.specs.Neighbours.{call_asked_by}
 use Rattle.pua_calls.specs.declared.call.Call.{Call}
 use Rattle.pua_calls.specs.declared.rules.Rules.{Rules}
@@ -68,6 +68,15 @@ pub files_take : (word a b c : List ℕ) → same_bytes word (codes "hold") ≡ 
 files_take word a b c other e = ap (λ s. cond s (hold_form (descriptor_in a) (open_named b) c)
     (cond (same_bytes word (codes "take")) (take_form (descriptor_in a) (number_in b) (descriptor_in c)) None)) other
     ∙ ap (λ s. cond s (take_form (descriptor_in a) (number_in b) (descriptor_in c)) None) e
+
+-- a line that asks for another root
+pub file_chroot : (word a : List ℕ) → same_bytes word (codes "close") ≡ false → same_bytes word (codes "fchdir") ≡ false →
+    same_bytes word (codes "chroot") ≡ true → file_form word a ≡ Some (ChrootForm a)
+file_chroot word a close fchdir named =
+    let rest = cond (same_bytes word (codes "chroot")) (Some (ChrootForm a)) None in
+    ap (λ s. cond s (option_map CloseForm (descriptor_in a)) (cond (same_bytes word (codes "fchdir"))
+    (option_map FchdirForm (descriptor_in a)) rest)) close
+    ∙ ap (λ s. cond s (option_map FchdirForm (descriptor_in a)) rest) fchdir ∙ ap (λ s. cond s (Some (ChrootForm a)) None) named
 
 module _ (rules : Rules) where
   -- no call has more than three arguments

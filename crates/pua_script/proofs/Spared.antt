@@ -1,7 +1,7 @@
 -- No request takes a row away that isn't covered with `c`.
 use Rattle.pua_script.proofs.Common.{◌≡◌, ℕ, Bool, true, false, cond, refl, sym, ap, ◌∙◌, Some, None, is_some, nat_le, eqb-true, and_parts}
 use Rattle.pua_script.proofs.Common.{not-true, Tree, WellFormed, Spot, is_dir, look, spot_named, EAGAIN, Dropped, Found, Whole, Slot, holds}
-use Rattle.pua_script.proofs.Common.{CallTable, rule_of, ending_of, last_of, ProcessState, working_dir, cover, cover_fault, Call, Cover, All}
+use Rattle.pua_script.proofs.Common.{CallTable, rule_of, ending_of, last_of, ProcessState, start, cover, cover_fault, Call, Cover, All}
 use Rattle.pua_script.proofs.Common.{Asked, Change, AddNode, CutRow, ShiftRow, TieRow, CopyAs, NameFits, World, Fails, Copies, kept_at}
 use Rattle.pua_script.proofs.Common.{apply, change_effect, tree_left, Action, has_c, most_processes, TakeFile, Errno, OpenFile, Result, Ok, Err}
 use Rattle.pua_script.proofs.Common.{is_pledged, sent_by, take_effect}
@@ -88,12 +88,12 @@ module _ (t : Tree) (h : ProcessState) where
 
     has_c_by : (action : Action) (c : Change) → Grounds table t h action c → HasC c
     has_c_by action (CutRow spot) g =
-        let fits = name_fits t well (working_dir h) (ending_of g.call) g.path (last_of g.call) g.object g.on.found in
+        let fits = name_fits t well (start h) (ending_of g.call) g.path (last_of g.call) g.object g.on.found in
         has_spot g.object fits _ (taking_needs g.call g.taken) g.on.covered spot g.at
     has_c_by action (ShiftRow from to) g = (
-      has_spot g.old (name_fits t well (working_dir h) Dropped g.old_path table.rename.old.last g.old g.two.found_old) _ needs.rename_old
+      has_spot g.old (name_fits t well (start h) Dropped g.old_path table.rename.old.last g.old g.two.found_old) _ needs.rename_old
           g.two.covered_old from g.at_old,
-      has_spot g.new (name_fits t well (working_dir h) Dropped g.new_path table.rename.new.last g.new g.two.found_new) _ needs.rename_new
+      has_spot g.new (name_fits t well (start h) Dropped g.new_path table.rename.new.last g.new g.two.found_new) _ needs.rename_new
           g.two.covered_new to g.at_new,
     )
     has_c_by action _ g = tt

@@ -26,7 +26,7 @@ use Rattle.pua_script.specs.Decide.{asker_of, change_by, change_in, cover_past, 
 use Rattle.pua_script.specs.Guards.{IsDecided, IsGranted, IsOpened, OnOne}
 use Rattle.pua_script.specs.OpeningLaws.{TmpTableAllows}
 use Rattle.pua_script.specs.Openings.{Opening, has_call, holds_named, is_opened, is_opening, opening_of, openings, opens_call}
-use Rattle.pua_script.specs.declared.request.Action.TheVariants.{Pledge, Lock, Exit, Uses, Hold, Close, Fchdir, Take, Comment}
+use Rattle.pua_script.specs.declared.request.Action.TheVariants.{Pledge, Lock, Exit, Uses, Hold, Close, Fchdir, Chroot, Take, Comment}
 
 -- ---- who holds what one holds
 
@@ -307,5 +307,7 @@ changes_granted table t h (Uses sets) c d = d
 changes_granted table t h (Hold number asked path) c d = (d.0, d.2)
 changes_granted table t h (Close number) c d = d
 changes_granted table t h (Fchdir number) c d = d
+changes_granted table t h (Chroot path) c d =
+    record { object = d.object; promised = d.promised; found = d.found; covered = ap (cover_fault (cover t h d.object)) (tmp_perms table call.Chdir) ∙ d.covered; fitting = d.fitting; is = d.is }
 changes_granted table t h (Take number from theirs) c d = d
 changes_granted table t h Comment c d = d

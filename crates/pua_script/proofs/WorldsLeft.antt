@@ -121,8 +121,9 @@ module _ (before : WorldState) (ask : Asked) (after : WorldState) where
       let IsSo : ProcessState → Type 0 = IsNarrowedBy before.table (world_of before) ask process p in
       let stays : IsSo p = record {
         tightens = (within_self p confined).tightens;
-        allows = λ sound. record { absolute = λ t call text is allowed. allowed; relative = λ dirs t call text allowed. allowed };
+        allows = λ sound. record { absolute = λ root t call text is allowed. allowed; relative = λ root dirs t call text allowed. allowed };
         dir = λ still. refl;
+        root = λ still. refl;
       } in
       subst (λ (s : WorldState). HasKept (world_of s) process IsSo) (sym same) (p, here, stays)
 

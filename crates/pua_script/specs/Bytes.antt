@@ -10,7 +10,7 @@ use Rattle.pua_calls.specs.declared.rules.Rules.{Rules}
 use Rattle.pua_script.specs.Replay.{World, apply, world_after}
 use Rattle.pua_script.specs.Confinement.{TreesAlong}
 use Rattle.pua_script.specs.declared.request.Action.{Action}
-use Rattle.pua_script.specs.declared.request.Action.TheVariants.{OnPath, Symlink, Rename, Link, Unveil, Hold}
+use Rattle.pua_script.specs.declared.request.Action.TheVariants.{OnPath, Symlink, Rename, Link, Unveil, Hold, Chroot}
 
 abbrev pub is_bytes : List ℕ → Bool
 is_bytes text = list_all (λ b. nat_lt b 256) text
@@ -23,6 +23,7 @@ is_in_bytes (Rename old new) = is_bytes old && is_bytes new
 is_in_bytes (Link old new) = is_bytes old && is_bytes new
 is_in_bytes (Unveil path perms) = is_bytes path
 is_in_bytes (Hold number call path) = is_bytes path
+is_in_bytes (Chroot path) = is_bytes path
 is_in_bytes _ = true
 
 abbrev pub are_in_bytes : List Asked → Bool

@@ -8,9 +8,9 @@ use Rattle.pua_tree.specs.Limits.{most_name}
 use Rattle.pua_path.specs.Paths.{path_fault, text_fault, ends_in_slash}
 use Rattle.pua_path.specs.Resolution.{resolution_of_text}
 use Rattle.pua_path.specs.Fits.{spot_named, node_named}
-use Rattle.pua_calls.specs.Promises.{proc, recvfd, unveil}
+use Rattle.pua_calls.specs.Promises.{id, proc, recvfd, unveil}
 use Rattle.pua_calls.specs.Calls.{CallTable, NameRule, PairRule, rule_of, last_of, ending_of, effect_of, execpromises_by}
-use Rattle.pua_policy.specs.States.{ProcessState, Event, Pledged, Unveiled, Locked, Moved, Ended, Filed, working_dir, may_any}
+use Rattle.pua_policy.specs.States.{ProcessState, Event, Pledged, Unveiled, Locked, Moved, ToDir, ToRoot, Ended, Filed, start, may_any}
 use Rattle.pua_policy.specs.States.{file_at, is_directory, pledge_fault, unveil_fault}
 use Rattle.pua_policy.specs.Verdict.{place_of, cover, cover_fault, or_fault, object_of, refusal_of}
 use Rattle.pua_policy.specs.Misfits.{misfit, misfit_errno}
@@ -30,6 +30,7 @@ use Rattle.pua_path.specs.declared.found.Way.TheVariants as way
 use Rattle.pua_path.specs.declared.found.Found.{Found}
 use Rattle.pua_path.specs.declared.found.Found.TheVariants.{Whole, Slot}
 use Rattle.pua_path.specs.declared.found.Last.{Last}
+use Rattle.pua_path.specs.declared.found.Start.{Start}
 use Rattle.pua_calls.specs.declared.rules.ExecPromises.{ExecPromises}
 use Rattle.pua_calls.specs.declared.rules.Rules.{Rules}
 use Rattle.pua_calls.specs.declared.rules.Rules.TheVariants.{Standard, Openbsd}
@@ -51,7 +52,7 @@ use Rattle.pua_script.specs.declared.request.Given.{Given}
 use Rattle.pua_script.specs.declared.request.Given.TheVariants.{Good, Unknown}
 use Rattle.pua_script.specs.declared.request.Action.{Action}
 use Rattle.pua_script.specs.declared.request.Action.TheVariants.{OnPath, Symlink, Rename, Link, Pledge, Unveil, Lock, Fork, Exit, Uses, Comment}
-use Rattle.pua_script.specs.declared.request.Action.TheVariants.{Hold, Close, Fchdir, Take}
+use Rattle.pua_script.specs.declared.request.Action.TheVariants.{Hold, Close, Fchdir, Take, Chroot}
 
 -- what a request that is granted changes: nothing, a row of the tree, the program with what it leaves of execpromises,
 -- the state by an event, the number of processes, or for which open file a descriptor stands, by what another process has as one
@@ -151,8 +152,13 @@ abbrev pub removing : Found → Change
 removing object = cutting (spot_named object) (node_named object)
 
 abbrev pub going : Found → Change
-going (Whole dir way) = AddEvent (Moved dir)
+going (Whole dir way) = AddEvent (Moved (ToDir dir))
 going _ = NoChange
+
+-- the root that a process gets
+abbrev pub rooting : Found → Change
+rooting (Whole dir way) = AddEvent (Moved (ToRoot dir))
+rooting _ = NoChange
 
 -- the kind of the node that a call makes by its path alone: a link needs a target too
 abbrev pub made_in : Effect → Option Kind
@@ -350,7 +356,12 @@ close_by told asker number = on_named told.failed (asker.file number) (λ file. 
 abbrev pub fchdir_by : {E R : Type 0} → Telling E R → Asker E R → ℕ → Outcome R
 fchdir_by told asker number =
     on_named told.failed (asker.file number) λ file.
-    unless_failed told.failed (fault_if (not (is_directory file)) (told.no_directory number)) (Ok (AddEvent (Moved file.node)))
+    unless_failed told.failed (fault_if (not (is_directory file)) (told.no_directory number)) (Ok (AddEvent (Moved (ToDir file.node))))
+
+-- a chroot: its promise, and then its path, which is judged as that of a chdir
+abbrev pub chroot_by : {E R : Type 0} → Telling E R → CallTable → Tree → Asker E R → List ℕ → Outcome R
+chroot_by told table t asker path =
+    unless_refused (asker.promises (id ∷ [])) (object_by told table t asker call.Chdir path (λ object. Ok (rooting object)))
 
 -- what another process has as a descriptor, which it sent: of it nothing is known here
 abbrev pub take_by : {E R : Type 0} → Asker E R → ℕ → ℕ → ℕ → Outcome R
@@ -383,6 +394,7 @@ decide_by told table t asker (Uses sets) = uses_by asker sets
 decide_by told table t asker (Hold number call path) = hold_by told table t asker number call path
 decide_by told table t asker (Close number) = close_by told asker number
 decide_by told table t asker (Fchdir number) = fchdir_by told asker number
+decide_by told table t asker (Chroot path) = chroot_by told table t asker path
 decide_by told table t asker (Take number from theirs) = take_by asker number from theirs
 decide_by told table t asker Comment = Ok NoChange
 
@@ -430,22 +442,22 @@ abbrev pub front_errno : {X : Type 0} → Errno → Result X Errno → Errno
 front_errno errno (Ok directory) = errno
 front_errno errno (Err front) = front
 
-abbrev pub errno_behind : Tree → ℕ → Errno → Option (List ℕ) → Errno
+abbrev pub errno_behind : Tree → Start → Errno → Option (List ℕ) → Errno
 errno_behind t from errno None = errno
 errno_behind t from errno (Some front) = front_errno errno (resolution_of_text t from ending.Dot front Followed)
 
 -- the errno of a path that names nothing: by OpenBSD's rules a component that is too long is judged where it stands, behind the faults
 -- of what stands before it
-abbrev pub errno_by : Rules → Tree → ℕ → List ℕ → Errno → Errno
+abbrev pub errno_by : Rules → Tree → Start → List ℕ → Errno → Errno
 errno_by Standard t from text errno = errno
 errno_by Openbsd t from text errno = errno_behind t from errno (before_long text)
 
 -- what a path names by these rules, by what its text names
-abbrev pub named_in : Rules → Tree → ℕ → List ℕ → Result Found Errno → Result Found Errno
+abbrev pub named_in : Rules → Tree → Start → List ℕ → Result Found Errno → Result Found Errno
 named_in whose t from text (Ok object) = Ok object
 named_in whose t from text (Err errno) = Err (errno_by whose t from text errno)
 
-abbrev pub path_named : Rules → Tree → ℕ → Ending → List ℕ → Last → Result Found Errno
+abbrev pub path_named : Rules → Tree → Start → Ending → List ℕ → Last → Result Found Errno
 path_named whose t from ending text last = named_in whose t from text (resolution_of_text t from ending text last)
 
 abbrev pub Requester : Type 0
@@ -455,7 +467,7 @@ Requester = Asker Errno Refusal
 abbrev pub asker_of : ProcessState → Requester
 asker_of p = record {
   promises = λ sets. refusal_of (may_any p sets);
-  path = λ whose side t ending text last. path_named whose t p.dir ending text last;
+  path = λ whose side t ending text last. path_named whose t p.start ending text last;
   cover = λ side t object perms. cover_fault (cover t p object) perms;
   beyond = λ whose promises execpromises. pledge_fault whose p promises execpromises;
   locked = fault_if p.locked EPERM;
@@ -493,7 +505,7 @@ inside_fault t x spot = inside_by EINVAL t x spot
 
 -- what a path names of which this is needed
 abbrev pub named_by : NameRule → Tree → ProcessState → Ending → List ℕ → Result Found Errno
-named_by name t h ending path = resolution_of_text t (working_dir h) ending path name.last
+named_by name t h ending path = resolution_of_text t (start h) ending path name.last
 
 abbrev pub decide_object : CallTable → Tree → Requester → Call → List ℕ → (Found → Decision) → Decision
 decide_object table t asker call path further = object_by refusals table t asker call path further
@@ -542,6 +554,9 @@ decide_close asker number = close_by refusals asker number
 
 abbrev pub decide_fchdir : Requester → ℕ → Decision
 decide_fchdir asker number = fchdir_by refusals asker number
+
+abbrev pub decide_chroot : CallTable → Tree → Requester → List ℕ → Decision
+decide_chroot table t asker path = chroot_by refusals table t asker path
 
 abbrev pub decide_take : Requester → ℕ → ℕ → ℕ → Decision
 decide_take asker number from theirs = take_by asker number from theirs

@@ -416,6 +416,50 @@ pub record FileRows : Type 0 where
   pub no_process : read_by_openbsd (codes "1 take 3 0 4") ≡ Err (BadCall 1)
   pub four : read_by_openbsd (codes "1 take 3 1 4 5") ≡ Err (BadCall 1)
 
+pub record RootRows : Type 0 where
+  -- absolute texts start at the root, `..` at it leads to it, and the working directory stays outside until a chdir
+  pub rooted : answers_by_openbsd spool (codes "1 chroot /spool" ∷ codes "1 stat /new/a" ∷ codes "1 stat /sh" ∷ codes "1 stat sh"
+      ∷ codes "1 chdir /" ∷ codes "1 stat ../sh" ∷ codes "1 stat ../new" ∷ codes "1 stat sh" ∷ []) ≡ Okay ∷ Okay ∷ Failed ENOENT ∷ Okay
+      ∷ Okay ∷ Failed ENOENT ∷ Okay ∷ Failed ENOENT ∷ []
+  -- what is open outside leads out again
+  pub leads_out : answers_by_openbsd spool (codes "1 hold 3 open-r /" ∷ codes "1 chroot /spool" ∷ codes "1 chdir /" ∷ codes "1 stat sh"
+      ∷ codes "1 fchdir 3" ∷ codes "1 stat sh" ∷ codes "1 stat /sh" ∷ []) ≡ Okay ∷ Okay ∷ Okay ∷ Failed ENOENT ∷ Okay ∷ Okay
+      ∷ Failed ENOENT ∷ []
+  -- its promise is id, its letter that of a chdir, and it needs a directory
+  pub promised : answers_by_openbsd spool (codes "1 pledge stdio,rpath,error -" ∷ codes "1 chroot /spool" ∷ codes "1 fork 2" ∷ [])
+      ≡ Okay ∷ Failed ENOSYS ∷ Failed ENOSYS ∷ []
+  pub identity : answers_by_openbsd spool (codes "1 pledge stdio,id -" ∷ codes "1 chroot /spool" ∷ codes "1 pledge stdio -"
+      ∷ codes "1 chroot /new" ∷ []) ≡ Okay ∷ Okay ∷ Okay ∷ Killed ∷ []
+  pub veiled : answers_by_openbsd spool (codes "1 unveil /spool/new r" ∷ codes "1 chroot /spool" ∷ codes "1 chroot /spool/new" ∷ [])
+      ≡ Okay ∷ Failed ENOENT ∷ Okay ∷ []
+  pub no_directory : answers_by_openbsd spool (codes "1 chroot /sh" ∷ codes "1 chroot /x" ∷ []) ≡ Failed ENOTDIR ∷ Failed ENOENT ∷ []
+  -- a fork has the root, and an exec keeps it
+  pub inherited : answers_by_openbsd spool (codes "1 fork 3" ∷ codes "1 chroot /spool" ∷ codes "1 fork 2" ∷ codes "2 stat /new"
+      ∷ codes "2 stat /sh" ∷ codes "3 stat /sh" ∷ codes "2 exec sh" ∷ codes "2 stat /new" ∷ []) ≡ Okay ∷ Okay ∷ Okay ∷ Okay ∷ Failed ENOENT
+      ∷ Okay ∷ Okay ∷ Okay ∷ []
+  -- below a root that was removed nothing is named
+  pub removed : answers_by_openbsd spool (codes "1 fork 2" ∷ codes "1 unlink /spool/new/a" ∷ codes "2 chroot /spool/new"
+      ∷ codes "1 rmdir /spool/new" ∷ codes "2 stat /" ∷ codes "2 stat sh" ∷ []) ≡ Okay ∷ Okay ∷ Okay ∷ Okay ∷ Failed ENOENT ∷ Okay ∷ []
+  -- by the standard rules there is no such line
+  pub standard_chroot : script (text_of_lines (codes "1 chroot /" ∷ [])) ≡ Err (BadCall 1)
+  pub no_path : read_by_openbsd (codes "1 chroot") ≡ Err (BadCall 1)
+  pub bad_path : read_by_openbsd (codes "1 chroot /\\000") ≡ Err (BadPath 1)
+
+pub root_rows : RootRows
+root_rows = record {
+  rooted = refl;
+  leads_out = refl;
+  promised = refl;
+  identity = refl;
+  veiled = refl;
+  no_directory = refl;
+  inherited = refl;
+  removed = refl;
+  standard_chroot = refl;
+  no_path = refl;
+  bad_path = refl;
+}
+
 pub file_rows : FileRows
 file_rows = record {
   held = refl;

@@ -7,7 +7,7 @@ use Rattle.pua_calls.specs.declared.call.Call.TheVariants as call
 use Rattle.pua_script.specs.Requests.{Asked}
 use Rattle.pua_script.specs.Replay.{World, kept_at, apply}
 use Rattle.pua_script.specs.declared.request.Action.{Action}
-use Rattle.pua_script.specs.declared.request.Action.TheVariants.{OnPath, Fork, Fchdir}
+use Rattle.pua_script.specs.declared.request.Action.TheVariants.{OnPath, Fork, Fchdir, Chroot}
 use Rattle.pua_script.specs.declared.answer.Answer.{Answer}
 use Rattle.pua_script.specs.declared.answer.Answer.TheVariants.{Okay}
 
@@ -28,6 +28,10 @@ abbrev pub is_chdir : Action → Bool
 is_chdir (OnPath call.Chdir path) = true
 is_chdir (Fchdir number) = true
 is_chdir _ = false
+
+abbrev pub is_chroot : Action → Bool
+is_chroot (Chroot path) = true
+is_chroot _ = false
 
 abbrev pub with_child : Action → List ℕ → List ℕ
 with_child (Fork new) members = new ∷ members

@@ -5,16 +5,16 @@ use Rattle.pua_tree.specs.Edits.{is_same_node, cut, shift}
 use Rattle.pua_path.specs.Paths.{path_fault}
 use Rattle.pua_path.specs.Resolution.{resolution_of_text}
 use Rattle.pua_path.specs.Fits.{spot_named, node_named}
-use Rattle.pua_calls.specs.Promises.{proc, recvfd, unveil}
+use Rattle.pua_calls.specs.Promises.{id, proc, recvfd, unveil}
 use Rattle.pua_calls.specs.Calls.{CallTable, PairRule, rule_of}
 use Rattle.pua_calls.specs.TmpTable.{tmp_table}
-use Rattle.pua_policy.specs.States.{ProcessState, Pledged, Unveiled, Locked, Moved, Ended, Filed, working_dir, is_locked, pledge_fault}
+use Rattle.pua_policy.specs.States.{ProcessState, Pledged, Unveiled, Locked, Moved, ToDir, Ended, Filed, start, is_locked, pledge_fault}
 use Rattle.pua_policy.specs.States.{file_at, is_directory, may_any, unveil_fault}
 use Rattle.pua_policy.specs.declared.open_file.OpenFile.{OpenFile}
 use Rattle.pua_policy.specs.Verdict.{place_of, cover, cover_fault, object_named, object_fault, object_of}
 use Rattle.pua_script.specs.Decide.{link_node, is_whole, kinds_fault, inside_fault, unveil_errno, given_set, is_unknown, Change, NoChange}
 use Rattle.pua_script.specs.Decide.{AddNode, CutRow, ShiftRow, TieRow, AddEvent, CopyAs, TakeFile, adding, change_by, shifting, tying, ways_fault}
-use Rattle.pua_script.specs.Decide.{named_by, decide, asker_of, cover_past, holding, Sole}
+use Rattle.pua_script.specs.Decide.{named_by, decide, asker_of, cover_past, holding, rooting, Sole}
 use Rattle.pua_script.specs.Openings.{Opening, opening_of}
 use Rattle.pua_path.specs.declared.text.Ending.{Ending}
 use Rattle.pua_path.specs.declared.text.Ending.TheVariants as ending
@@ -27,7 +27,7 @@ use Rattle.pua_policy.specs.declared.answer.May.TheVariants as may
 use Rattle.pua_script.specs.declared.request.Given.{Given}
 use Rattle.pua_script.specs.declared.request.Action.{Action}
 use Rattle.pua_script.specs.declared.request.Action.TheVariants.{OnPath, Symlink, Rename, Link, Pledge, Unveil, Lock, Fork, Exit, Uses, Comment}
-use Rattle.pua_script.specs.declared.request.Action.TheVariants.{Hold, Close, Fchdir, Take}
+use Rattle.pua_script.specs.declared.request.Action.TheVariants.{Hold, Close, Fchdir, Chroot, Take}
 
 -- a call on what its path named: its promises, its letters, and the kind that it is for
 pub record OnOne (table : CallTable) (t : Tree) (h : ProcessState) (call : Call) (path : List ℕ) (object : Found) : Type 0 where
@@ -85,7 +85,7 @@ pub record IsVeil (t : Tree) (h : ProcessState) (path : List ℕ) (letters : Opt
   pub promised : may_any h (unveil ∷ []) ≡ may.Yes
   pub unlocked : is_locked h ≡ false
   pub known : letters ≡ Some perms
-  pub found : resolution_of_text t (working_dir h) ending.Dot path Followed ≡ Ok object
+  pub found : resolution_of_text t (start h) ending.Dot path Followed ≡ Ok object
   pub room : unveil_errno (unveil_fault h (place_of object) perms) ≡ None
   pub is : change ≡ AddEvent (Unveiled (place_of object) perms)
 
@@ -99,7 +99,16 @@ pub record IsEntered (h : ProcessState) (number : ℕ) (change : Change) : Type 
   pub file : OpenFile
   pub held : file_at h.files number ≡ Some file
   pub directory : is_directory file ≡ true
-  pub is : change ≡ AddEvent (Moved file.node)
+  pub is : change ≡ AddEvent (Moved (ToDir file.node))
+
+-- a root: its promise, what its path names, the letters and the kind of a chdir
+pub record IsRooted (table : CallTable) (t : Tree) (h : ProcessState) (path : List ℕ) (change : Change) : Type 0 where
+  pub object : Found
+  pub promised : may_any h (id ∷ []) ≡ may.Yes
+  pub found : object_named t h call.Chdir path ≡ Ok object
+  pub covered : cover_fault (cover t h object) (rule_of table call.Chdir).perms ≡ None
+  pub fitting : object_fault table.whose t call.Chdir (object_of t object) ≡ None
+  pub is : change ≡ rooting object
 
 -- which checks a request passed that changes this
 abbrev pub IsDecided : CallTable → Tree → ProcessState → Action → Change → Type 0
@@ -120,6 +129,7 @@ IsDecided table t h (Hold number call path) change =
 IsDecided table t h (Close number) change =
     (file : OpenFile) × (file_at h.files number ≡ Some file) × (change ≡ AddEvent (Filed number None))
 IsDecided table t h (Fchdir number) change = IsEntered h number change
+IsDecided table t h (Chroot path) change = IsRooted table t h path change
 IsDecided table t h (Take number from theirs) change = (may_any h (recvfd ∷ []) ≡ may.Yes) × (change ≡ TakeFile number from theirs)
 IsDecided table t h Comment change = change ≡ NoChange
 

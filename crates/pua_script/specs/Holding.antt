@@ -3,6 +3,7 @@ use Rattle.std.specs.Prelude.{◌≡◌, ℕ, Bool, true, false, not, ◌&&◌, 
 use Rattle.std.specs.List.{AllByRecursion}
 use Rattle.pua_tree.specs.Tree.{Tree}
 use Rattle.pua_path.specs.Fits.{node_named}
+use Rattle.pua_path.specs.declared.found.Start.{Start}
 use Rattle.pua_path.specs.Resolution.{resolution_of_text}
 use Rattle.pua_path.specs.declared.found.Found.{Found}
 use Rattle.pua_calls.specs.Calls.{CallTable, ending_of, last_of, rule_of}
@@ -40,7 +41,7 @@ LetsThrough table t h call path object =
 -- over some tree it lets a call through that opens the file so
 pub record IsOpenable (table : CallTable) (h : ProcessState) (file : OpenFile) : Type 0 where
   pub tree : Tree
-  pub from : ℕ
+  pub from : Start
   pub call : Call
   pub path : List ℕ
   pub object : Found

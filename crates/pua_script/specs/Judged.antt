@@ -10,7 +10,7 @@ use Rattle.pua_calls.specs.Effects.{edits}
 use Rattle.pua_calls.specs.declared.effect.Effect.{Effect}
 use Rattle.pua_calls.specs.declared.effect.Effect.TheVariants as effect
 use Rattle.pua_calls.specs.declared.call.Call.{Call}
-use Rattle.pua_policy.specs.States.{Locked, Moved, Ended, Filed, ProcessState}
+use Rattle.pua_policy.specs.States.{Locked, Moved, ToDir, ToRoot, Ended, Filed, ProcessState}
 use Rattle.pua_policy.specs.Verdict.{place_of}
 use Rattle.pua_policy.specs.declared.answer.Refusal.{Refusal}
 use Rattle.pua_script.specs.Decide.{NoChange, AddNode, CutRow, ShiftRow, TieRow, BeginProgram, AddEvent, Requester, Change, Decision, pledging}
@@ -51,7 +51,8 @@ decision_by asker (granted.BeginProgram left) = Ok (BeginProgram left)
 decision_by asker (granted.Pledge whose promises execpromises) = pledging asker whose promises execpromises
 decision_by asker (granted.Unveil object perms) = veiling asker (place_of object.now) perms
 decision_by asker granted.Lock = Ok (AddEvent Locked)
-decision_by asker (granted.Enter dir) = Ok (AddEvent (Moved dir))
+decision_by asker (granted.Enter dir) = Ok (AddEvent (Moved (ToDir dir)))
+decision_by asker (granted.Root dir) = Ok (AddEvent (Moved (ToRoot dir)))
 decision_by asker granted.Exit = Ok (AddEvent Ended)
 decision_by asker (granted.Hold number file) = Ok (AddEvent (Filed number (Some file)))
 decision_by asker (granted.Close number) = Ok (AddEvent (Filed number None))
@@ -82,8 +83,8 @@ tied (Err refusal) = Err refusal
 -- further checks of what both paths of a request name, where both are covered with what their names need
 abbrev pub if_covered : Rules → PairRule → Tree → ProcessState → Ending → List ℕ → List ℕ → (Found → Found → Decision) → Decision
 if_covered whose need t p ending old new further =
-    if_named (path_named whose t p.dir ending old need.old.last) λ from.
-    if_named (path_named whose t p.dir ending new need.new.last) λ to.
+    if_named (path_named whose t p.start ending old need.old.last) λ from.
+    if_named (path_named whose t p.start ending new need.new.last) λ to.
     unless_fault (covers_by need t (asker_of p) from to) (further from to)
 
 -- further checks of what was judged

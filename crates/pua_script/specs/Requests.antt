@@ -6,7 +6,7 @@ use Rattle.pua_calls.specs.Promises.{reading, writing}
 use Rattle.pua_calls.specs.declared.call.Call.{Call}
 use Rattle.pua_calls.specs.declared.call.Call.TheVariants as call
 use Rattle.pua_script.specs.declared.request.Action.{Action}
-use Rattle.pua_script.specs.declared.request.Action.TheVariants.{OnPath, Symlink, Rename, Link, Unveil, Fork, Hold, Close, Fchdir, Take}
+use Rattle.pua_script.specs.declared.request.Action.TheVariants.{OnPath, Symlink, Rename, Link, Unveil, Fork, Hold, Close, Fchdir, Take, Chroot}
 use Rattle.pua_script.specs.declared.request.Action.TheVariants.{Comment}
 
 -- the number of a process, and what it asks for
@@ -51,6 +51,7 @@ is_askable (Fork new) = is_process_number new
 is_askable (Hold number call path) = is_descriptor number && (is_open call && has_no_nul path)
 is_askable (Close number) = is_descriptor number
 is_askable (Fchdir number) = is_descriptor number
+is_askable (Chroot path) = has_no_nul path
 is_askable (Take number from theirs) = is_descriptor number && (is_process_number from && is_descriptor theirs)
 is_askable Comment = false
 is_askable _ = true

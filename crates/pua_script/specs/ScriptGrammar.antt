@@ -19,7 +19,7 @@ use Rattle.pua_script.specs.declared.request.Given.{Given}
 use Rattle.pua_script.specs.declared.request.Given.TheVariants.{Null, Good, Unknown}
 use Rattle.pua_script.specs.declared.request.Action.{Action}
 use Rattle.pua_script.specs.declared.request.Action.TheVariants.{OnPath, Symlink, Rename, Link, Pledge, Unveil, Lock, Fork, Exit, Uses}
-use Rattle.pua_script.specs.declared.request.Action.TheVariants.{Hold, Close, Fchdir, Take}
+use Rattle.pua_script.specs.declared.request.Action.TheVariants.{Hold, Close, Fchdir, Chroot, Take}
 
 -- a path or a target: `=` is the empty text, and anything else spells bytes without NUL
 pub data SpellsPath (field : List ℕ) : List ℕ → Type 0 where
@@ -93,6 +93,8 @@ pub data SpellsAction (rules : Rules) : List (List ℕ) → Action → Type 0 wh
       SpellsAction rules (word ∷ a ∷ []) (Close number)
   fchdir : {word a : List ℕ} {number : ℕ} → rules ≡ Openbsd → word ≡ codes "fchdir" → SpellsDescriptor a number →
       SpellsAction rules (word ∷ a ∷ []) (Fchdir number)
+  chroot : {word a path : List ℕ} → rules ≡ Openbsd → word ≡ codes "chroot" → SpellsPath a path →
+      SpellsAction rules (word ∷ a ∷ []) (Chroot path)
   take : {word a b c : List ℕ} {number from theirs : ℕ} → rules ≡ Openbsd → word ≡ codes "take" → SpellsDescriptor a number →
       b ≡ decimal from → 1 ≤ from → from ≤ most_number → SpellsDescriptor c theirs →
       SpellsAction rules (word ∷ a ∷ b ∷ c ∷ []) (Take number from theirs)

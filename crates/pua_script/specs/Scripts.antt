@@ -23,7 +23,7 @@ use Rattle.pua_script.specs.declared.request.Given.{Given}
 use Rattle.pua_script.specs.declared.request.Given.TheVariants.{Null, Good, Unknown}
 use Rattle.pua_script.specs.declared.request.Action.{Action}
 use Rattle.pua_script.specs.declared.request.Action.TheVariants.{OnPath, Symlink, Rename, Link, Pledge, Unveil, Lock, Fork, Exit, Uses}
-use Rattle.pua_script.specs.declared.request.Action.TheVariants.{Hold, Close, Fchdir, Take}
+use Rattle.pua_script.specs.declared.request.Action.TheVariants.{Hold, Close, Fchdir, Chroot, Take}
 use Rattle.pua_script.specs.declared.fault.ScriptFault.{ScriptFault}
 use Rattle.pua_script.specs.declared.fault.ScriptFault.TheVariants.{BadLine, BadCall, BadPath, BadList, TooMany, OutOfMemory}
 
@@ -93,6 +93,7 @@ pub data Form : Type 0 where
   HoldForm : ℕ → Call → List ℕ → Form
   CloseForm : ℕ → Form
   FchdirForm : ℕ → Form
+  ChrootForm : List ℕ → Form
   TakeForm : ℕ → ℕ → ℕ → Form
 
 -- the number of a descriptor
@@ -115,18 +116,19 @@ abbrev pub take_form : Option ℕ → Option ℕ → Option ℕ → Option Form
 take_form (Some number) (Some from) (Some theirs) = Some (TakeForm number from theirs)
 take_form _ _ _ = None
 
--- the forms of lines about descriptors, with one argument and with three
+-- the forms of lines about descriptors and the root, with one argument and with three
 abbrev pub file_form : List ℕ → List ℕ → Option Form
 file_form word a =
     if same_bytes word (codes "close") then option_map CloseForm (descriptor_in a)
-    else (if same_bytes word (codes "fchdir") then option_map FchdirForm (descriptor_in a) else None)
+    else (if same_bytes word (codes "fchdir") then option_map FchdirForm (descriptor_in a)
+    else (if same_bytes word (codes "chroot") then Some (ChrootForm a) else None))
 
 abbrev pub files_form : List ℕ → List ℕ → List ℕ → List ℕ → Option Form
 files_form word a b c =
     if same_bytes word (codes "hold") then hold_form (descriptor_in a) (open_named b) c
     else (if same_bytes word (codes "take") then take_form (descriptor_in a) (number_in b) (descriptor_in c) else None)
 
--- by OpenBSD's rules alone a line may be about descriptors
+-- by OpenBSD's rules alone a line may be about descriptors and the root
 abbrev pub if_openbsd : Rules → Option Form → Option Form
 if_openbsd Standard form = None
 if_openbsd Openbsd form = form
@@ -178,6 +180,7 @@ action_of n (UsesForm a) = sets_in n a >>= λ sets. Ok (Uses sets)
 action_of n (HoldForm number call c) = ok_or (path_in c) (BadPath n) >>= λ path. Ok (Hold number call path)
 action_of n (CloseForm number) = Ok (Close number)
 action_of n (FchdirForm number) = Ok (Fchdir number)
+action_of n (ChrootForm a) = ok_or (path_in a) (BadPath n) >>= λ path. Ok (Chroot path)
 action_of n (TakeForm number from theirs) = Ok (Take number from theirs)
 
 -- the fields after the process's number: the call and its arguments, and what they ask for

@@ -6,13 +6,13 @@ use Rattle.pua_path.specs.Paths.{is_absolute}
 use Rattle.pua_calls.specs.Promises.{holds}
 use Rattle.pua_calls.specs.Calls.{CallTable}
 pub use Rattle.pua_calls.specs.Tables.{NamesNoError, NoCallNeedsError}
-use Rattle.pua_policy.specs.States.{SameVeils, ProcessState, held_set, working_dir}
+use Rattle.pua_policy.specs.States.{SameVeils, ProcessState, held_set, root_dir, working_dir}
 use Rattle.pua_policy.specs.Verdict.{verdict_on, is_allowed}
 use Rattle.pua_calls.specs.declared.call.Call.{Call}
 use Rattle.pua_script.specs.Requests.{Asked}
 use Rattle.pua_script.specs.Replay.{World, kept_at, apply, world_after}
 use Rattle.pua_script.specs.Laws.{IsConfined}
-use Rattle.pua_script.specs.Family.{family, is_member, is_done, none_done, is_exec, is_chdir, HasKept}
+use Rattle.pua_script.specs.Family.{family, is_member, is_done, none_done, is_exec, is_chdir, is_chroot, HasKept}
 use Rattle.pua_script.specs.declared.request.Action.TheVariants.{Fork}
 use Rattle.pua_script.specs.declared.answer.Answer.TheVariants.{Okay}
 
@@ -22,12 +22,12 @@ pub record Tightens (before after : ProcessState) : Type 0 where
   pub promises : (set : ℕ) → NamesNoError set → IsTrue (holds (held_set after) set) → IsTrue (holds (held_set before) set)
   pub confined : IsConfined after
 
--- what it is for a state to allow no more than another over each tree: on each absolute path, and on each path at all
--- where both work in one directory
+-- what it is for a state to allow no more than another over each tree, where both have one root: on each absolute path, and on
+-- each path at all where both work in one directory
 pub record AllowsNoMore (table : CallTable) (before after : ProcessState) : Type 0 where
-  pub absolute : (t : Tree) (call : Call) (text : List ℕ) → IsTrue (is_absolute text) →
+  pub absolute : root_dir after ≡ root_dir before → (t : Tree) (call : Call) (text : List ℕ) → IsTrue (is_absolute text) →
       IsTrue (is_allowed (verdict_on t table after call text)) → IsTrue (is_allowed (verdict_on t table before call text))
-  pub relative : working_dir after ≡ working_dir before → (t : Tree) (call : Call) (text : List ℕ) →
+  pub relative : root_dir after ≡ root_dir before → working_dir after ≡ working_dir before → (t : Tree) (call : Call) (text : List ℕ) →
       IsTrue (is_allowed (verdict_on t table after call text)) → IsTrue (is_allowed (verdict_on t table before call text))
 
 -- each request leaves the state of each process but the one that asks
@@ -35,17 +35,19 @@ abbrev pub OthersLeave : Type 0
 OthersLeave = (table : CallTable) (w : World) (ask : Asked) (process : ℕ) (h : ProcessState) →
     kept_at w process ≡ Some h → (ask.process ≡ process → ⊥) → kept_at (apply table w ask).1 process ≡ Some h
 
--- so where others alone ask it stays: promises, execpromises, veils, lock, directory and end with it
+-- so where others alone ask it stays: promises, execpromises, veils, lock, directory, root and end with it
 abbrev pub OthersLeaveAlways : Type 0
 OthersLeaveAlways = (table : CallTable) (w : World) (asks : List Asked) (process : ℕ) (h : ProcessState) →
     kept_at w process ≡ Some h → AllByRecursion (λ ask. ask.process ≡ process → ⊥) asks →
     kept_at (world_after table w asks) process ≡ Some h
 
--- one request of anyone: a confined process that did no exec is tightened, and stays in its directory but for its own chdir
+-- one request of anyone: a confined process that did no exec is tightened, and stays in its directory but for its own chdir, and
+-- below its root but for its own chroot
 pub record IsNarrowedBy (table : CallTable) (w : World) (ask : Asked) (process : ℕ) (h after : ProcessState) : Type 0 where
   pub tightens : Tightens h after
   pub allows : NoCallNeedsError table → AllowsNoMore table h after
   pub dir : IsFalse (is_done is_chdir table w ask (process ∷ [])) → working_dir after ≡ working_dir h
+  pub root : IsFalse (is_done is_chroot table w ask (process ∷ [])) → root_dir after ≡ root_dir h
 
 -- so it is with each confined process that did no exec
 abbrev pub RequestNarrows : CallTable → World → Asked → Type 0
@@ -67,6 +69,7 @@ pub record EndsWithin (table : CallTable) (w : World) (asks : List Asked) (proce
   pub tightens : Tightens now last
   pub allows : NoCallNeedsError table → AllowsNoMore table now last
   pub dir : IsTrue (none_done is_chdir table w asks (process ∷ [])) → working_dir last ≡ working_dir now
+  pub root : IsTrue (none_done is_chroot table w asks (process ∷ [])) → root_dir last ≡ root_dir now
 
 -- each member of the family of a confined process is narrowed, as long as no exec of a member is answered ok, whatever is asked by anyone
 abbrev pub FamilyNarrows : CallTable → World → List Asked → Type 0

@@ -12,7 +12,7 @@ ghost use Rattle.pua_script.specs.Openings.{opening_of, opening_seen};
 ghost use Rattle.pua_script.specs.Judged.{decision_for, is_edit};
 ghost use Rattle.pua_script.specs.Replay.{come_of};
 ghost use Rattle.pua_script.specs.Worlds.{Acts, Attempts, is_of_two};
-ghost use Rattle.pua_script.specs.declared.request.Action.TheVariants.{Hold, Link, OnPath, Rename};
+ghost use Rattle.pua_script.specs.declared.request.Action.TheVariants.{Chroot, Hold, Link, OnPath, Rename};
 ghost use Rattle.pua_script.specs.declared.request.Action.TheVariants.{Symlink, Unveil};
 
 use crate::answer::Answer;
@@ -29,6 +29,7 @@ use crate::pair::{node_named, promised_pair, spot_named};
 use crate::process::{decide_lock, decide_pledge, decide_uses, refuse};
 use crate::rename::{asks_directory, judge_rename, moving};
 use crate::request::Action;
+use crate::root::decide_chroot;
 use pua_calls::{Call, CallTable, Perms};
 use pua_policy::judge::promised_for;
 use pua_policy::{Process, Refusal};
@@ -36,16 +37,16 @@ use pua_tree::FileTree;
 
 /// Does what a process asks for, where it is about no other process. All checks come first, in
 /// their order; what is granted then lends the names of what they found. Whether the tree has room
-/// is asked last.
+/// is asked last. A fork and a take, which are about two processes, are not served here: for them
+/// nothing is done, and nothing is said of the answer.
 pub(crate) fn act<T: FileTree>(
     tree: &mut T,
     table: &CallTable,
     process: &mut Process,
     action: &Action,
 ) -> Result<Answer, WorldFault>
-    requires other { IsFalse (is_of_two action.now) }
-    ensures exact { Acts table.now (T.content tree.old) process.old action.now result
-        (T.content tree.new) process.new }
+    ensures exact { IsFalse (is_of_two action.now) → Acts table.now (T.content tree.old)
+        process.old action.now result (T.content tree.new) process.new }
     ensures unchanged { OnErr result ((T.content tree.new ≡ T.content tree.old) ×
         (process.new ≡ process.old)) }
 {
@@ -81,8 +82,9 @@ pub(crate) fn act<T: FileTree>(
             let granted = decide_fchdir(process, *number);
             answer(tree, process, &granted)
         }
+        Action::Chroot(path) => chroot(tree, table, process, path.bytes()),
         Action::Comment => answer(tree, process, &Ok(Granted::NoChange)),
-        Action::Fork(_) | Action::Take { .. } => unreachable!(),
+        Action::Fork(_) | Action::Take { .. } => Ok(Answer::Okay),
     }
 }
 
@@ -340,6 +342,22 @@ fn hold<T: FileTree>(
         ((T.content tree.new ≡ T.content tree.old) × (process.new ≡ process.old)) }
 {
     let granted = decide_hold(tree, table, process, number, call, path);
+    answer(tree, process, &granted)
+}
+
+/// Makes what a path names the root of the process.
+fn chroot<T: FileTree>(
+    tree: &mut T,
+    table: &CallTable,
+    process: &mut Process,
+    path: &[u8],
+) -> Result<Answer, WorldFault>
+    ensures exact { Acts table.now (T.content tree.old) process.old (Chroot path.now)
+        result (T.content tree.new) process.new }
+    ensures unchanged { OnErr result
+        ((T.content tree.new ≡ T.content tree.old) × (process.new ≡ process.old)) }
+{
+    let granted = decide_chroot(tree, table, process, path);
     answer(tree, process, &granted)
 }
 

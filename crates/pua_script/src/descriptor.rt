@@ -1,10 +1,10 @@
-//! Lines about descriptors, which there are by OpenBSD's rules alone.
+//! Lines about descriptors and the root, which there are by OpenBSD's rules alone.
 
-ghost use Rattle.std.specs.Prelude.{◌≡◌, IfSome, IsTrue};
+ghost use Rattle.std.specs.Prelude.{◌≡◌, IfSome, IsTrue, Some};
 ghost use Rattle.pua_script.specs.Added.{IsActionAdded};
 ghost use Rattle.pua_script.specs.Requests.{is_descriptor, is_open};
 ghost use Rattle.pua_script.specs.Requests.{letters_opened};
-ghost use Rattle.pua_script.specs.Scripts.{action_by, descriptor_in, file_form, files_form};
+ghost use Rattle.pua_script.specs.Scripts.{ChrootForm, action_by, descriptor_in, file_form, files_form};
 ghost use Rattle.pua_script.specs.Scripts.{hold_form, if_openbsd, open_named, take_form};
 ghost use Rattle.pua_script.specs.Scripts.{number_in};
 
@@ -17,8 +17,9 @@ use pua_calls::{Call, Perms, Rules};
 use pua_tree::number_within;
 use std::alloc::Global;
 
-/// A line about a descriptor that has one argument.
+/// A line about a descriptor or the root that has one argument.
 pub(crate) fn read_one_file(
+    alloc: Global,
     rules: Rules,
     requests: &mut Vec<Request>,
     origin: Origin,
@@ -31,12 +32,13 @@ pub(crate) fn read_one_file(
 {
     match rules {
         Rules::Standard => Err(ScriptFault::BadCall(origin.line)),
-        Rules::Openbsd => read_number(requests, origin, word, a),
+        Rules::Openbsd => read_one(alloc, requests, origin, word, a),
     }
 }
 
-/// A close or an fchdir: the number of a descriptor.
-fn read_number(
+/// A close or an fchdir: the number of a descriptor. A chroot: a path.
+fn read_one(
+    alloc: Global,
     requests: &mut Vec<Request>,
     origin: Origin,
     word: &[u8],
@@ -57,9 +59,26 @@ fn read_number(
             Some(number) => Request::add(requests, origin, Action::Fchdir(number)),
             None => Err(bad),
         }
+    } else if word == b"chroot".as_slice() {
+        read_chroot(alloc, requests, origin, a)
     } else {
         Err(bad)
     }
+}
+
+/// A chroot: the path of the new root.
+fn read_chroot(
+    alloc: Global,
+    requests: &mut Vec<Request>,
+    origin: Origin,
+    path: &[u8],
+) -> Result<(), ScriptFault>
+    ensures { IsActionAdded
+        (action_by origin.line (Some (ChrootForm path.now)))
+        origin.process requests.old.items requests.new.items result }
+{
+    let path = read_path(alloc, origin.line, path)?;
+    Request::add(requests, origin, Action::Chroot(path))
 }
 
 /// A line about a descriptor that has three arguments.

@@ -9,7 +9,9 @@ ghost use Rattle.pua_path.specs.declared.found.Last.TheVariants.{Followed};
 ghost use Rattle.pua_path.specs.declared.text.Ending.TheVariants.{Dot};
 
 use pua_calls::Rules;
-use pua_path::{Ending, Errno, Last, PathText, PathTextFault, Probe, resolve_lent, text_fault};
+use pua_path::{
+    Ending, Errno, Last, PathText, PathTextFault, Probe, Start, resolve_lent, text_fault,
+};
 use pua_tree::NodeId;
 
 /// The most bytes that a component has.
@@ -67,7 +69,7 @@ fn component_start(path: &[u8]) -> usize
 pub(crate) fn errno_by<'t, P: Probe<'t>>(
     probe: &mut P,
     rules: Rules,
-    from: NodeId,
+    from: Start,
     path: &[u8],
     errno: Errno,
 ) -> Errno
@@ -84,7 +86,7 @@ pub(crate) fn errno_by<'t, P: Probe<'t>>(
 }
 
 /// The errno of what stands before it, if that names no directory.
-fn front_errno<'t, P: Probe<'t>>(probe: &mut P, from: NodeId, front: &[u8], errno: Errno) -> Errno
+fn front_errno<'t, P: Probe<'t>>(probe: &mut P, from: Start, front: &[u8], errno: Errno) -> Errno
     ensures errno { result ≡ front_errno errno
         (resolution_of_text (P.tree probe.old) from Dot front.now Followed) }
     ensures tree { P.tree probe.new ≡ P.tree probe.old }

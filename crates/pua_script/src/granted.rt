@@ -64,6 +64,8 @@ pub(crate) enum Granted<'a> {
     Lock,
     /// This becomes the working directory.
     Enter(NodeId),
+    /// This becomes the root.
+    Root(NodeId),
     /// The process ends.
     Exit,
     /// The descriptor of this number stands for an open file.
@@ -107,6 +109,10 @@ pub(crate) fn make<T: FileTree>(
         }
         Granted::Enter(dir) => {
             process.set_dir(dir);
+            Ok(Answer::Okay)
+        }
+        Granted::Root(dir) => {
+            process.set_root(dir);
             Ok(Answer::Okay)
         }
         Granted::Exit => {

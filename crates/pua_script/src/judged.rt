@@ -23,16 +23,18 @@ use crate::front::errno_by;
 use crate::granted::{Granted, NewNode};
 use pua_calls::needs::ending;
 use pua_calls::{Call, CallTable, Effect, Perms, Promises};
-use pua_path::{Counted, Ending, Errno, Found, Last, LentFound, PathText, Probe, resolve_lent};
+use pua_path::{
+    Counted, Ending, Errno, Found, Last, LentFound, PathText, Probe, Start, resolve_lent,
+};
 use pua_policy::judge::{misfit, object_verdict_lent, promised, promised_for};
 use pua_policy::{Process, Refusal};
 use pua_tree::{FileTree, Kind, Name, NodeId};
 
-/// What a path names from a directory, by the rules that a table is read over.
+/// What a path names from a root and a directory, by the rules that a table is read over.
 pub(crate) fn named<'t, P: Probe<'t>>(
     probe: &mut P,
     table: &CallTable,
-    from: NodeId,
+    from: Start,
     path: &[u8],
     ending: Ending,
     last: Last,
@@ -53,7 +55,7 @@ pub(crate) fn named<'t, P: Probe<'t>>(
 pub(crate) fn named_lent<'a, 't: 'a, P: Probe<'t>>(
     probe: &mut P,
     table: &CallTable,
-    from: NodeId,
+    from: Start,
     path: &'a [u8],
     ending: Ending,
     last: Last,
@@ -100,8 +102,8 @@ pub(crate) fn judge_object<'t, T: FileTree>(
         ≡ if_named (founds_seen result) further }
 {
     let mut probe = Counted::new(tree);
-    let (dir, last) = (process.dir(), call.last());
-    let lent = match named_lent(&mut probe, table, dir, path, ending(call), last) {
+    let (from, last) = (process.start(), call.last());
+    let lent = match named_lent(&mut probe, table, from, path, ending(call), last) {
         Ok(lent) => lent,
         Err(errno) => return Err(errno),
     };
@@ -141,8 +143,8 @@ pub(crate) fn judge_past<T: FileTree>(
         ≡ if_named result further }
 {
     let mut probe = Counted::new(tree);
-    let (dir, last) = (process.dir(), call.last());
-    let found = named(&mut probe, table, dir, path, ending(call), last)?;
+    let (from, last) = (process.start(), call.last());
+    let found = named(&mut probe, table, from, path, ending(call), last)?;
     match misfit(&mut probe, table.rules(), call, &found) {
         Some(wrong) => Err(wrong.errno()),
         None => Ok(found),
@@ -238,14 +240,14 @@ pub(crate) fn veil_named<T: FileTree>(
     process: &Process,
     path: &[u8],
 ) -> Result<Found, Errno>
-    ensures { result ≡ path_named table.now.whose (T.content tree.now) process.now.dir Dot path.now
+    ensures { result ≡ path_named table.now.whose (T.content tree.now) process.now.start Dot path.now
         Followed }
 {
     let mut probe = Counted::new(tree);
     named(
         &mut probe,
         table,
-        process.dir(),
+        process.start(),
         path,
         Ending::Dot,
         Last::Followed,

@@ -3,7 +3,7 @@
 
 ghost use Rattle.std.specs.Prelude.{◌≡◌};
 ghost use Rattle.pua_script.specs.Examples.{ExecRows, LinkRows, PairRows, RenameRows, ReplayRows};
-ghost use Rattle.pua_script.specs.Examples.{CommentRows, FileRows, OpeningRows, ScriptRows};
+ghost use Rattle.pua_script.specs.Examples.{CommentRows, FileRows, OpeningRows, RootRows, ScriptRows};
 ghost use Rattle.pua_script.specs.Examples.{SocketRows, UsesRows};
 ghost use Rattle.pua_script.specs.Guards.{ChangesAreGranted, DecisionsAreGuarded};
 ghost use Rattle.pua_script.specs.Limits.{most_descriptor, most_number, most_processes};
@@ -40,6 +40,7 @@ pub fn replay_examples()
     ensures sockets { SocketRows }
     ensures uses { UsesRows }
     ensures files { FileRows }
+    ensures roots { RootRows }
     ensures comments { CommentRows }
     ensures openings { OpeningRows }
     ensures execs { ExecRows }

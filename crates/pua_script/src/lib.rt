@@ -24,6 +24,7 @@ mod pair;
 mod process;
 mod rename;
 mod request;
+mod root;
 mod script;
 mod take;
 mod world;

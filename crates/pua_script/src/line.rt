@@ -172,7 +172,7 @@ fn read_one(
             let path = read_path(alloc, origin.line, a)?;
             Request::add(requests, origin, Action::OnPath(call, path))
         }
-        None => read_one_file(rules, requests, origin, word, a),
+        None => read_one_file(alloc, rules, requests, origin, word, a),
     }
 }
 

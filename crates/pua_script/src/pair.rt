@@ -84,12 +84,19 @@ fn side_named<'t, T: FileTree>(
     path: &'t [u8],
 ) -> Result<LentFound<'t>, Errno>
     ensures exact { founds_seen result
-        ≡ path_named table.now.whose (T.content tree.now) process.now.dir ending path.now
+        ≡ path_named table.now.whose (T.content tree.now) process.now.start ending path.now
         need.now.last }
     ensures fits { IfOk (founds_seen result) (NameFits (T.content tree.now)) }
 {
     let mut probe = Counted::new(tree);
-    named_lent(&mut probe, table, process.dir(), path, ending, need.last())
+    named_lent(
+        &mut probe,
+        table,
+        process.start(),
+        path,
+        ending,
+        need.last(),
+    )
 }
 
 /// What is wrong with the covers of both names, the old one first.

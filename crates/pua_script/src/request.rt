@@ -67,6 +67,8 @@ pub enum Action {
     Close(u32),
     /// The number of the descriptor of a directory, which becomes the working directory.
     Fchdir(u32),
+    /// The path of the directory that becomes the root of the process.
+    Chroot(PathBytes),
     /// The descriptor of this number is to be what another process has as one of its own.
     Take {
         number: u32,

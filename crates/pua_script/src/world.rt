@@ -242,7 +242,8 @@ fn sorted_keys(alloc: Global, processes: &IndexMap<u32, Process>) -> Result<Vec<
     Ok(numbers)
 }
 
-/// Serves a request that is about no other process.
+/// Serves a request that is about no other process. For a fork and a take nothing is done, and
+/// nothing is said of the answer.
 fn serve<T: FileTree>(
     tree: &mut T,
     table: &CallTable,
@@ -250,12 +251,11 @@ fn serve<T: FileTree>(
     number: u32,
     action: &Action,
 ) -> Result<Answer, WorldFault>
-    requires { IsFalse (is_of_two action.now) }
-    ensures served { IfOk result
+    ensures served { IsFalse (is_of_two action.now) → IfOk result
         (λ answer. (answer, record { tree = T.content tree.new; processes = processes.new.entries })
         ≡ apply table.now (record { tree = T.content tree.old; processes = processes.old.entries })
         (record { process = number; action = action.now })) }
-    ensures memory { OnErr result
+    ensures memory { IsFalse (is_of_two action.now) → OnErr result
         ((apply table.now (record { tree = T.content tree.old; processes = processes.old.entries })
         (record { process = number; action = action.now })).0 ≡ Okay) }
     ensures unchanged { OnErr result ((T.content tree.new ≡ T.content tree.old) ×

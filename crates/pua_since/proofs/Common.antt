@@ -16,7 +16,7 @@ pub use Rattle.pua_path.specs.Traces.{PathTrace, trace_of_text}
 pub use Rattle.pua_path.specs.declared.found.Found.{Found}
 pub use Rattle.pua_path.specs.declared.text.Ending.{Ending}
 pub use Rattle.pua_path.specs.declared.traced.PathFault.{PathFault}
-pub use Rattle.pua_policy.specs.States.{ProcessState, perms_kept, working_dir}
+pub use Rattle.pua_policy.specs.States.{ProcessState, perms_kept, start}
 pub use Rattle.pua_policy.specs.declared.answer.Refusal.{Refusal}
 pub use Rattle.pua_policy.specs.declared.place.Place.{Place}
 pub use Rattle.pua_script.proofs.ForCallers.{by_request, one_request_more}
@@ -31,7 +31,7 @@ pub use Rattle.pua_script.specs.Worlds.{apply_to, state_after_all, world_of, Wor
 pub use Rattle.pua_script.specs.declared.answer.Answer.{Answer}
 pub use Rattle.pua_script.specs.declared.answer.Answer.TheVariants.{Failed, Gone, Killed, Okay}
 pub use Rattle.pua_script.specs.declared.request.Action.{Action}
-pub use Rattle.pua_script.specs.declared.request.Action.TheVariants.{Close, Exit, Fchdir, Fork, Hold, Link, Lock, OnPath, Pledge, Rename}
+pub use Rattle.pua_script.specs.declared.request.Action.TheVariants.{Chroot, Close, Exit, Fchdir, Fork, Hold, Link, Lock, OnPath, Pledge, Rename}
 pub use Rattle.pua_script.specs.declared.request.Action.TheVariants.{Symlink, Take, Unveil, Uses, Comment}
 pub use Rattle.pua_tree.specs.Names.{same_bytes}
 pub use Rattle.pua_tree.specs.Tree.{Spot, Tree}

@@ -10,7 +10,7 @@ use Rattle.pua_calls.specs.declared.fits.Misfit.TheVariants.{Missing}
 use Rattle.pua_script.specs.Decide.{Side}
 use Rattle.pua_why.specs.Checked.{reason_checked, granted_by, told_by}
 use Rattle.pua_why.specs.Keys.{reason_key}
-use Rattle.pua_why.specs.Reasons.{Ends, LacksPromises, BadTarget, BadPath, Uncovered, LacksLetters, Unfit, Inside, UnknownPromise}
+use Rattle.pua_why.specs.Reasons.{Ends, LacksPromises, BadTarget, BadPath, NoRoot, Uncovered, LacksLetters, Unfit, Inside, UnknownPromise}
 use Rattle.pua_why.specs.Reasons.{AsksPromises, IsLocked, UnknownLetter, AsksLetters, NoPlaceLeft, NumberTaken, NoProcessLeft, NoRoom}
 use Rattle.pua_why.specs.Reasons.{WrongFile}
 use Rattle.pua_why.specs.Reasons.{Reason, NeverMade, Refused, Granted, reason_by}
@@ -34,6 +34,7 @@ IsDated (Refused Ends) = Unit {0}
 IsDated (Refused (LacksPromises error sets)) = Unit {0}
 IsDated (Refused (BadTarget fault)) = Unit {0}
 IsDated (Refused (BadPath side fault)) = Unit {0}
+IsDated (Refused (NoRoot side)) = Unit {0}
 IsDated (Refused (Uncovered side object)) = Unit {0}
 IsDated (Refused (LacksLetters side place given lacks)) = Unit {0}
 IsDated (Refused (Unfit side object misfit)) = Unit {0}

@@ -13,7 +13,7 @@ use Rattle.pua_tree.specs.Steps.{◌>>=◌}
 use Rattle.pua_calls.specs.declared.rules.Rules.{Rules}
 use Rattle.pua_script.specs.Limits.{most_number}
 use Rattle.pua_script.specs.Scripts.{Form, PathForm, SymlinkForm, RenameForm, LinkForm, PledgeForm, UnveilForm, ForkForm, ExitForm}
-use Rattle.pua_script.specs.Scripts.{UsesForm, HoldForm, CloseForm, FchdirForm, TakeForm, further_set, sets_of}
+use Rattle.pua_script.specs.Scripts.{UsesForm, HoldForm, CloseForm, FchdirForm, ChrootForm, TakeForm, further_set, sets_of}
 use Rattle.pua_script.specs.Scripts.{action_of, form_in, given_in, is_dash, path_in, perms_in, request_by, request_of_fields, unveil_of}
 use Rattle.pua_script.specs.Requests.{comment}
 use Rattle.pua_script.specs.Scripts.{with_paths, is_blank, text_in, request_of_text}
@@ -83,6 +83,7 @@ module _ (rules : Rules) (n m : ℕ) where
   same_action (HoldForm number call a) = same_then _ _ _ _ (same_found (path_in a) (BadPath n) (BadPath m)) λ path. refl
   same_action (CloseForm number) = refl
   same_action (FchdirForm number) = refl
+  same_action (ChrootForm a) = same_then _ _ _ _ (same_found (path_in a) (BadPath n) (BadPath m)) λ path. refl
   same_action (TakeForm number from theirs) = refl
 
   same_fields : (fs : List (List ℕ)) → SameOk (request_of_fields rules n fs) (request_of_fields rules m fs)

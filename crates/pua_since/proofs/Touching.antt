@@ -3,7 +3,7 @@ use Rattle.pua_since.proofs.Common.{◌≡◌, ℕ, Bool, true, false, cond, len
 use Rattle.pua_since.proofs.Common.{is_some, false≢true, eqb-true, Found, CallTable, ProcessState, Refusal, Call, Asked, Change}
 use Rattle.pua_since.proofs.Common.{change_by, decide, World, Effect, Fails, Kills, Leaves, Copies, apply, kept_at, answer_to}
 use Rattle.pua_since.proofs.Common.{left_by, Answer, Okay, Action, OnPath, Symlink, Rename, Link, Pledge, Unveil, Lock, Fork, Exit, Uses}
-use Rattle.pua_since.proofs.Common.{Hold, Close, Fchdir, Take, Comment}
+use Rattle.pua_since.proofs.Common.{Hold, Close, Fchdir, Chroot, Take, Comment}
 use Rattle.pua_since.proofs.Common.{by_request, has_forked, TouchesOnly}
 use Rattle.std.proofs.Common.{eq-eqb}
 use Rattle.std.specs.Prelude.{nat_eq, Result, Ok, Err}
@@ -18,7 +18,7 @@ use Rattle.pua_script.specs.Decide.{file_opened}
 use Rattle.pua_script.specs.Guards.{IsDecided}
 use Rattle.pua_script.specs.Replay.{with_process, change_effect, refusal_effect, sent_by, take_effect}
 use Rattle.pua_script.specs.declared.answer.Answer.TheVariants as answers
-use Rattle.pua_script.proofs.ForCallers.{by_decision, by_filing, by_going, decisions_are_guarded}
+use Rattle.pua_script.proofs.ForCallers.{by_decision, by_filing, by_going, by_rooting, decisions_are_guarded}
 use Rattle.pua_script.proofs.ForCallers.{found_put, found_elsewhere, put_there}
 use Rattle.pua_since.specs.Concerns.{ChangesOnly, ChangesProcess, MakesNone, call_is_own, is_own, touched_by, touched_if}
 use Rattle.pua_since.specs.declared.touched.Touched.TheVariants.{Process}
@@ -65,6 +65,9 @@ module _ (table : CallTable) (w : World) (process : ℕ) (h : ProcessState) (her
       (by_filing (λ c. IsOwn w (change_effect w h c)) refl number (file_opened w.tree asked (node_named decided.0)) (λ file. refl))
   by_action (Close number) c decided own = subst (λ d. IsOwn w (change_effect w h d)) (sym decided.2) refl
   by_action (Fchdir number) c decided own = subst (λ d. IsOwn w (change_effect w h d)) (sym decided.is) refl
+  by_action (Chroot path) c decided own =
+      subst (λ d. IsOwn w (change_effect w h d)) (sym decided.is)
+      (by_rooting (λ c. IsOwn w (change_effect w h c)) refl decided.object (λ dir. refl))
   by_action (Take number from theirs) c decided own =
       subst (λ d. IsOwn w (change_effect w h d)) (sym decided.1) (sent (sent_by (is_pledged h) (kept_at w from) theirs))
     where

@@ -3,7 +3,7 @@ use Rattle.pua_since.proofs.Common.{◌≡◌, false, Some, Ok, refl, sym, ap, �
 use Rattle.pua_since.proofs.Common.{Found, CallTable, ProcessState, Call, Refusal, Asked, Change, NoChange, change_by}
 use Rattle.pua_since.proofs.Common.{decide, World, apply, Effect, Fails, Kills, Leaves, Copies, kept_at, answer_to, left_by, Answer}
 use Rattle.pua_since.proofs.Common.{Action, OnPath, Symlink, Rename, Link, Pledge, Unveil, Lock, Fork, Exit, Uses, Hold, Close, Fchdir}
-use Rattle.pua_since.proofs.Common.{Take, Comment, by_request}
+use Rattle.pua_since.proofs.Common.{Chroot, Take, Comment, by_request}
 use Rattle.pua_since.proofs.Common.{has_changed}
 use Rattle.pua_calls.specs.declared.call.Call.TheVariants as call
 use Rattle.pua_policy.specs.declared.answer.Refusal.TheVariants.{Failed, Killed}
@@ -40,6 +40,7 @@ module _ (table : CallTable) (w : World) (ask : Asked) (h : ProcessState) (here 
   by_action (Hold number asked path) c is e = cc
   by_action (Close number) c is e = cc
   by_action (Fchdir number) c is e = cc
+  by_action (Chroot path) c is e = cc
   by_action (Take number from theirs) c is e = cc
   by_action Comment c is e =
       ap (λ d. left_by w ask.process h (change_effect w h d)) (decisions_are_guarded table w.tree h Comment c is) ∙ kept

@@ -1,16 +1,16 @@
 -- What a fact tells of a veil is so, and is so since the line that is kept of it.
 use Rattle.pua_since.proofs.Common.{◌≡◌, ℕ, Bool, true, false, List, [], ◌∷◌, ◌++◌, length, map, refl, sym, ap, subst, ◌∙◌, Option, Some}
 use Rattle.pua_since.proofs.Common.{None, Result, Ok, Err, if◌then◌else◌, option_map_or, Tree, Spot, Ending, Found, PathFault, PathTrace}
-use Rattle.pua_since.proofs.Common.{trace_of_text, CallTable, ProcessState, perms_kept, working_dir, Call, Asked, World, kept_at, world_after}
+use Rattle.pua_since.proofs.Common.{trace_of_text, CallTable, ProcessState, perms_kept, start, Call, Asked, World, kept_at, world_after}
 use Rattle.pua_since.proofs.Common.{Action, OnPath, Symlink, Rename, Link, Pledge, Unveil, Lock, Fork, Exit, Uses, Hold, Close, Fchdir}
-use Rattle.pua_since.proofs.Common.{Take, Comment, Fact, facts_of}
+use Rattle.pua_since.proofs.Common.{Chroot, Take, Comment, Fact, facts_of}
 use Rattle.pua_since.proofs.Common.{Fault}
 use Rattle.pua_since.proofs.Common.{AreFactsAt, IsFactAt, fact_line, veil_told, AreWatched, kept_in, Watches}
 use Rattle.std.specs.Prelude.{⊤}
 use Rattle.std.specs.List.{AllByRecursion}
 use Rattle.pua_path.specs.declared.text.Ending.TheVariants as ending
 use Rattle.pua_path.specs.declared.found.Last.TheVariants.{Followed}
-use Rattle.pua_calls.specs.Promises.{proc, recvfd, unveil}
+use Rattle.pua_calls.specs.Promises.{id, proc, recvfd, unveil}
 use Rattle.pua_calls.specs.Calls.{PairRule, rule_of}
 use Rattle.pua_policy.specs.States.{is_locked}
 use Rattle.pua_policy.specs.Reasons.{Promising, Holds, HasEnded, Lacks, promising, covering}
@@ -117,9 +117,9 @@ module _ (h : ProcessState) where
       (under_kept New t new pair.new.needs.perms [] tt)))
 
   unveil_kept : (t : Tree) (path : List ℕ) (locked : Bool) →
-      AreKept h (if locked then [] else facts_named Sole (trace_of_text t (working_dir h) ending.Dot path Followed) (λ object. []))
+      AreKept h (if locked then [] else facts_named Sole (trace_of_text t (start h) ending.Dot path Followed) (λ object. []))
   unveil_kept t path true = tt
-  unveil_kept t path false = named_kept Sole (trace_of_text t (working_dir h) ending.Dot path Followed) (λ object. []) (λ object. tt)
+  unveil_kept t path false = named_kept Sole (trace_of_text t (start h) ending.Dot path Followed) (λ object. []) (λ object. tt)
 
   facts_kept : (table : CallTable) (t : Tree) (action : Action) → AreKept h (facts table t h action)
   facts_kept table t (OnPath call path) = asked_kept table t call path (opening_of table h call path)
@@ -135,6 +135,9 @@ module _ (h : ProcessState) where
   facts_kept table t (Hold number call path) = asked_kept table t call path (opening_of table h call path)
   facts_kept table t (Close number) = tt
   facts_kept table t (Fchdir number) = tt
+  facts_kept table t (Chroot path) = promised_kept (promising h (id ∷ [])) _
+      (named_kept Sole (call_trace t h call.Chdir path) (λ object. facts_under Sole t h object (rule_of table call.Chdir).perms [])
+      (λ object. under_kept Sole t object (rule_of table call.Chdir).perms [] tt))
   facts_kept table t (Take number from theirs) = promised_kept (promising h (recvfd ∷ [])) [] tt
   facts_kept table t Comment = tt
 

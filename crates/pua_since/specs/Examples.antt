@@ -23,7 +23,7 @@ use Rattle.pua_script.specs.declared.fault.ScriptFault.{ScriptFault}
 use Rattle.pua_script.specs.declared.answer.Answer.{Answer}
 use Rattle.pua_script.specs.declared.answer.Answer.TheVariants.{Okay, Failed, Killed}
 use Rattle.pua_script.specs.declared.request.Action.{Action}
-use Rattle.pua_script.specs.declared.request.Action.TheVariants.{OnPath, Fork, Hold, Take}
+use Rattle.pua_script.specs.declared.request.Action.TheVariants.{OnPath, Fork, Hold, Chroot, Take}
 use Rattle.pua_why.specs.Examples.{why_of}
 use Rattle.pua_why.specs.Facts.{Under}
 use Rattle.pua_why.specs.Reasons.{NeverMade, Ended}
@@ -49,6 +49,7 @@ pub record ChangeRows : Type 0 where
   pub made : has_changed (mkdir (codes "/d")) Okay ≡ true
   pub there_before : has_changed (mkdir (codes "/d")) (Failed EEXIST) ≡ false
   pub looked : has_changed (stat (codes "/d")) Okay ≡ false
+  pub rooted : has_changed (Chroot (codes "/d")) Okay ≡ true
   pub killed : has_changed (stat (codes "/d")) Killed ≡ true
   pub forked : has_forked (Fork 2) Okay ≡ true
   pub refused_fork : has_forked (Fork 2) (Failed EAGAIN) ≡ false
@@ -59,6 +60,7 @@ change_rows = record {
   made = refl;
   there_before = refl;
   looked = refl;
+  rooted = refl;
   killed = refl;
   forked = refl;
   refused_fork = refl;
@@ -78,6 +80,7 @@ pub record TouchRows : Type 0 where
   pub failed : touched (mkdir (codes "/etc")) (Failed EEXIST) ≡ Process 1
   pub held : touched (Hold 3 call.OpenRead (codes "/etc/passwd")) Okay ≡ Process 1
   pub taken : touched (Take 3 2 4) Okay ≡ Process 1
+  pub rooted : touched (Chroot (codes "/tmp")) Okay ≡ Process 1
 
 pub touch_rows : TouchRows
 touch_rows = record {
@@ -89,6 +92,7 @@ touch_rows = record {
   failed = refl;
   held = refl;
   taken = refl;
+  rooted = refl;
 }
 
 -- since which lines of a script veils have their letters, each with the number of its process

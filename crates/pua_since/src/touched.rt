@@ -34,7 +34,7 @@ fn is_own(action: &Action) -> bool
         Action::Symlink(..) | Action::Rename(..) | Action::Link(..) | Action::Fork(_) => false,
         Action::Pledge(..) | Action::Unveil(..) | Action::Lock | Action::Exit => true,
         Action::Hold { .. } | Action::Close(_) | Action::Fchdir(_) => true,
-        Action::Take { .. } | Action::Uses(_) | Action::Comment => true,
+        Action::Chroot(_) | Action::Take { .. } | Action::Uses(_) | Action::Comment => true,
     }
 }
 

@@ -8,8 +8,13 @@ use Rattle.std.specs.List.{AllByRecursion}
 use Rattle.std.specs.Prelude.{nat_lt}
 use Rattle.std.proofs.lemmas.Bool.{lt-ltb}
 use Rattle.pua_ever.specs.declared.line.EverThing.TheVariants.{Stands}
-use Rattle.pua_objects.specs.Objects.{Subject, Item, Line, line_of, line_text, has_calls}
-use Rattle.pua_objects.specs.Lines.{IsLineOn}
+use Rattle.std.specs.Prelude.{◌&&◌, Bool, true, false}
+use Rattle.pua_calls.specs.CallSets.{has}
+use Rattle.pua_policy.specs.Verdict.{is_allowed}
+use Rattle.pua_objects.specs.Objects.{Subject, Item, Line, line_of, line_text, has_calls, is_named_by, subject_verdict}
+use Rattle.pua_objects.specs.Lines.{IsShownLine, shown_lines}
+use Rattle.pua_objects.specs.Roots.{shows}
+use Rattle.pua_objects.specs.declared.roots.Shown.{Shown}
 use Rattle.pua_objects.specs.declared.line.ObjectLine.{ObjectLine}
 use Rattle.pua_texts.specs.EndingsState.{EndingsState, columns_of}
 use Rattle.pua_objects.specs.ListItems as given
@@ -39,35 +44,71 @@ told_at t process items item i within is all =
     at (first ∷ items) zero within all = all.0
     at (first ∷ items) (suc i) within all = at items i (omega (arith, within)) all.1
 
--- what stands behind a line
-module _ (t : Tree) (table : CallTable) (h : ProcessState) (behind : Line → List ℕ) where
+-- what is shown, and what stands behind a line
+module _ (t : Tree) (table : CallTable) (h : ProcessState) (shown : Shown) (behind : Line → List ℕ) where
+  abbrev is_seen : Line → Bool
+  is_seen line = shows t shown line.subject
+
+  abbrev text : Line → List ℕ
+  text line = line_text t line ++ behind line
+
   abbrev pub told : List Item → List ℕ
-  told items = flat_map (λ line. line_text t line ++ behind line) (lines_of t table h items)
+  told items = flat_map text (shown_lines t table h shown items)
 
-  module _ (word : Word) (subject : Subject) (given : ObjectLine) (on : IsLineOn t table h subject given) where
-    line_is : line_of t table h (record { word = word; subject = subject }) ≡ line_on word subject given
-    line_is = (λ i. record { word = word; subject = subject; calls = filter (λ call. sym (on.calls call) i) calls })
+  module _ (word : Word) (subject : Subject) (given : ObjectLine) (on : IsShownLine t table h shown subject given) where
+    abbrev item : Item
+    item = record { word = word; subject = subject }
 
-    by_calls : (cs : List Call) (one : List ℕ) (line : Line) (rest : List Line) → line_text t line ++ behind line ≡ one →
-        flat_map (λ line. line_text t line ++ behind line) (cond (nat_lt 0 (length cs)) (line ∷ rest) rest)
-        ≡ unless_none cs one ++ flat_map (λ line. line_text t line ++ behind line) rest
-    by_calls [] one line rest is = refl
-    by_calls (c ∷ cs) one line rest is =
-        ap (λ b. flat_map (λ line. line_text t line ++ behind line) (cond b (line ∷ rest) rest)) (lt-ltb 0 (length (c ∷ cs)) (omega arith)) ∙
-        ap (λ s. s ++ flat_map (λ line. line_text t line ++ behind line) rest) is
+    abbrev own : Line
+    own = line_on word subject given
 
-    told_next : (rest : List Item) → told (record { word = word; subject = subject } ∷ rest)
-        ≡ unless_none (calls_in given.calls) (line_text t (line_on word subject given) ++ behind (line_on word subject given)) ++ told rest
-    told_next rest =
-        (λ i. flat_map (λ line. line_text t line ++ behind line) (cond (has_calls (line_is i)) (line_is i ∷ lines_of t table h rest)
-        (lines_of t table h rest)))
-        ∙ by_calls (calls_in given.calls) _ (line_on word subject given) (lines_of t table h rest) refl
+    -- the line of what is shown
+    line_is : shows t shown subject ≡ true → line_of t table h item ≡ own
+    line_is seen = (λ i. record { word = word; subject = subject; calls = filter (λ call. same call i) calls })
+      where
+        same : (call : Call) → (is_named_by t call subject && is_allowed (subject_verdict t table h call subject)) ≡ has given.calls call
+        same call =
+            ap (λ b. b && (is_named_by t call subject && is_allowed (subject_verdict t table h call subject))) (sym seen) ∙ sym (on.calls call)
+
+    -- and what isn't shown has no calls
+    no_calls : shows t shown subject ≡ false → calls_in given.calls ≡ []
+    no_calls hidden = (λ i. filter (λ call. none call i) calls)
+      where
+        none : (call : Call) → has given.calls call ≡ false
+        none call =
+            on.calls call
+            ∙ ap (λ b. b && (is_named_by t call subject && is_allowed (subject_verdict t table h call subject))) hidden
+
+    by_calls : (cs : List Call) (rest : List Line) → is_seen own ≡ true →
+        flat_map text (filter is_seen (cond (nat_lt 0 (length cs)) (own ∷ rest) rest))
+        ≡ unless_none cs (text own) ++ flat_map text (filter is_seen rest)
+    by_calls [] rest seen = refl
+    by_calls (c ∷ cs) rest seen =
+        ap (λ b. flat_map text (filter is_seen (cond b (own ∷ rest) rest))) (lt-ltb 0 (length (c ∷ cs)) (omega arith))
+        ∙ ap (λ b. flat_map text (cond b (own ∷ filter is_seen rest) (filter is_seen rest))) seen
+
+    left_out : (line : Line) (b : Bool) (rest : List Line) → is_seen line ≡ false →
+        flat_map text (filter is_seen (cond b (line ∷ rest) rest)) ≡ flat_map text (filter is_seen rest)
+    left_out line true rest hidden = ap (λ b. flat_map text (cond b (line ∷ filter is_seen rest) (filter is_seen rest))) hidden
+    left_out line false rest hidden = refl
+
+    told_next : (rest : List Item) → told (item ∷ rest) ≡ unless_none (calls_in given.calls) (text own) ++ told rest
+    told_next rest = by (shows t shown subject) refl
+      where
+        by : (b : Bool) → shows t shown subject ≡ b → told (item ∷ rest) ≡ unless_none (calls_in given.calls) (text own) ++ told rest
+        by true seen =
+            (λ i. flat_map text (filter is_seen (cond (has_calls (line_is seen i)) (line_is seen i ∷ lines_of t table h rest)
+            (lines_of t table h rest))))
+            ∙ by_calls (calls_in given.calls) (lines_of t table h rest) seen
+        by false hidden =
+            left_out (line_of t table h item) (has_calls (line_of t table h item)) (lines_of t table h rest) hidden
+            ∙ ap (λ cs. unless_none cs (text own) ++ told rest) (sym (no_calls hidden))
 
   -- one more line, of the next of some items
   module _ (columns : EndingsState) (items : List ListItem) (item : ListItem) (i : ℕ) (within : i < length items)
       (is : item ≡ slice_index_or items i item) (name : Option (Bor (List ℕ)))
       (named : option_map (λ n. n.now) name ≡ given.last_name item.item.subject) (line : ObjectLine)
-      (on : IsLineOn t table h (subject_given t item.item.subject) line) (resting : ℕ) (veil : Option ℕ) where
+      (on : IsShownLine t table h shown (subject_given t item.item.subject) line) (resting : ℕ) (veil : Option ℕ) where
     abbrev Behind : Type 0
     Behind = (word : Word) → columns_of columns resting veil ≡ behind (line_on word (subject_given t item.item.subject) line)
 
@@ -91,12 +132,12 @@ module _ (t : Tree) (table : CallTable) (h : ProcessState) (behind : Line → Li
         let word = last_word [] lines in
         let new = line_at item name line resting veil in
         let at = given.word_after word item in
-        let text = unless_none (calls_in line.calls) (line_text t (line_on at (subject_given t item.item.subject) line)
+        let one = unless_none (calls_in line.calls) (line_text t (line_on at (subject_given t item.item.subject) line)
         ++ behind (line_on at (subject_given t item.item.subject) line)) in
         let rest = told (given.items_told t at (drop (i + 1) items)) in
         (λ j. (line_added columns [] lines new ∙ ap (λ s. lines_text columns [] lines ++ s) (item_text word ends)) j
         ++ told (given.items_told t ((word_added [] lines new ∙ ap (given.with_name (take item.depth word)) named) j) (drop (i + 1) items)))
-        ∙ append_assoc (lines_text columns [] lines) text rest
+        ∙ append_assoc (lines_text columns [] lines) one rest
         ∙ ap (λ s. lines_text columns [] lines ++ s)
         (sym (told_next at (subject_given t item.item.subject) line on (given.items_told t at (drop (i + 1) items)))
         ∙ ap (λ its. told (given.items_told t word its)) (sym (drop_more items i item within ∙ ap (λ l. l ∷ drop (i + 1) items) (sym is))))

@@ -121,22 +121,23 @@ line_of_held held o there has =
     same_self word = (bytes_decides word word).1 refl
 
 -- among what a list says of a process that has not ended
-in_own : (head : Heading) (h : ProcessState) (o : Opening) → is_ended h ≡ false → HasOpening (openings_told head.rules head.time h) o →
-    HasOpening (own_lines head h) o
-in_own head h o lives has =
+in_own : (head : Heading) (root : List ℕ) (h : ProcessState) (o : Opening) → is_ended h ≡ false → HasOpening (openings_told head.rules head.time h) o →
+    HasOpening (own_lines head root h) o
+in_own head root h o lives has =
     let alive = with_end (codes "process alive") in
     let held = held_lines head.rules h in
     let execs = execs_told head.time in
     let receives = receives_told head.rules head.time h in (
-      alive ++ held ++ execs ++ receives ++ has.0,
+      alive ++ held ++ execs ++ receives ++ root ++ has.0,
       has.1 ++ unveiled_line h,
-      ap (λ (ended : Bool). if ended then with_end (codes "process ended") else living_lines head h) lives
-          ∙ ap (λ told. alive ++ held ++ (execs ++ receives ++ told ++ unveiled_line h)) has.2
-          ∙ parts alive held execs receives has.0 (opening_line o) has.1 (unveiled_line h),
+      ap (λ (ended : Bool). if ended then with_end (codes "process ended") else living_lines head root h) lives
+          ∙ ap (λ told. alive ++ held ++ (execs ++ receives ++ root ++ told ++ unveiled_line h)) has.2
+          ∙ parts alive held execs receives root has.0 (opening_line o) has.1 (unveiled_line h),
     )
   where
-    parts : (a p e f b line c u : List ℕ) → a ++ p ++ (e ++ f ++ (b ++ line ++ c) ++ u) ≡ (a ++ p ++ e ++ f ++ b) ++ line ++ (c ++ u)
-    parts a p e f b line c u = search (append_assoc)
+    parts : (a p e f r b line c u : List ℕ) →
+        a ++ p ++ (e ++ f ++ r ++ (b ++ line ++ c) ++ u) ≡ (a ++ p ++ e ++ f ++ r ++ b) ++ line ++ (c ++ u)
+    parts a p e f r b line c u = search (append_assoc)
 
 told : (rules : Rules) (time : Time) (h : ProcessState) (o : Opening) → (about_rules rules).has_openings ≡ true →
     Contains openings o → holds_named (opening_set time h) (promises_of o.promise) ≡ true → HasOpening (openings_told rules time h) o
@@ -144,26 +145,26 @@ told rules time h o by_these there has =
     subst (λ (b : Bool). HasOpening (if b then opening_lines (keywords_of (opening_set time h)) else []) o) (sym by_these)
     (line_of_held (opening_set time h) o there has)
 
-each : (head : Heading) (h : ProcessState) (o : Opening) → is_ended h ≡ false → (about_rules head.rules).has_openings ≡ true →
-    Contains openings o → holds_named (opening_set head.time h) (promises_of o.promise) ≡ true → HasOpening (own_lines head h) o
-each head h o lives by_these there has = in_own head h o lives (told head.rules head.time h o by_these there has)
+each : (head : Heading) (root : List ℕ) (h : ProcessState) (o : Opening) → is_ended h ≡ false → (about_rules head.rules).has_openings ≡ true →
+    Contains openings o → holds_named (opening_set head.time h) (promises_of o.promise) ≡ true → HasOpening (own_lines head root h) o
+each head root h o lives by_these there has = in_own head root h o lives (told head.rules head.time h o by_these there has)
 
-now : (head : Heading) (table : CallTable) (h : ProcessState) (call : Call) (text : List ℕ) (o : Opening) →
+now : (head : Heading) (root : List ℕ) (table : CallTable) (h : ProcessState) (call : Call) (text : List ℕ) (o : Opening) →
     table.whose ≡ head.rules → head.time ≡ Now → opening_of table h call text ≡ Some o →
-    (opens_call call text o ≡ true) × HasOpening (own_lines head h) o
-now head table h call text o whose at is =
+    (opens_call call text o ≡ true) × HasOpening (own_lines head root h) o
+now head root table h call text o whose at is =
     by (about_rules table.whose).has_openings refl h.ended refl is
   where
     by : (b : Bool) → (about_rules table.whose).has_openings ≡ b → (ended : Bool) → h.ended ≡ ended →
         (if b && not ended then find (is_opening (unwrap_or (pledged_set h) no_promises) call text) openings else None)
         ≡ Some o →
-        (opens_call call text o ≡ true) × HasOpening (own_lines head h) o
+        (opens_call call text o ≡ true) × HasOpening (own_lines head root h) o
     by true by_these false lives e =
         let set = unwrap_or (pledged_set h) no_promises in
         let found = found_of (is_opening set call text) openings o e in
         let parts = and_parts (opens_call call text o) (holds_named set (promises_of o.promise)) found.1 in (
           parts.0,
-          each head h o lives (ap (λ (rules : Rules). (about_rules rules).has_openings) (sym whose) ∙ by_these) found.0
+          each head root h o lives (ap (λ (rules : Rules). (about_rules rules).has_openings) (sym whose) ∙ by_these) found.0
               (ap (λ time. holds_named (opening_set time h) (promises_of o.promise)) at ∙ parts.1),
         )
     by true by_these true lives e = cc
@@ -179,15 +180,15 @@ held_ever Bounded h (Ok set) has =
     holds_through (bit_or (held_set h) given) (held_set h) set (first_of (held_set h) given) has
 held_ever Bounded h (Err errno) has = has
 
-ever : (head : Heading) (execs : ExecBound) (h : ProcessState) (call : Call) (text : List ℕ) → is_ended h ≡ false →
+ever : (head : Heading) (root : List ℕ) (execs : ExecBound) (h : ProcessState) (call : Call) (text : List ℕ) → is_ended h ≡ false →
     head.time ≡ Ever execs → (about_rules head.rules).has_openings ≡ true → may_open h call text ≡ true →
-    (o : Opening) × (opens_call call text o ≡ true) × HasOpening (own_lines head h) o
-ever head execs h call text lives at by_these may =
+    (o : Opening) × (opens_call call text o ≡ true) × HasOpening (own_lines head root h) o
+ever head root execs h call text lives at by_these may =
     let found = some_of (is_opening (held_set h) call text) openings may in
     let parts = and_parts (opens_call call text found.0) (holds_named (held_set h) (promises_of found.0.promise)) found.2 in (
       found.0,
       parts.0,
-      each head h found.0 lives by_these found.1 (ap (λ time. holds_named (opening_set time h) (promises_of found.0.promise)) at
+      each head root h found.0 lives by_these found.1 (ap (λ time. holds_named (opening_set time h) (promises_of found.0.promise)) at
           ∙ held_ever execs h (promises_of found.0.promise) parts.1),
     )
 

@@ -49,17 +49,18 @@ tells (Some set) = (
 )
 
 -- the lines of what is held and those of what bounds it, one by one
-one_by_one : (a r p e u x f o n : List ℕ) → a ++ (r ++ p ++ e ++ u) ++ (x ++ f ++ o ++ n) ≡ a ++ r ++ p ++ e ++ u ++ x ++ f ++ o ++ n
-one_by_one a r p e u x f o n = search (append_assoc)
+one_by_one : (a r p e u x f s o n : List ℕ) →
+    a ++ (r ++ p ++ e ++ u) ++ (x ++ f ++ s ++ o ++ n) ≡ a ++ r ++ p ++ e ++ u ++ x ++ f ++ s ++ o ++ n
+one_by_one a r p e u x f s o n = search (append_assoc)
 
 pub state_is_printed : StateIsPrinted
-state_is_printed head h living = record {
+state_is_printed head root h living = record {
   promises = pledged_text (pledged_set h);
   for_exec = pledged_text (held_for_exec h);
   unveils = unveil_word h;
-  lines = ap (λ ended. if ended then with_end (codes "process ended") else living_lines head h) living ∙
+  lines = ap (λ ended. if ended then with_end (codes "process ended") else living_lines head root h) living ∙
       one_by_one (with_end (codes "process alive")) (rules_line head.rules) _ _ _ (execs_told head.time)
-      (receives_told head.rules head.time h) (openings_told head.rules head.time h) (unveiled_line h);
+      (receives_told head.rules head.time h) root (openings_told head.rules head.time h) (unveiled_line h);
   held = tells (pledged_set h);
   held_for_exec = tells (held_for_exec h);
   confined = confined_is_printed h;

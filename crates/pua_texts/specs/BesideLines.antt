@@ -8,6 +8,7 @@ use Rattle.pua_ever.specs.Ever.{EverLine}
 use Rattle.pua_ever.specs.declared.lasting_list.ExecBound.{ExecBound}
 use Rattle.pua_texts.specs.EverLines.{ever_lines}
 use Rattle.pua_texts.specs.Lines.{with_end}
+use Rattle.pua_texts.specs.RootLines.{root_line}
 use Rattle.pua_texts.specs.States.{exec_line, held_lines, kept_lines, openings_told, receives_told, unveiled_line}
 use Rattle.pua_texts.specs.declared.state.Time.TheVariants.{Ever}
 
@@ -27,20 +28,20 @@ others_text (other ∷ more) = codes " beside " ++ with_commas (map (λ member. 
 abbrev pub beside_heading : Beside → List ℕ
 beside_heading b = with_end (codes "ever " ++ decimal b.number ++ others_text b.others)
 
--- what becomes of the list at an exec of one of them, that the process can still receive files, what promises open to it by themselves,
--- and that it has no veil
-abbrev pub beside_bounds : Rules → Beside → List ℕ
-beside_bounds rules b =
-    exec_line b.execs ++ receives_told rules (Ever b.own) b.process ++ openings_told rules (Ever b.own) b.process ++ unveiled_line b.process
+-- what becomes of the list at an exec of one of them, that the process can still receive files, the line of its root, what promises open
+-- to it by themselves, and that it has no veil
+abbrev pub beside_bounds : Rules → List ℕ → Beside → List ℕ
+beside_bounds rules root b =
+    exec_line b.execs ++ receives_told rules (Ever b.own) b.process ++ root ++ openings_told rules (Ever b.own) b.process ++ unveiled_line b.process
 
 -- the state of the process, as in the list of one alone but for what it says of execs
-abbrev pub beside_living : Rules → Beside → List ℕ
-beside_living rules b = with_end (codes "process alive") ++ held_lines rules b.process ++ beside_bounds rules b
+abbrev pub beside_living : Rules → List ℕ → Beside → List ℕ
+beside_living rules root b = with_end (codes "process alive") ++ held_lines rules b.process ++ beside_bounds rules root b
 
-abbrev pub beside_own : Rules → Beside → List ℕ
-beside_own rules b = if is_ended b.process then with_end (codes "process ended") else beside_living rules b
+abbrev pub beside_own : Rules → List ℕ → Beside → List ℕ
+beside_own rules root b = if is_ended b.process then with_end (codes "process ended") else beside_living rules root b
 
 -- the list for ever of a process with the help of others: its heading, its state, its veils, what it has open, and these lines
 abbrev pub beside_list : Rules → Tree → Beside → List EverLine → List ℕ
 beside_list rules t b lines =
-    ((beside_heading b ++ beside_own rules b) ++ kept_lines t b.process) ++ ever_lines t lines
+    ((beside_heading b ++ beside_own rules (root_line t b.process) b) ++ kept_lines t b.process) ++ ever_lines t lines

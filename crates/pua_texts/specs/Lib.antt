@@ -2,6 +2,7 @@
 pub mod Lines
 pub mod Openings
 pub mod FileLines
+pub mod RootLines
 pub mod States
 pub mod ObjectLines
 pub mod EverLines

@@ -4,6 +4,7 @@ use Rattle.pua_tree.specs.Tree.{Tree}
 use Rattle.pua_policy.specs.States.{ProcessState}
 use Rattle.pua_policy.specs.declared.place.Place.{Place}
 use Rattle.pua_texts.specs.FileLines.{files_lines}
+use Rattle.pua_texts.specs.RootLines.{root_line}
 use Rattle.pua_texts.specs.States.{heading_line, own_lines, living_veils}
 use Rattle.pua_texts.specs.declared.state.Heading.{Heading}
 
@@ -16,4 +17,4 @@ pub record HeadState : Type 0 where
 -- the heading and the state of a process
 abbrev pub head_of : Tree → Heading → ProcessState → HeadState
 head_of t heading h =
-    record { text = heading_line heading ++ own_lines heading h; veils = living_veils h; files = files_lines t h }
+    record { text = heading_line heading ++ own_lines heading (root_line t h) h; veils = living_veils h; files = files_lines t h }

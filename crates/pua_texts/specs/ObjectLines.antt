@@ -6,7 +6,8 @@ use Rattle.pua_calls.specs.Calls.{CallTable}
 use Rattle.pua_calls.specs.declared.rules.Rules.{Rules}
 use Rattle.pua_policy.specs.States.{ProcessState}
 use Rattle.pua_script.specs.Replay.{World, kept_at}
-use Rattle.pua_objects.specs.Objects.{Line, line_text, objects}
+use Rattle.pua_objects.specs.Objects.{Line, line_text}
+use Rattle.pua_objects.specs.Roots.{shown_objects}
 use Rattle.pua_texts.specs.States.{head_lines}
 use Rattle.pua_texts.specs.Lines.{with_end}
 use Rattle.pua_texts.specs.declared.state.Heading.{Heading}
@@ -15,9 +16,10 @@ use Rattle.pua_texts.specs.declared.state.Time.TheVariants.{Now, Before}
 abbrev pub object_lines : Tree → List Line → List ℕ
 object_lines t lines = flat_map (λ line. with_end (line_text t line)) lines
 
--- the list of a process: its heading, its state, and a line for each object on which it is allowed a call
+-- the list of a process: its heading, its state, and a line for each object on which it is allowed a call; where its paths can't leave
+-- its root, for those at or below that
 abbrev pub process_list : Heading → CallTable → Tree → ProcessState → List ℕ
-process_list head table t h = head_lines t head h ++ object_lines t (objects t table h)
+process_list head table t h = head_lines t head h ++ object_lines t (shown_objects t table h)
 
 -- the heading of a list of now
 abbrev pub heading_now : Rules → ℕ → Heading

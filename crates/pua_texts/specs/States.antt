@@ -1,5 +1,5 @@
 -- What a list says of the state of a process: by which rules, its promises, whether it may put veils, whether it may still receive what
--- others have open, what promises open by themselves, its veils with where their places stand, and what it has open.
+-- others have open, its root, what promises open by themselves, its veils with where their places stand, and what it has open.
 use Rattle.std.specs.Prelude.{◌↔◌, ◌⊎◌, ◌≡◌, ℕ, Bool, true, false, map, if◌then◌else◌, List, [], ◌∷◌, ◌++◌, flat_map, reverse, Option}
 use Rattle.std.specs.Prelude.{Some, None, codes, decimal, unwrap_or, bit_or}
 use Rattle.std.specs.List.{Contains}
@@ -22,6 +22,7 @@ use Rattle.pua_ever.specs.declared.lasting_list.ExecBound.{ExecBound}
 use Rattle.pua_ever.specs.declared.lasting_list.ExecBound.TheVariants.{Never, Bounded, Open}
 use Rattle.pua_why.specs.Texts.{dir_names}
 use Rattle.pua_texts.specs.FileLines.{files_lines}
+use Rattle.pua_texts.specs.RootLines.{root_line}
 use Rattle.pua_texts.specs.Lines.{with_end}
 use Rattle.pua_texts.specs.Openings.{opening_line, opening_lines}
 use Rattle.pua_texts.specs.declared.state.Heading.{Heading}
@@ -86,18 +87,19 @@ abbrev pub held_lines : Rules → ProcessState → List ℕ
 held_lines rules h = rules_line rules ++ with_end (codes "promises " ++ pledged_text (pledged_set h))
     ++ with_end (codes "execpromises " ++ pledged_text (held_for_exec h)) ++ with_end (codes "unveil " ++ unveil_word h)
 
--- what becomes of a list for ever at an exec, that files can still be received, what promises open by themselves, and that there is no
--- veil
-abbrev pub bound_lines : Rules → Time → ProcessState → List ℕ
-bound_lines rules time h = execs_told time ++ receives_told rules time h ++ openings_told rules time h ++ unveiled_line h
+-- what becomes of a list for ever at an exec, that files can still be received, the line of a root that is given, what promises open by
+-- themselves, and that there is no veil
+abbrev pub bound_lines : Rules → Time → List ℕ → ProcessState → List ℕ
+bound_lines rules time root h =
+    execs_told time ++ receives_told rules time h ++ root ++ openings_told rules time h ++ unveiled_line h
 
 -- the lines of a living process before those of its veils
-abbrev pub living_lines : Heading → ProcessState → List ℕ
-living_lines head h = with_end (codes "process alive") ++ held_lines head.rules h ++ bound_lines head.rules head.time h
+abbrev pub living_lines : Heading → List ℕ → ProcessState → List ℕ
+living_lines head root h = with_end (codes "process alive") ++ held_lines head.rules h ++ bound_lines head.rules head.time root h
 
 -- an ended process has one line
-abbrev pub own_lines : Heading → ProcessState → List ℕ
-own_lines head h = if is_ended h then with_end (codes "process ended") else living_lines head h
+abbrev pub own_lines : Heading → List ℕ → ProcessState → List ℕ
+own_lines head root h = if is_ended h then with_end (codes "process ended") else living_lines head root h
 
 -- the veils that a living process keeps, in the order in which their places were first kept
 abbrev pub living_veils : ProcessState → List (Place × ℕ)
@@ -154,7 +156,7 @@ kept_lines t h = veil_lines t (living_veils h) ++ files_lines t h
 
 -- what stands before the lines of a list: its heading, and the state of its process
 abbrev pub head_lines : Tree → Heading → ProcessState → List ℕ
-head_lines t head h = (heading_line head ++ own_lines head h) ++ kept_lines t h
+head_lines t head h = (heading_line head ++ own_lines head (root_line t h) h) ++ kept_lines t h
 
 -- the laws: a process that can put no veil any more prints `locked` or `given-up`, and only such a one does
 abbrev pub ConfinedIsPrinted : Type 0
@@ -167,21 +169,21 @@ TellsPromises None text = text ≡ codes "-"
 TellsPromises (Some set) text = (rows : List (List ℕ × ℕ)) × (text ≡ or_equals (with_commas (map (λ row. row.0) rows))) ×
     ((row : List ℕ × ℕ) → Contains rows row ↔ (Contains keyword_rows row × (holds set row.1 ≡ true)))
 
--- the lines of a living process before those of its veils, and what their words say
-pub record TellsState (head : Heading) (h : ProcessState) (text : List ℕ) : Type 0 where
+-- the lines of a living process before those of its veils, with that of its root, and what their words say
+pub record TellsState (head : Heading) (root : List ℕ) (h : ProcessState) (text : List ℕ) : Type 0 where
   pub promises : List ℕ
   pub for_exec : List ℕ
   pub unveils : List ℕ
   pub lines : text ≡ with_end (codes "process alive") ++ rules_line head.rules ++ with_end (codes "promises " ++ promises)
       ++ with_end (codes "execpromises " ++ for_exec) ++ with_end (codes "unveil " ++ unveils)
-      ++ execs_told head.time ++ receives_told head.rules head.time h ++ openings_told head.rules head.time h ++ unveiled_line h
+      ++ execs_told head.time ++ receives_told head.rules head.time h ++ root ++ openings_told head.rules head.time h ++ unveiled_line h
   pub held : TellsPromises (pledged_set h) promises
   pub held_for_exec : TellsPromises (held_for_exec h) for_exec
   pub confined : IsConfined h ↔ ((unveils ≡ codes "locked") ⊎ (unveils ≡ codes "given-up"))
 
 -- so do the lines that are printed of a process that has not ended
 abbrev pub StateIsPrinted : Type 0
-StateIsPrinted = (head : Heading) (h : ProcessState) → is_ended h ≡ false → TellsState head h (own_lines head h)
+StateIsPrinted = (head : Heading) (root : List ℕ) (h : ProcessState) → is_ended h ≡ false → TellsState head root h (own_lines head root h)
 
 -- the line of an opening stands among lines
 abbrev pub HasOpening : List ℕ → Opening → Type 0
@@ -193,14 +195,14 @@ HasOpening lines o = (before : List ℕ) × (after : List ℕ) × (lines ≡ bef
 pub record OpeningsArePrinted : Type 0 where
   pub told : (rules : Rules) (time : Time) (h : ProcessState) (o : Opening) → (about_rules rules).has_openings ≡ true →
       Contains openings o → holds_named (opening_set time h) (promises_of o.promise) ≡ true → HasOpening (openings_told rules time h) o
-  pub each : (head : Heading) (h : ProcessState) (o : Opening) → is_ended h ≡ false → (about_rules head.rules).has_openings ≡ true →
-      Contains openings o → holds_named (opening_set head.time h) (promises_of o.promise) ≡ true → HasOpening (own_lines head h) o
-  pub now : (head : Heading) (table : CallTable) (h : ProcessState) (call : Call) (text : List ℕ) (o : Opening) →
+  pub each : (head : Heading) (root : List ℕ) (h : ProcessState) (o : Opening) → is_ended h ≡ false → (about_rules head.rules).has_openings ≡ true →
+      Contains openings o → holds_named (opening_set head.time h) (promises_of o.promise) ≡ true → HasOpening (own_lines head root h) o
+  pub now : (head : Heading) (root : List ℕ) (table : CallTable) (h : ProcessState) (call : Call) (text : List ℕ) (o : Opening) →
       table.whose ≡ head.rules → head.time ≡ Now → opening_of table h call text ≡ Some o →
-      (opens_call call text o ≡ true) × HasOpening (own_lines head h) o
-  pub ever : (head : Heading) (execs : ExecBound) (h : ProcessState) (call : Call) (text : List ℕ) → is_ended h ≡ false →
+      (opens_call call text o ≡ true) × HasOpening (own_lines head root h) o
+  pub ever : (head : Heading) (root : List ℕ) (execs : ExecBound) (h : ProcessState) (call : Call) (text : List ℕ) → is_ended h ≡ false →
       head.time ≡ Ever execs → (about_rules head.rules).has_openings ≡ true → may_open h call text ≡ true →
-      (o : Opening) × (opens_call call text o ≡ true) × HasOpening (own_lines head h) o
+      (o : Opening) × (opens_call call text o ≡ true) × HasOpening (own_lines head root h) o
 
 -- each veil that such a process keeps has its line, with where its place stands and its letters
 abbrev pub VeilsArePrinted : Type 0

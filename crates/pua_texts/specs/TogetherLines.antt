@@ -9,6 +9,7 @@ use Rattle.pua_ever.specs.Through.{ever_lasting, execs_of}
 use Rattle.pua_ever.specs.Together.{joined}
 use Rattle.pua_texts.specs.EverLines.{ever_lines}
 use Rattle.pua_texts.specs.FileLines.{files_lines}
+use Rattle.pua_texts.specs.RootLines.{root_line}
 use Rattle.pua_texts.specs.Lines.{with_end}
 use Rattle.pua_texts.specs.States.{bound_lines, held_lines, veil_lines}
 use Rattle.pua_texts.specs.declared.state.Time.TheVariants.{Ever}
@@ -17,12 +18,13 @@ use Rattle.pua_texts.specs.declared.state.Time.TheVariants.{Ever}
 abbrev pub together_heading : List (ℕ × ProcessState) → List ℕ
 together_heading members = with_end (codes "ever " ++ with_commas (map (λ member. decimal member.0) members))
 
--- the state of a process as of one alone, down to whether it may put veils, but with its number, and what it has open; an ended one has
--- one line
+-- the state of a process as of one alone, down to whether it may put veils, but with its number, its root, and what it has open; an ended
+-- one has one line
 abbrev pub member_lines : Rules → Tree → ℕ × ProcessState → List ℕ
 member_lines rules t member =
     if is_ended member.1 then with_end (codes "process " ++ decimal member.0 ++ codes " ended")
-    else with_end (codes "process " ++ decimal member.0 ++ codes " alive") ++ held_lines rules member.1 ++ files_lines t member.1
+    else with_end (codes "process " ++ decimal member.0 ++ codes " alive") ++ held_lines rules member.1 ++ root_line t member.1
+    ++ files_lines t member.1
 
 -- those that live
 abbrev pub living : List (ℕ × ProcessState) → List (ℕ × ProcessState)
@@ -42,7 +44,7 @@ one_of table members = one_for table (living members)
 abbrev pub joint_list : Rules → CallTable → Tree → Option ProcessState → List ℕ
 joint_list rules table t None = []
 joint_list rules table t (Some one) =
-    (bound_lines rules (Ever (execs_of t table one)) one ++ veil_lines t (veils one)) ++ ever_lines t (ever_lasting t table one)
+    (bound_lines rules (Ever (execs_of t table one)) [] one ++ veil_lines t (veils one)) ++ ever_lines t (ever_lasting t table one)
 
 -- the list of what several processes can ever touch together: its heading, the state of each of them, and the list of the one
 -- that stands for those that live; where none lives, the states are all

@@ -9,7 +9,8 @@ use Rattle.pua_policy.specs.Reasons.{covering}
 use Rattle.pua_policy.specs.declared.reason.Covering.{Covering}
 use Rattle.pua_script.specs.Requests.{Asked}
 use Rattle.pua_script.specs.Replay.{World, kept_at, world_after}
-use Rattle.pua_objects.specs.Objects.{Line, Subject, At, Others, line_text, objects}
+use Rattle.pua_objects.specs.Objects.{Line, Subject, At, Others, line_text}
+use Rattle.pua_objects.specs.Roots.{shown_objects}
 use Rattle.pua_why.specs.Columns.{columns, covering_in}
 use Rattle.pua_texts.specs.States.{head_lines}
 use Rattle.pua_texts.specs.Lines.{with_end}
@@ -36,10 +37,10 @@ why_line p process h line =
     with_end (line_text (world_left p).tree line ++ columns p.table p.world p.asks process h line.calls
     (covering_of (world_left p).tree h line.subject))
 
--- the list of a process with reasons: its heading, its state, and a line for each object on which it is allowed a call
+-- the list of a process with reasons: its heading, its state, and a line for each object that its list without reasons has
 abbrev pub why_list : Heading → ServedScript → ProcessState → List ℕ
 why_list head p h =
-    head_lines (world_left p).tree head h ++ flat_map (why_line p head.number h) (objects (world_left p).tree p.table h)
+    head_lines (world_left p).tree head h ++ flat_map (why_line p head.number h) (shown_objects (world_left p).tree p.table h)
 
 -- a number that was never made has no list
 abbrev pub why_list_of : Rules → ServedScript → ℕ → List ℕ

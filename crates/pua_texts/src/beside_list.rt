@@ -15,6 +15,7 @@ use crate::member_states::push_numbers;
 use crate::members::{Helped, Member};
 use crate::process_head::{ProcessHead, files_text, veils_of_living};
 use crate::process_list::ProcessList;
+use crate::root_line::root_text;
 use crate::state::{
     Time, push_execs, push_held, push_line, push_opened, push_receives, push_unveiled,
 };
@@ -37,7 +38,8 @@ pub fn begin_beside<'t, T: FileTree>(
         AreEverTold (T.content tree.now) [] rows.now told [] → list_text (T.content tree.now) list
         ≡ beside_list rules (T.content tree.now) (beside_of helped.now) told) }
 {
-    let text = head_text(alloc, rules, helped)?;
+    let root = root_text(alloc, tree, helped.member.process)?;
+    let text = head_text(alloc, rules, root.as_str(), helped)?;
     let veils = veils_of_living(alloc, helped.member.process)?;
     let files = files_text(alloc, tree, helped.member.process)?;
     let head = ProcessHead::of(text, veils, files);
@@ -45,14 +47,20 @@ pub fn begin_beside<'t, T: FileTree>(
     ProcessList::new(alloc, head, lines, Endings::plain(alloc))
 }
 
-/// The heading of such a list, and the lines of the state of its process before those of its veils.
-/// The only error is that a growth was refused.
-fn head_text(alloc: Global, rules: Rules, helped: &Helped<'_, '_>) -> Result<String, AllocError>
+/// The heading of such a list, and the lines of the state of its process before those of its veils,
+/// among them this one of its root. The only error is that a growth was refused.
+fn head_text(
+    alloc: Global,
+    rules: Rules,
+    root: &str,
+    helped: &Helped<'_, '_>,
+) -> Result<String, AllocError>
     ensures { IfOk result (λ text. string_bytes text
-        ≡ beside_heading (beside_of helped.now) ++ beside_own rules (beside_of helped.now)) }
+        ≡ beside_heading (beside_of helped.now)
+        ++ beside_own rules root.now (beside_of helped.now)) }
 {
     let mut text = heading_text(alloc, helped)?;
-    push_own(alloc, &mut text, rules, helped)?;
+    push_own(alloc, &mut text, rules, root, helped)?;
     Ok(text)
 }
 
@@ -83,15 +91,16 @@ fn push_own(
     alloc: Global,
     text: &mut String,
     rules: Rules,
+    root: &str,
     helped: &Helped<'_, '_>,
 ) -> Result<(), AllocError>
     ensures { OnOk result (string_bytes text.new
-        ≡ string_bytes text.old ++ beside_own rules (beside_of helped.now)) }
+        ≡ string_bytes text.old ++ beside_own rules root.now (beside_of helped.now)) }
 {
     if helped.member.process.ended() {
         return push_line(text, "process ", "ended");
     }
-    push_living(alloc, text, rules, helped)
+    push_living(alloc, text, rules, root, helped)
 }
 
 /// Adds the lines of a living process.
@@ -99,31 +108,34 @@ fn push_living(
     alloc: Global,
     text: &mut String,
     rules: Rules,
+    root: &str,
     helped: &Helped<'_, '_>,
 ) -> Result<(), AllocError>
     ensures { OnOk result (string_bytes text.new
-        ≡ string_bytes text.old ++ beside_living rules (beside_of helped.now)) }
+        ≡ string_bytes text.old ++ beside_living rules root.now (beside_of helped.now)) }
 {
     push_line(text, "process ", "alive")?;
     push_held(alloc, text, rules, helped.member.process)?;
-    push_bounds(alloc, text, rules, helped)
+    push_bounds(alloc, text, rules, root, helped)
 }
 
 /// Adds what becomes of the list at an exec of one of them, that the process can still receive
-/// files, what promises open by themselves, and that there is no veil. The only error is that a
-/// growth was refused.
+/// files, this line of its root, what promises open by themselves, and that there is no veil. The
+/// only error is that a growth was refused.
 fn push_bounds(
     alloc: Global,
     text: &mut String,
     rules: Rules,
+    root: &str,
     helped: &Helped<'_, '_>,
 ) -> Result<(), AllocError>
     ensures { OnOk result (string_bytes text.new
-        ≡ string_bytes text.old ++ beside_bounds rules (beside_of helped.now)) }
+        ≡ string_bytes text.old ++ beside_bounds rules root.now (beside_of helped.now)) }
 {
     let process = helped.member.process;
     push_execs(text, Time::Ever(helped.execs))?;
     push_receives(text, rules, Time::Ever(helped.own), process)?;
+    text.push_str(root)?;
     push_opened(alloc, text, rules, Time::Ever(helped.own), process)?;
     push_unveiled(text, process)
 }

@@ -28,6 +28,7 @@ mod openings;
 mod places;
 mod process_head;
 mod process_list;
+mod root_line;
 mod state;
 mod together_list;
 mod veil_columns;

@@ -8,6 +8,7 @@ ghost use Rattle.pua_texts.specs.TogetherLines.{member_lines, together_heading};
 
 use crate::file_lines::push_files;
 use crate::members::Member;
+use crate::root_line::root_text;
 use crate::state::push_held;
 use pua_calls::Rules;
 use pua_tree::{FileTree, OutOfMemory};
@@ -73,8 +74,8 @@ fn push_states<T: FileTree>(
     Ok(())
 }
 
-/// Adds the state of a process: its number, whether it lives, by which rules, what it holds, and
-/// what it has open.
+/// Adds the state of a process: its number, whether it lives, by which rules, what it holds, its
+/// root, and what it has open.
 fn push_state<T: FileTree>(
     alloc: Global,
     text: &mut String,
@@ -91,5 +92,7 @@ fn push_state<T: FileTree>(
     }
     writeln!(text, "process {} alive", member.number)?;
     push_held(alloc, text, rules, member.process)?;
+    let root = root_text(alloc, tree, member.process)?;
+    text.push_str(root.as_str())?;
     push_files(alloc, text, tree, member.process)
 }

@@ -12,7 +12,7 @@ use crate::process_head::ProcessHead;
 use crate::process_list::ProcessList;
 use crate::state::{Heading, Time};
 use pua_calls::{CallTable, Rules};
-use pua_objects::list_items;
+use pua_objects::{Shown, list_items};
 use pua_policy::Process;
 use pua_script::World;
 use pua_tree::{FileTree, OutOfMemory};
@@ -84,6 +84,7 @@ fn begin_list<'t, T: FileTree>(
 {
     let head = ProcessHead::begin(alloc, tree, heading, process)?;
     let items = list_items(alloc, tree, process)?;
-    let lines = object_lines(alloc, process, table, items.as_slice())?;
+    let shown = Shown::of(alloc, tree, process)?;
+    let lines = object_lines(alloc, tree, shown, process, table, items.as_slice())?;
     ProcessList::new(alloc, head, lines, Endings::plain(alloc))
 }

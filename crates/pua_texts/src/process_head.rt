@@ -10,6 +10,7 @@ ghost use Rattle.pua_texts.specs.States.{living_veils};
 use crate::block::Block;
 use crate::file_lines::push_files;
 use crate::places::VeilPaths;
+use crate::root_line::root_text;
 use crate::state::{Heading, state_text};
 use crate::veil_line::add_veils;
 use pua_calls::Perms;
@@ -52,7 +53,8 @@ impl<'t> ProcessHead<'t> {
         ensures { IfOk result (λ head.
             head ≡ head_of (T.content tree.now) heading process.now) }
     {
-        let Ok(text) = state_text(alloc, heading, process) else {
+        let root = root_text(alloc, tree, process)?;
+        let Ok(text) = state_text(alloc, heading, root.as_str(), process) else {
             return Err(OutOfMemory);
         };
         let veils = veils_of_living(alloc, process)?;

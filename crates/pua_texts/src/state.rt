@@ -37,18 +37,19 @@ pub(crate) struct Heading {
     pub(crate) number: u32,
 }
 
-/// The heading of a list, and the lines of the state of its process before those of its veils. The
-/// only error is that a growth was refused.
+/// The heading of a list, and the lines of the state of its process before those of its veils,
+/// among them this one of its root. The only error is that a growth was refused.
 pub(crate) fn state_text(
     alloc: Global,
     heading: Heading,
+    root: &str,
     process: &Process,
 ) -> Result<String, AllocError>
-    ensures { IfOk result (λ text.
-        string_bytes text ≡ heading_line heading ++ own_lines heading process.now) }
+    ensures { IfOk result (λ text. string_bytes text
+        ≡ heading_line heading ++ own_lines heading root.now process.now) }
 {
     let mut text = heading_text(alloc, heading)?;
-    push_own(alloc, &mut text, heading, process)?;
+    push_own(alloc, &mut text, heading, root, process)?;
     Ok(text)
 }
 
@@ -87,15 +88,16 @@ fn push_own(
     alloc: Global,
     text: &mut String,
     heading: Heading,
+    root: &str,
     process: &Process,
 ) -> Result<(), AllocError>
     ensures { OnOk result (string_bytes text.new
-        ≡ string_bytes text.old ++ own_lines heading process.now) }
+        ≡ string_bytes text.old ++ own_lines heading root.now process.now) }
 {
     if process.ended() {
         return push_line(text, "process ", "ended");
     }
-    push_living(alloc, text, heading, process)
+    push_living(alloc, text, heading, root, process)
 }
 
 /// Adds the lines of a living process.
@@ -103,14 +105,15 @@ fn push_living(
     alloc: Global,
     text: &mut String,
     heading: Heading,
+    root: &str,
     process: &Process,
 ) -> Result<(), AllocError>
     ensures { OnOk result (string_bytes text.new
-        ≡ string_bytes text.old ++ living_lines heading process.now) }
+        ≡ string_bytes text.old ++ living_lines heading root.now process.now) }
 {
     push_line(text, "process ", "alive")?;
     push_held(alloc, text, heading.rules, process)?;
-    push_bounds(alloc, text, heading.rules, heading.time, process)
+    push_bounds(alloc, text, heading.rules, heading.time, root, process)
 }
 
 /// Adds by which rules it is, what a process holds, and whether it may put veils. The only error is
@@ -132,20 +135,23 @@ pub(crate) fn push_held(
     push_line(text, "unveil ", unveil_state(process))
 }
 
-/// Adds what becomes of a list for ever at an exec, that files can still be received, what promises
-/// open by themselves, and that there is no veil. The only error is that a growth was refused.
+/// Adds what becomes of a list for ever at an exec, that files can still be received, this line of
+/// a root, what promises open by themselves, and that there is no veil. The only error is that a
+/// growth was refused.
 pub(crate) fn push_bounds(
     alloc: Global,
     text: &mut String,
     rules: Rules,
     time: Time,
+    root: &str,
     process: &Process,
 ) -> Result<(), AllocError>
     ensures { OnOk result (string_bytes text.new
-        ≡ string_bytes text.old ++ bound_lines rules time process.now) }
+        ≡ string_bytes text.old ++ bound_lines rules time root.now process.now) }
 {
     push_execs(text, time)?;
     push_receives(text, rules, time, process)?;
+    text.push_str(root)?;
     push_opened(alloc, text, rules, time, process)?;
     push_unveiled(text, process)
 }

@@ -59,7 +59,7 @@ fn begin_list<'t, T: FileTree>(
         return ProcessList::new(alloc, head, Vec::new(alloc), Endings::plain(alloc));
     };
     let time = Time::Ever(joint.list.execs);
-    push_bounds(alloc, &mut text, rules, time, joint.one)?;
+    push_bounds(alloc, &mut text, rules, time, "", joint.one)?;
     let head = ProcessHead::of(text, joint.one.veils(alloc)?, files);
     let lines = ever_lines(alloc, joint.list.rows.as_slice())?;
     ProcessList::new(alloc, head, lines, Endings::plain(alloc))

@@ -14,7 +14,7 @@ use crate::process_list::ProcessList;
 use crate::state::{Heading, Time};
 use crate::veil_columns::veil_columns;
 use pua_calls::{CallTable, Rules};
-use pua_objects::list_items;
+use pua_objects::{Shown, list_items};
 use pua_policy::Process;
 use pua_script::World;
 use pua_tree::{FileTree, OutOfMemory};
@@ -89,6 +89,8 @@ fn begin_list<'t, T: FileTree>(
     let head = ProcessHead::begin(alloc, tree, heading, process)?;
     let items = list_items(alloc, tree, process)?;
     let mut columns = veil_columns(alloc, tree, process, lines)?;
-    let lines = why_lines(alloc, process, table, items.as_slice(), &mut columns)?;
+    let shown = Shown::of(alloc, tree, process)?;
+    let items = items.as_slice();
+    let lines = why_lines(alloc, tree, shown, process, table, items, &mut columns)?;
     ProcessList::new(alloc, head, lines, columns)
 }

@@ -37,7 +37,7 @@ cover_lack (only {a = a} {b = b} less) perms s e f = by (holds a perms) e
     by false e = sym (some_is EACCES s e)
 
 pub record Covered (t : Tree) (l m s : ProcessState) : Type 0 where
-  pub first : l.dir ≡ m.dir
+  pub first : l.start ≡ m.start
   pub later : StateWithin m s
   pub misses : (x : Found) (perms : ℕ) →
       Misses (cover_fault (cover t l x) perms) (cover_fault (cover t m x) perms) (cover_fault (cover t s x) perms)
@@ -45,12 +45,12 @@ pub record Covered (t : Tree) (l m s : ProcessState) : Type 0 where
 
 module _ (t : Tree) (l m s : ProcessState) (c : Covered t l m s) where
   pub at_path : (whose : Rules) (end : Ending) (text : List ℕ) (last : Last) (f g h : Found → Decision) → ((x : Found) → Agree (f x) (g x) (h x)) →
-      Agree (on_named refusals.failed (path_named whose t l.dir end text last) f)
-      (on_named refusals.failed (path_named whose t m.dir end text last) g)
-      (on_named refusals.failed (path_named whose t s.dir end text last) h)
-  at_path whose end text last f g h = named_check (path_named whose t l.dir end text last) (path_named whose t m.dir end text last)
-      (path_named whose t s.dir end text last) (ap (λ d. path_named whose t d end text last) c.first)
-      (ap (λ d. path_named whose t d end text last) c.later.dir) f g h
+      Agree (on_named refusals.failed (path_named whose t l.start end text last) f)
+      (on_named refusals.failed (path_named whose t m.start end text last) g)
+      (on_named refusals.failed (path_named whose t s.start end text last) h)
+  at_path whose end text last f g h = named_check (path_named whose t l.start end text last) (path_named whose t m.start end text last)
+      (path_named whose t s.start end text last) (ap (λ d. path_named whose t d end text last) c.first)
+      (ap (λ d. path_named whose t d end text last) c.later.start) f g h
 
   abbrev fault : ProcessState → Found → ℕ → Option Errno
   fault z x perms = cover_fault (cover t z x) perms
@@ -64,7 +64,7 @@ module _ (t : Tree) (l m s : ProcessState) (c : Covered t l m s) where
     checked fails x = check (or_fault (fails x) (option_map (refusals.misfit Sole x) (misfit table.whose t call (object_of t x)))) (Ok (f x))
 
     abbrev named : ProcessState → (Found → Option Errno) → Decision
-    named z fails = on_named refusals.failed (path_named table.whose t z.dir (ending_of call) path (last_of call)) (checked fails)
+    named z fails = on_named refusals.failed (path_named table.whose t z.start (ending_of call) path (last_of call)) (checked fails)
 
     pub named_agrees : (i j k : Found → Option Errno) → ((x : Found) → Misses (i x) (j x) (k x)) → ((x : Found) → j x ≡ None → k x ≡ None) →
         Agree (named l i) (named m j) (named s k)
@@ -97,4 +97,4 @@ module _ (t : Tree) (l m s : ProcessState) (c : Covered t l m s) where
       third z x y = check (or_fault (fault z x one) (fault z y two)) (f x y)
 
       second : ProcessState → Found → Decision
-      second z x = on_named refusals.failed (path_named whose t z.dir end new pair.new.last) (third z x)
+      second z x = on_named refusals.failed (path_named whose t z.start end new pair.new.last) (third z x)

@@ -13,12 +13,12 @@ use Rattle.pua_path.specs.declared.found.Last.TheVariants.{Followed}
 use Rattle.pua_path.specs.declared.text.Ending.{Ending}
 use Rattle.pua_path.specs.declared.text.Ending.TheVariants as ending
 use Rattle.pua_calls.specs.Calls.{CallTable, PairRule, rule_of, last_of, ending_of}
-use Rattle.pua_calls.specs.Promises.{holds, proc, recvfd, unveil, error}
+use Rattle.pua_calls.specs.Promises.{holds, proc, recvfd, unveil, error, id}
 use Rattle.pua_calls.specs.declared.call.Call.{Call}
 use Rattle.pua_calls.specs.declared.call.Call.TheVariants as call
 use Rattle.pua_calls.specs.declared.rules.Rules.{Rules}
 use Rattle.pua_calls.specs.declared.rules.Rules.TheVariants.{Standard, Openbsd}
-use Rattle.pua_policy.specs.States.{ProcessState, Unveiled, Pledged, file_at, working_dir, may_any, place_fault, error_frees_exec, has_error, veil_at}
+use Rattle.pua_policy.specs.States.{ProcessState, Unveiled, Pledged, file_at, start, may_any, place_fault, error_frees_exec, has_error, veil_at}
 use Rattle.pua_policy.specs.States.{is_within, unveil_fault, most_places, held_set}
 use Rattle.pua_policy.specs.Misfits.{misfit}
 use Rattle.pua_policy.specs.Verdict.{or_fault, object_of, place_of, refusal_of}
@@ -31,18 +31,19 @@ use Rattle.pua_policy.specs.declared.answer.UnveilFault.TheVariants.{NotPermitte
 use Rattle.pua_script.specs.Decide.{Change, AddEvent, Decision, Requester, Side, Sole, Old, New, refusals, asker_of, decide, decide_by, call_by}
 use Rattle.pua_script.specs.Decide.{object_by, symlink_by, pair_by, objects_by, covers_by, rename_by, asks_directory, link_by, veil_by, veiling_by}
 use Rattle.pua_script.specs.Decide.{pledge_by, pledging_by, unless_refused, unless_failed, on_named, change_by, adding, holding, link_node, fault_if}
-use Rattle.pua_script.specs.Decide.{is_unknown, given_set, unveil_errno, path_named, asker_for, asker_past, past_promises, cover_past}
+use Rattle.pua_script.specs.Decide.{is_unknown, given_set, unveil_errno, path_named, asker_for, asker_past, past_promises, cover_past, rooting}
 use Rattle.pua_script.specs.Openings.{Opening, opening_of}
 use Rattle.pua_script.specs.declared.request.Given.{Given}
 use Rattle.pua_script.specs.declared.request.Action.{Action}
 use Rattle.pua_script.specs.declared.request.Action.TheVariants.{OnPath, Symlink, Rename, Link, Pledge, Unveil, Lock, Fork, Exit, Uses, Comment}
-use Rattle.pua_script.specs.declared.request.Action.TheVariants.{Hold, Close, Fchdir, Take}
+use Rattle.pua_script.specs.declared.request.Action.TheVariants.{Hold, Close, Fchdir, Take, Chroot}
 use Rattle.pua_tight.specs.Narrower.{SetWithin, unset, within, StateWithin, GivenWithin, given_none, given_less, given_unknown}
 use Rattle.pua_tight.specs.Narrower.{ActionWithin, as_given, less_pledged, less_unveiled}
 use Rattle.pua_policy.proofs.ForCallers.{holds_through}
 use Rattle.pua_tight.proofs.Sets.{or_more, and_more, two_bools, asked_within}
 use Rattle.pua_tight.proofs.Openers.{opened_more}
 use Rattle.pua_tight.proofs.Within.{held_within, kept_within, as_many, cover_within, fault_within, may_within}
+use Rattle.pua_path.specs.declared.found.Start.{Start}
 
 -- each check that the first passes the second passes, and paths name the same to both
 pub record Easier (a b : Requester) : Type 0 where
@@ -170,12 +171,16 @@ module _ (table : CallTable) (t : Tree) (a b : Requester) (easier : Easier a b) 
       (easier.promises (rule_of table call).alternatives) (object_more call path (λ object. Ok (holding t number call object)))
   granted_more (Close number) = past_named c (a.file number) (b.file number) _ _ (easier.file number) (λ file e. e)
   granted_more (Fchdir number) = past_named c (a.file number) (b.file number) _ _ (easier.file number) (λ file e. e)
+  granted_more (Chroot path) = past_refused c (a.promises (id ∷ [])) (b.promises (id ∷ []))
+      (object_by refusals table t a call.Chdir path (λ object. Ok (rooting object)))
+      (object_by refusals table t b call.Chdir path (λ object. Ok (rooting object)))
+      (easier.promises (id ∷ [])) (object_more call.Chdir path (λ object. Ok (rooting object)))
   granted_more (Take number from theirs) =
       past_refused c (a.promises (recvfd ∷ [])) (b.promises (recvfd ∷ [])) _ _ (easier.promises (recvfd ∷ [])) (λ e. e)
   granted_more Comment = λ e. e
 
--- one that passes every check, in a directory, with open files
-abbrev pub free : ℕ → List (ℕ × OpenFile) → Requester
+-- one that passes every check, whose paths start so, with open files
+abbrev pub free : Start → List (ℕ × OpenFile) → Requester
 free dir files = record {
   promises = λ sets. None;
   path = λ whose side t end text last. path_named whose t dir end text last;
@@ -187,7 +192,7 @@ free dir files = record {
 }
 
 -- whatever one checks whose paths name what they name there
-freer : (a : Requester) (dir : ℕ) (files : List (ℕ × OpenFile)) →
+freer : (a : Requester) (dir : Start) (files : List (ℕ × OpenFile)) →
     ((whose : Rules) (side : Side) (t : Tree) (end : Ending) (text : List ℕ) (last : Last) →
     a.path whose side t end text last ≡ path_named whose t dir end text last) →
     ((number : ℕ) → a.file number ≡ ok_or (file_at files number) EBADF) → Easier a (free dir files)
@@ -201,21 +206,21 @@ freer a dir files paths opens = record {
   file = opens;
 }
 
-freer_past : (h : ProcessState) (o : Option Opening) → Easier (asker_past o (asker_of h)) (free (working_dir h) h.files)
-freer_past h None = freer (asker_of h) (working_dir h) h.files (λ whose side t end text last. refl) (λ number. refl)
+freer_past : (h : ProcessState) (o : Option Opening) → Easier (asker_past o (asker_of h)) (free (start h) h.files)
+freer_past h None = freer (asker_of h) (start h) h.files (λ whose side t end text last. refl) (λ number. refl)
 freer_past h (Some o) =
-    freer (past_promises o.asks_veils (asker_of h)) (working_dir h) h.files (λ whose side t end text last. refl) (λ number. refl)
+    freer (past_promises o.asks_veils (asker_of h)) (start h) h.files (λ whose side t end text last. refl) (λ number. refl)
 
-freer_for : (table : CallTable) (h : ProcessState) (action : Action) → Easier (asker_for table h action (asker_of h)) (free (working_dir h) h.files)
+freer_for : (table : CallTable) (h : ProcessState) (action : Action) → Easier (asker_for table h action (asker_of h)) (free (start h) h.files)
 freer_for table h (OnPath call path) = freer_past h (opening_of table h call path)
 freer_for table h (Hold number call path) = freer_past h (opening_of table h call path)
 freer_for table h _ = freer_past h None
 
 -- what is granted is what it would be without checks
 pub freely : (table : CallTable) (t : Tree) (h : ProcessState) (action : Action) (c : Change) → decide table t h action ≡ Ok c →
-    decide_by refusals table t (free (working_dir h) h.files) action ≡ Ok c
+    decide_by refusals table t (free (start h) h.files) action ≡ Ok c
 freely table t h action c =
-    granted_more table t (asker_for table h action (asker_of h)) (free (working_dir h) h.files) (freer_for table h action) c action
+    granted_more table t (asker_for table h action (asker_of h)) (free (start h) h.files) (freer_for table h action) c action
 
 may_from : (m : May) → refusal_of m ≡ None → m ≡ may.Yes
 may_from may.Yes e = refl
@@ -295,7 +300,7 @@ module _ (h k : ProcessState) (w : StateWithin h k) where
   pub easier : Easier (asker_of h) (asker_of k)
   easier = record {
     promises = λ sets e. ap refusal_of (may_within h k w sets (may_from (may_any h sets) e));
-    path = λ whose side t end text last. ap (λ d. path_named whose t d end text last) w.dir;
+    path = λ whose side t end text last. ap (λ d. path_named whose t d end text last) w.start;
     cover = λ side t object perms. fault_within (cover_within w.veils t object) perms;
     beyond = λ whose p e is. ap (λ x. cond x None (Some EPERM)) (gives_more whose p e (none_if (may_give whose h p e) is));
     locked = λ e. ap (λ x. fault_if x EPERM) (sym w.locked) ∙ e;
@@ -335,8 +340,8 @@ module _ (table : CallTable) (t : Tree) (h k : ProcessState) (w : StateWithin h 
       by_ok (AddEvent (Unveiled (place_of object) a)) (AddEvent (Unveiled (place_of object) b)) c d (unveils less) e f
   veil_within path a b less (Err errno) e f = cc
 
-  pledge_within : {p q x y : Given} → GivenWithin p q → GivenWithin x y → pledge_by refusals (free (working_dir h) h.files) table.whose p x ≡ Ok c →
-      pledge_by refusals (free (working_dir k) k.files) table.whose q y ≡ Ok d → ChangeWithin c d
+  pledge_within : {p q x y : Given} → GivenWithin p q → GivenWithin x y → pledge_by refusals (free (start h) h.files) table.whose p x ≡ Ok c →
+      pledge_by refusals (free (start k) k.files) table.whose q y ≡ Ok d → ChangeWithin c d
   pledge_within given_none given_none e f = by_ok _ _ c d (pledges unset unset) e f
   pledge_within (given_less less) given_none e f = by_ok _ _ c d (pledges (within less) unset) e f
   pledge_within given_none (given_less less) e f = by_ok _ _ c d (pledges unset (within less)) e f
@@ -347,14 +352,14 @@ module _ (table : CallTable) (t : Tree) (h k : ProcessState) (w : StateWithin h 
 
   pub change_within : {x y : Action} → ActionWithin x y → decide table t h x ≡ Ok c → decide table t k y ≡ Ok d → ChangeWithin c d
   change_within (as_given {action = action}) e f =
-      let here : decide_by refusals table t (free (working_dir h) h.files) action ≡ Ok c = freely table t h action c e in
-      let there : decide_by refusals table t (free (working_dir k) k.files) action ≡ Ok d = freely table t k action d f in
-      subst (ChangeWithin c) (is_ok c d (sym here ∙ (λ i. decide_by refusals table t (free (w.dir i) (w.files i)) action) ∙ there)) alike
+      let here : decide_by refusals table t (free (start h) h.files) action ≡ Ok c = freely table t h action c e in
+      let there : decide_by refusals table t (free (start k) k.files) action ≡ Ok d = freely table t k action d f in
+      subst (ChangeWithin c) (is_ok c d (sym here ∙ (λ i. decide_by refusals table t (free (w.start i) (w.files i)) action) ∙ there)) alike
   change_within (less_pledged {p = p} {q = q} {e = x} {f = y} first second) e f =
       pledge_within first second (freely table t h (Pledge p x) c e) (freely table t k (Pledge q y) d f)
   change_within (less_unveiled {path = path} {a = a} {b = b} less) e f =
-      veil_within path a b less (path_named table.whose t (working_dir k) ending.Dot path Followed)
+      veil_within path a b less (path_named table.whose t (start k) ending.Dot path Followed)
       (ap (λ dir. on_named refusals.failed (path_named table.whose t dir ending.Dot path Followed)
-      (λ object. Granted (AddEvent (Unveiled (place_of object) a)))) (sym w.dir)
+      (λ object. Granted (AddEvent (Unveiled (place_of object) a)))) (sym w.start)
       ∙ freely table t h (Unveil path (Some a)) c e)
       (freely table t k (Unveil path (Some b)) d f)

@@ -44,7 +44,7 @@ handed_more table h k less a b here there =
     subst (λ (n : ℕ). holds n a ≡ true) same more.2
 
 started_within : (h k : ProcessState) → StateWithin h k → (a b : ℕ) → holds b a ≡ true → StateWithin (as_started h a) (as_started k b)
-started_within h k less a b more = all_within (within more) unset less.veils less.locked less.dir less.ended less.files
+started_within h k less a b more = all_within (within more) unset less.veils less.locked less.start less.ended less.files
 
 -- one of some processes has all that a process has
 pub record OneWider (agents : List ProcessState) (h : ProcessState) : Type 0 where

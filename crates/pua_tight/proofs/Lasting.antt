@@ -187,7 +187,7 @@ module _ (table : CallTable) (t : Tree) (well : WellFormed t) where
     -- both through execs
     module _ (a b : ℕ) (less : holds b a ≡ true) where
       wide : StateWithin (with_both h a) (with_both k b)
-      wide = all_within (within (union_within (held_set h) (held_set k) a b (held_within w) less)) unset w.veils w.locked w.dir w.ended w.files
+      wide = all_within (within (union_within (held_set h) (held_set k) a b (held_within w) less)) unset w.veils w.locked w.start w.ended w.files
 
       passes_more : (c : Call) → is_promised_by_one table h a c ≡ true → is_promised_by_one table k b c ≡ true
       passes_more c e =

@@ -12,7 +12,7 @@ use Rattle.pua_path.specs.declared.found.Found.{Found}
 use Rattle.pua_path.specs.declared.found.Last.TheVariants.{Followed}
 use Rattle.pua_path.specs.declared.text.Ending.TheVariants as ending
 use Rattle.pua_calls.specs.Calls.{CallTable, rule_of}
-use Rattle.pua_calls.specs.Promises.{holds, proc, recvfd, unveil, error}
+use Rattle.pua_calls.specs.Promises.{holds, proc, recvfd, unveil, error, id}
 use Rattle.pua_calls.specs.declared.call.Call.{Call}
 use Rattle.pua_calls.specs.declared.call.Call.TheVariants as call
 use Rattle.std.specs.List.{list_any}
@@ -26,12 +26,12 @@ use Rattle.pua_policy.specs.declared.answer.Refusal.{Refusal}
 use Rattle.pua_policy.specs.declared.answer.UnveilFault.TheVariants.{NotPermitted, TooManyPlaces}
 use Rattle.pua_script.specs.Decide.{NoChange, Change, AddEvent, CopyAs, TakeFile, Decision, refusals, asker_of, decide, object_by}
 use Rattle.pua_script.specs.Decide.{objects_by, rename_by, asks_directory, link_by, veil_by, unless_refused, change_by, adding, holding, close_by, fchdir_by}
-use Rattle.pua_script.specs.Decide.{link_node, fault_if, is_unknown, given_set, unveil_errno, asker_past, past_promises}
+use Rattle.pua_script.specs.Decide.{link_node, fault_if, is_unknown, given_set, unveil_errno, asker_past, past_promises, rooting}
 use Rattle.pua_script.specs.Openings.{Opening, opening_of}
 use Rattle.pua_script.specs.declared.request.Given.{Given}
 use Rattle.pua_script.specs.declared.request.Action.{Action}
 use Rattle.pua_script.specs.declared.request.Action.TheVariants.{OnPath, Symlink, Rename, Link, Pledge, Unveil, Lock, Fork, Exit, Uses, Comment}
-use Rattle.pua_script.specs.declared.request.Action.TheVariants.{Hold, Close, Fchdir, Take}
+use Rattle.pua_script.specs.declared.request.Action.TheVariants.{Hold, Close, Fchdir, Take, Chroot}
 use Rattle.pua_tight.specs.Narrower.{StateWithin}
 use Rattle.pua_policy.proofs.ForCallers.{holds_through}
 use Rattle.pua_tight.proofs.Within.{held_within, as_many}
@@ -50,6 +50,7 @@ use Rattle.pua_tight.proofs.MiddleWorldDecides.{valued_by, value, value_is, valu
 use Rattle.pua_tight.proofs.Covered.{Covered, at_path, named_agrees, object_agrees, pair_agrees}
 use Rattle.pua_tight.proofs.ThreeProcesses.{SetThree, LettersThree, three_unset, three_some, StateThree, CoverThree, three_all, three_nothing, three_only}
 use Rattle.pua_tight.proofs.ThreeProcesses.{held_three, error_outer, kept_three, cover_three, has_both, same_truth}
+use Rattle.pua_path.specs.Resolution.{from_top}
 
 cover_misses : {c d e : Cover} → CoverThree c d e → (perms : ℕ) → Misses (cover_fault c perms) (cover_fault d perms) (cover_fault e perms)
 cover_misses three_all perms v is = inl is
@@ -183,7 +184,7 @@ module _ (kept : ℕ) (table : CallTable) (t : Tree) (l m s : ProcessState) (w :
 
   covered : Covered t l m s
   covered = record {
-    first = w.dir;
+    first = w.start;
     later = later;
     misses = λ x. cover_misses (cover_three w.veils t x);
     outer = λ x. cover_outer (cover_three w.veils t x);
@@ -351,8 +352,13 @@ module _ (kept : ℕ) (table : CallTable) (t : Tree) (l m s : ProcessState) (w :
   same_agrees Exit one = granted_agree (AddEvent Ended)
   same_agrees (Uses sets) one = promises sets one.0 (Ok NoChange) (Ok NoChange) (Ok NoChange) (granted_agree NoChange)
       (plain_late (Ok NoChange) (Ok NoChange) refl)
-  same_agrees (Close number) one = λ e. ap (λ files. close_by refusals (free 0 files) number) later.files
-  same_agrees (Fchdir number) one = λ e. ap (λ files. fchdir_by refusals (free 0 files) number) later.files
+  same_agrees (Close number) one = λ e. ap (λ files. close_by refusals (free (from_top 0) files) number) later.files
+  same_agrees (Fchdir number) one = λ e. ap (λ files. fchdir_by refusals (free (from_top 0) files) number) later.files
+  same_agrees (Chroot path) one = promises (id ∷ []) (omega arith) (at l) (at m) (at s)
+      (object_agrees t l m s covered table call.Chdir path rooting) (plain_late (at m) (at s) (object_plain table t s call.Chdir path rooting))
+    where
+      at : ProcessState → Decision
+      at z = object_by refusals table t (asker_of z) call.Chdir path (λ x. Ok (rooting x))
   same_agrees (Take number from theirs) one = promises (recvfd ∷ []) (omega arith) (Ok (TakeFile number from theirs)) (Ok (TakeFile number from theirs))
       (Ok (TakeFile number from theirs)) (granted_agree (TakeFile number from theirs)) (plain_late (Ok (TakeFile number from theirs)) (Ok (TakeFile number from theirs)) refl)
   same_agrees Comment one = granted_agree NoChange

@@ -11,7 +11,7 @@ use Rattle.pua_path.specs.declared.found.Found.{Found}
 use Rattle.pua_path.specs.declared.found.Last.TheVariants.{Followed}
 use Rattle.pua_path.specs.declared.text.Ending.TheVariants as ending
 use Rattle.pua_calls.specs.Calls.{CallTable, rule_of}
-use Rattle.pua_calls.specs.Promises.{holds, proc, recvfd, unveil, error}
+use Rattle.pua_calls.specs.Promises.{holds, proc, recvfd, unveil, error, id}
 use Rattle.pua_calls.specs.declared.call.Call.{Call}
 use Rattle.pua_calls.specs.declared.call.Call.TheVariants as call
 use Rattle.std.specs.List.{list_any}
@@ -26,11 +26,11 @@ use Rattle.pua_policy.specs.declared.answer.Refusal.TheVariants.{Failed, Killed}
 use Rattle.pua_policy.specs.declared.answer.UnveilFault.TheVariants.{NotPermitted, TooManyPlaces}
 use Rattle.pua_script.specs.Decide.{Change, NoChange, AddEvent, CopyAs, TakeFile, Decision, refusals, asker_of, decide, object_by}
 use Rattle.pua_script.specs.Decide.{objects_by, rename_by, asks_directory, link_by, veil_by, unless_refused, unless_failed, change_by, adding, holding, close_by, fchdir_by}
-use Rattle.pua_script.specs.Decide.{link_node, fault_if, is_unknown, given_set, unveil_errno, Sole, asker_past, past_promises, cover_past}
+use Rattle.pua_script.specs.Decide.{link_node, fault_if, is_unknown, given_set, unveil_errno, Sole, asker_past, past_promises, cover_past, rooting}
 use Rattle.pua_script.specs.Openings.{Opening, opening_of}
 use Rattle.pua_script.specs.declared.request.Action.{Action}
 use Rattle.pua_script.specs.declared.request.Action.TheVariants.{OnPath, Symlink, Rename, Link, Pledge, Unveil, Lock, Fork, Exit, Uses, Comment}
-use Rattle.pua_script.specs.declared.request.Action.TheVariants.{Hold, Close, Fchdir, Take}
+use Rattle.pua_script.specs.declared.request.Action.TheVariants.{Hold, Close, Fchdir, Take, Chroot}
 use Rattle.pua_tight.specs.Narrower.{SetWithin, unset, within, StateWithin}
 use Rattle.pua_policy.proofs.ForCallers.{holds_through}
 use Rattle.pua_tight.proofs.Sets.{two_bools}
@@ -43,6 +43,7 @@ use Rattle.pua_tight.proofs.Covered.{Covered, at_path, named_agrees, object_agre
 use Rattle.pua_tight.proofs.Openers.{opened_more}
 use Rattle.pua_tight.proofs.RareRefusals.{rare, checked_plain, path_plain, locked_plain, object_plain, opened_plain, objects_plain}
 use Rattle.pua_tight.proofs.RareRefusals.{rename_plain, link_plain, veiling_plain}
+use Rattle.pua_path.specs.Resolution.{from_top}
 
 -- the refusal of one that lacks a promise
 abbrev pub valued_by : Bool → Bool → Refusal
@@ -134,7 +135,7 @@ module _ (table : CallTable) (t : Tree) (g h k : ProcessState) (v : StateWithin 
 
   covered : Covered t g h k
   covered = record {
-    first = v.dir;
+    first = v.start;
     later = w;
     misses = λ x perms s is. inr (cover_back (cover_within v.veils t x) perms s is);
     outer = λ x. cover_lack (cover_twice (cover_within v.veils t x) (cover_within w.veils t x));
@@ -284,8 +285,13 @@ module _ (table : CallTable) (t : Tree) (g h k : ProcessState) (v : StateWithin 
   between (Uses sets) = promised_one sets (Ok NoChange) (Ok NoChange) (Ok NoChange) (λ e. refl) (plain_late refl)
   between (Hold number call path) = called call path (holding t number call) (opening_of table g call path) (opening_of table h call path)
       (opening_of table k call path) (opened_more g h v table call path) (opened_more h k w table call path)
-  between (Close number) = λ e. ap (λ files. close_by refusals (free 0 files) number) w.files
-  between (Fchdir number) = λ e. ap (λ files. fchdir_by refusals (free 0 files) number) w.files
+  between (Close number) = λ e. ap (λ files. close_by refusals (free (from_top 0) files) number) w.files
+  between (Fchdir number) = λ e. ap (λ files. fchdir_by refusals (free (from_top 0) files) number) w.files
+  between (Chroot path) = promised_one (id ∷ []) (at g) (at h) (at k) (object_agrees t g h k covered table call.Chdir path rooting)
+      (plain_late (object_plain table t k call.Chdir path rooting))
+    where
+      at : ProcessState → Decision
+      at z = object_by refusals table t (asker_of z) call.Chdir path (λ x. Ok (rooting x))
   between (Take number from theirs) = promised_one (recvfd ∷ []) (Ok (TakeFile number from theirs)) (Ok (TakeFile number from theirs))
       (Ok (TakeFile number from theirs)) (λ e. refl) (plain_late refl)
   between Comment = λ e. refl

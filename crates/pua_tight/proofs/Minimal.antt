@@ -12,10 +12,10 @@ use Rattle.pua_path.specs.Fits.{node_named}
 use Rattle.pua_path.specs.declared.errno.Errno.{Errno}
 use Rattle.pua_path.specs.declared.errno.Errno.TheVariants.{ENOSPC, EAGAIN, EBADF, EPERM, EINVAL, ENOTDIR}
 use Rattle.pua_path.specs.declared.text.Ending.TheVariants as ending
-use Rattle.pua_calls.specs.Promises.{holds, unveil, proc, recvfd, sendfd}
+use Rattle.pua_calls.specs.Promises.{holds, unveil, proc, recvfd, sendfd, id}
 use Rattle.pua_calls.specs.Calls.{CallTable, rule_of}
 use Rattle.pua_calls.specs.declared.call.Call.TheVariants as call
-use Rattle.pua_policy.specs.States.{ProcessState, Filed, Moved, file_at, held_set, is_directory, is_pledged, may_any}
+use Rattle.pua_policy.specs.States.{ProcessState, Filed, Moved, ToDir, file_at, held_set, is_directory, is_pledged, may_any}
 use Rattle.pua_policy.specs.declared.open_file.OpenFile.{OpenFile}
 use Rattle.pua_policy.specs.Verdict.{refusal_of}
 use Rattle.pua_policy.specs.declared.answer.May.{May}
@@ -27,7 +27,7 @@ use Rattle.pua_script.specs.Requests.{Asked}
 use Rattle.pua_script.specs.Family.{is_okay}
 use Rattle.pua_script.specs.Decide.{Change, NoChange, AddNode, CutRow, ShiftRow, TieRow, BeginProgram, AddEvent, CopyAs, TakeFile, Decision, decide}
 use Rattle.pua_script.specs.Decide.{refusals, unless_refused, unless_failed, change_by, adding, holding, link_node, on_named, rename_by, asks_directory}
-use Rattle.pua_script.specs.Decide.{link_by, fault_if, is_unknown, asker_of, asker_past, decide_by}
+use Rattle.pua_script.specs.Decide.{link_by, fault_if, is_unknown, asker_of, asker_past, decide_by, rooting}
 use Rattle.pua_script.specs.Openings.{Opening, opening_of}
 use Rattle.pua_script.specs.Replay.{World, kept_at, Fails, Copies, edit_effect, edited_tree, change_effect, refusal_effect}
 use Rattle.pua_script.specs.Replay.{sent_by, sent_of, take_effect}
@@ -36,7 +36,7 @@ use Rattle.pua_script.specs.declared.answer.Answer.{Answer}
 use Rattle.pua_script.specs.declared.answer.Answer.TheVariants as answer
 use Rattle.pua_script.specs.declared.request.Action.{Action}
 use Rattle.pua_script.specs.declared.request.Action.TheVariants.{OnPath, Symlink, Rename, Link, Pledge, Unveil, Lock, Fork, Exit, Uses, Comment}
-use Rattle.pua_script.specs.declared.request.Action.TheVariants.{Hold, Close, Fchdir, Take}
+use Rattle.pua_script.specs.declared.request.Action.TheVariants.{Hold, Close, Fchdir, Take, Chroot}
 use Rattle.pua_tight.specs.Narrower.{StateWithin, ProcessesWithin, WorldWithin, AskWithin, AsksWithin, no_asks, asks}
 use Rattle.pua_tight.proofs.Sets.{three_bools}
 use Rattle.pua_tight.proofs.Decided.{easier_for, granted_more}
@@ -122,14 +122,15 @@ decide_full table t h (Close number) = by (file_at h.files number)
     by (Some file) = refl
 decide_full table t h (Fchdir number) = by (file_at h.files number)
   where
-    into : (b : Bool) (file : OpenFile) → full (unless_failed refusals.failed (fault_if b ENOTDIR) (Ok (AddEvent (Moved file.node)))) ≡ false
+    into : (b : Bool) (file : OpenFile) → full (unless_failed refusals.failed (fault_if b ENOTDIR) (Ok (AddEvent (Moved (ToDir file.node))))) ≡ false
     into true file = refl
     into false file = refl
 
     by : (o : Option OpenFile) → full (on_named refusals.failed (ok_or o EBADF) (λ file.
-        unless_failed refusals.failed (fault_if (not (is_directory file)) ENOTDIR) (Ok (AddEvent (Moved file.node))))) ≡ false
+        unless_failed refusals.failed (fault_if (not (is_directory file)) ENOTDIR) (Ok (AddEvent (Moved (ToDir file.node)))))) ≡ false
     by None = refl
     by (Some file) = into (not (is_directory file)) file
+decide_full table t h (Chroot path) = promise_full (may_any h (id ∷ [])) _ (not_full _ (object_plain table t h call.Chdir path rooting))
 decide_full table t h (Take number from theirs) = promise_full (may_any h (recvfd ∷ [])) _ refl
 decide_full table t h Comment = refl
 

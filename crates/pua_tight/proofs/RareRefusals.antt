@@ -1,12 +1,12 @@
 -- No check behind the promises is answered ENOSYS, ENOSPC or EAGAIN, or ends the process.
 use Rattle.std.proofs.Common.{◌≡◌, ℕ, zero, suc, List, [], ◌∷◌, ◌++◌, refl, sym, ap, ◌∙◌, Bool, true, false, cond, ◌&&◌, not}
 use Rattle.std.specs.Prelude.{Option, Some, None, Result, Ok, Err, option_map, is_some}
-use Rattle.pua_tree.specs.Tree.{Tree, Spot, is_dir, is_empty, above}
+use Rattle.pua_tree.specs.Tree.{Tree, Spot, is_empty}
 use Rattle.pua_tree.specs.Steps.{◌>>=◌}
 use Rattle.pua_tree.specs.Edits.{is_inside, is_same_node}
-use Rattle.pua_path.specs.Paths.{path_fault, text_fault, text_errno, parts_of, is_absolute}
-use Rattle.pua_path.specs.Resolution.{Resolved, Directory, Linked, Plain, Nothing, standing_at, is_followed, slot_or, walk, start_of}
-use Rattle.pua_path.specs.Resolution.{resolution_of_text, resolve_parts, most_links}
+use Rattle.pua_path.specs.Paths.{path_fault, text_fault, text_errno, parts_of}
+use Rattle.pua_path.specs.Resolution.{Resolved, RootedTree, Directory, Linked, Plain, Nothing, standing_at, is_followed, slot_or, walk, start_of}
+use Rattle.pua_path.specs.Resolution.{above_in, resolution_of_text, resolve_parts, most_links, seen_from, starts}
 use Rattle.pua_path.specs.Fits.{node_named, spot_named}
 use Rattle.pua_path.specs.declared.errno.Errno.{Errno}
 use Rattle.pua_path.specs.declared.errno.Errno.TheVariants.{EPERM, ENOENT, EACCES, EINVAL, EEXIST, EISDIR, ENOTDIR, ENOTEMPTY, ELOOP}
@@ -19,6 +19,7 @@ use Rattle.pua_path.specs.declared.found.Part.{Part}
 use Rattle.pua_path.specs.declared.found.Part.TheVariants as parts
 use Rattle.pua_path.specs.declared.found.Found.{Found}
 use Rattle.pua_path.specs.declared.found.Found.TheVariants.{Whole, Slot}
+use Rattle.pua_path.specs.declared.found.Start.{Start}
 use Rattle.pua_path.specs.declared.found.Last.{Last}
 use Rattle.pua_path.specs.declared.found.Last.TheVariants.{Followed}
 use Rattle.pua_path.specs.declared.found.Way.{Way}
@@ -26,7 +27,7 @@ use Rattle.pua_path.specs.declared.found.Way.TheVariants as way
 use Rattle.pua_calls.specs.Promises.{holds}
 use Rattle.pua_calls.specs.Calls.{CallTable, PairRule, rule_of, ending_of, last_of}
 use Rattle.pua_calls.specs.declared.call.Call.{Call}
-use Rattle.pua_policy.specs.States.{ProcessState, unveil_fault, working_dir}
+use Rattle.pua_policy.specs.States.{ProcessState, unveil_fault, start}
 use Rattle.pua_policy.specs.Misfits.{misfit, misfit_errno}
 use Rattle.pua_policy.specs.Verdict.{cover, cover_fault, object_of, or_fault, place_of}
 use Rattle.pua_calls.specs.declared.fits.Misfit.{Misfit}
@@ -110,7 +111,7 @@ slot_plain : (rest : List Part) (found : Found) (errno : Errno) (links : ℕ) �
 slot_plain [] found errno links plain = refl
 slot_plain (part ∷ rest) found errno links plain = plain
 
-module _ (t : Tree) (mode : Last) (links : ℕ) (follow : ℕ → List ℕ → List Part → Resolved)
+module _ (t : RootedTree) (mode : Last) (links : ℕ) (follow : ℕ → List ℕ → List Part → Resolved)
     (follows : (from : ℕ) (target : List ℕ) (rest : List Part) → rare_end (follow from target rest) ≡ false) where
   linked_plain : (b : Bool) (from : ℕ) (target : List ℕ) (rest : List Part) (found : Found) →
       rare_end (cond b (follow from target rest) (Ok (found, links))) ≡ false
@@ -120,8 +121,8 @@ module _ (t : Tree) (mode : Last) (links : ℕ) (follow : ℕ → List ℕ → L
   walk_plain : (ps : List Part) (dir : ℕ) (by : Way) → rare_end (walk t mode links follow dir by ps) ≡ false
   walk_plain [] dir by = refl
   walk_plain (parts.Dot ∷ ps) dir by = walk_plain ps dir way.Dot
-  walk_plain (parts.DotDot ∷ ps) dir by = walk_plain ps (above t dir) way.DotDot
-  walk_plain (parts.Name name ∷ ps) dir by = elim (standing_at t dir name) as (λ s. rare_end (elim s [
+  walk_plain (parts.DotDot ∷ ps) dir by = walk_plain ps (above_in t dir) way.DotDot
+  walk_plain (parts.Name name ∷ ps) dir by = elim (standing_at t.tree dir name) as (λ s. rare_end (elim s [
     | Directory x ↦ walk t mode links follow x (way.Named dir name) ps
     | Linked x target ↦ cond (is_followed mode ps) (follow dir target ps) (Ok (Slot dir name (Some x), links))
     | Plain x ↦ slot_or ps (Slot dir name (Some x)) ENOTDIR links
@@ -133,11 +134,11 @@ module _ (t : Tree) (mode : Last) (links : ℕ) (follow : ℕ → List ℕ → L
     | Nothing ↦ slot_plain ps (Slot dir name None) ENOENT links refl
   ]
 
-resolve_plain : (links : ℕ) (t : Tree) (mode : Last) (dir : ℕ) (by : Way) (ps : List Part) →
+resolve_plain : (links : ℕ) (t : RootedTree) (mode : Last) (dir : ℕ) (by : Way) (ps : List Part) →
     rare_end (resolve_parts links t mode dir by ps) ≡ false
 resolve_plain zero t mode dir by ps = walk_plain t mode 0 (λ from target rest. Err ELOOP) (λ from target rest. refl) ps dir by
 resolve_plain (suc links) t mode dir by ps =
-    walk_plain t mode (suc links) _ (λ from target rest. resolve_plain links t mode (start_of target from) way.Top
+    walk_plain t mode (suc links) _ (λ from target rest. resolve_plain links t mode (start_of t.root target from) way.Top
     (parts_of ending.Dot target ++ rest)) ps dir by
 
 abbrev rare_name : Result Found Errno → Bool
@@ -152,17 +153,17 @@ named_if : (b : Bool) (r : Result Found Errno) → rare_name r ≡ false → rar
 named_if true r plain = refl
 named_if false r plain = plain
 
-named : (t : Tree) (from : ℕ) (end : Ending) (text : List ℕ) (mode : Last) → rare_name (resolution_of_text t from end text mode) ≡ false
+named : (t : Tree) (from : Start) (end : Ending) (text : List ℕ) (mode : Last) → rare_name (resolution_of_text t from end text mode) ≡ false
 named t from end text mode = by (path_fault text) refl (path_plain text)
   where
     by : (o : Option Errno) → path_fault text ≡ o → rare_fault (path_fault text) ≡ false →
         rare_name (resolution_of_text t from end text mode) ≡ false
     by None e plain = rw e
-        (named_if (not (is_absolute text) && not (is_dir t from)) _
-        (named_from _ (resolve_plain most_links t mode (start_of text from) way.Top (parts_of end text))))
+        (named_if (not (starts t from text)) _
+        (named_from _ (resolve_plain most_links (seen_from t from) mode (start_of from.root text from.dir) way.Top (parts_of end text))))
     by (Some errno) e plain = rw e (ap rare_fault (sym e) ∙ plain)
 
-named_any : (whose : Rules) (t : Tree) (from : ℕ) (end : Ending) (text : List ℕ) (mode : Last) →
+named_any : (whose : Rules) (t : Tree) (from : Start) (end : Ending) (text : List ℕ) (mode : Last) →
     rare_name (path_named whose t from end text mode) ≡ false
 named_any whose t from end text mode = by whose (resolution_of_text t from end text mode) (named t from end text mode)
   where
@@ -234,10 +235,10 @@ past_cover_plain false t h x perms = refl
 -- so of a call that a promise opens
 pub opened_plain : (table : CallTable) (t : Tree) (h : ProcessState) (veils : Bool) (c : Call) (path : List ℕ) (f : Found → Change) →
     rare (object_by refusals table t (past_promises veils (asker_of h)) c path (λ x. Ok (f x))) ≡ false
-opened_plain table t h veils c path f = named_plain (path_named table.whose t (working_dir h) (ending_of c) path (last_of c))
+opened_plain table t h veils c path f = named_plain (path_named table.whose t (start h) (ending_of c) path (last_of c))
     (λ x. unless_failed refusals.failed (or_fault (cover_past veils (asker_of h).cover Sole t x (rule_of table c).perms)
     (option_map misfit_errno (misfit table.whose t c (object_of t x)))) (Ok (f x)))
-    (named_any table.whose t (working_dir h) (ending_of c) path (last_of c))
+    (named_any table.whose t (start h) (ending_of c) path (last_of c))
     (λ x. checked_plain (or_fault (cover_past veils (asker_of h).cover Sole t x (rule_of table c).perms)
     (option_map misfit_errno (misfit table.whose t c (object_of t x)))) (Ok (f x))
     (or_plain (cover_past veils (asker_of h).cover Sole t x (rule_of table c).perms)
@@ -250,9 +251,9 @@ object_plain table t h c path f = opened_plain table t h true c path f
 
 pub objects_plain : (whose : Rules) (pair : PairRule) (t : Tree) (h : ProcessState) (end : Ending) (old new : List ℕ) (f : Found → Found → Decision) →
     ((x y : Found) → rare (f x y) ≡ false) → rare (objects_by refusals whose pair t (asker_of h) end old new f) ≡ false
-objects_plain whose pair t h end old new f plain = named_plain (path_named whose t (working_dir h) end old pair.old.last) _
-    (named_any whose t (working_dir h) end old pair.old.last)
-    (λ x. named_plain (path_named whose t (working_dir h) end new pair.new.last) _ (named_any whose t (working_dir h) end new pair.new.last)
+objects_plain whose pair t h end old new f plain = named_plain (path_named whose t (start h) end old pair.old.last) _
+    (named_any whose t (start h) end old pair.old.last)
+    (λ x. named_plain (path_named whose t (start h) end new pair.new.last) _ (named_any whose t (start h) end new pair.new.last)
     (λ y. checked_plain (or_fault (cover_fault (cover t h x) pair.old.needs.perms) (cover_fault (cover t h y) pair.new.needs.perms)) (f x y)
     (or_plain (cover_fault (cover t h x) pair.old.needs.perms) (cover_fault (cover t h y) pair.new.needs.perms)
     (cover_plain (cover t h x) pair.old.needs.perms) (cover_plain (cover t h y) pair.new.needs.perms)) (plain x y)))
@@ -281,6 +282,6 @@ link_plain old new (Some x) =
 
 pub veiling_plain : (whose : Rules) (t : Tree) (h : ProcessState) (path : List ℕ) (perms : Option ℕ) → rare (veil_by refusals whose t (asker_of h) path perms) ≡ false
 veiling_plain whose t h path None = refl
-veiling_plain whose t h path (Some perms) = named_plain (path_named whose t (working_dir h) ending.Dot path Followed) _
-    (named_any whose t (working_dir h) ending.Dot path Followed)
+veiling_plain whose t h path (Some perms) = named_plain (path_named whose t (start h) ending.Dot path Followed) _
+    (named_any whose t (start h) ending.Dot path Followed)
     (λ x. checked_plain (unveil_errno (unveil_fault h (place_of x) perms)) _ (veil_plain (unveil_fault h (place_of x) perms)) refl)

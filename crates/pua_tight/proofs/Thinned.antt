@@ -12,7 +12,7 @@ use Rattle.pua_script.specs.Scripts.{before_comment, has_empty_word}
 use Rattle.pua_calls.specs.declared.rules.Rules.{Rules}
 use Rattle.pua_script.specs.ScriptGrammar.{SpellsGiven, nothing, known, SpellsPerms, no_letter, letters}
 use Rattle.pua_script.specs.ScriptGrammar.{SpellsAction, on_path, symlink, rename, link, pledge, unveil, lock, fork, exit, uses, hold, close, fchdir, SpellsRequest}
-use Rattle.pua_script.specs.ScriptGrammar.{take}
+use Rattle.pua_script.specs.ScriptGrammar.{chroot, take}
 use Rattle.pua_script.specs.declared.request.Given.{Given}
 use Rattle.pua_script.specs.declared.request.Given.TheVariants.{Null, Good, Unknown}
 use Rattle.pua_script.specs.declared.request.Action.{Action}
@@ -213,6 +213,7 @@ module _ {rules : Rules} (process : List ℕ) where
   thin_fields more as_given visible (hold there named n opens call x) = as_they_are more refl visible (hold there named n opens call x)
   thin_fields more as_given visible (close there named n) = as_they_are more refl visible (close there named n)
   thin_fields more as_given visible (fchdir there named n) = as_they_are more refl visible (fchdir there named n)
+  thin_fields more as_given visible (chroot there named x) = as_they_are more refl visible (chroot there named x)
   thin_fields more as_given visible (take there named n is low high m) = as_they_are more refl visible (take there named n is low high m)
 
 -- fields with spaces between them are the fields of the line

@@ -8,10 +8,11 @@ use Rattle.std.specs.Int.Bits.{and_self, and_zero_r}
 use Rattle.std.specs.Prelude.{Option, Some, None, IsTrue, map, ◌-◌, ◌==◌, bit_and, unwrap_or}
 use Rattle.pua_tree.specs.Tree.{Tree}
 use Rattle.pua_path.specs.declared.found.Found.{Found}
+use Rattle.pua_path.specs.declared.found.Start.{Start}
 use Rattle.pua_calls.specs.Promises.{holds, all_promises, error}
 use Rattle.pua_calls.specs.declared.rules.ExecPromises.{ExecPromises}
 use Rattle.pua_calls.specs.declared.rules.ExecPromises.TheVariants.{Unset, Stay}
-use Rattle.pua_policy.specs.States.{ProcessState, Event, Pledged, Unveiled, Locked, Moved, Ended, Filed, set_file, state_after, state_by_exec, after_exec}
+use Rattle.pua_policy.specs.States.{ProcessState, Event, Pledged, Unveiled, Locked, Moved, Ended, Filed, set_file, start_after, state_after, state_by_exec, after_exec}
 use Rattle.pua_policy.specs.States.{left_for_exec, narrowed_set, held_set, has_error, has_veil, veil_at, with_veil, same_place}
 use Rattle.pua_policy.specs.Verdict.{cover_with, nearest, directories_over, place_of}
 use Rattle.pua_policy.specs.declared.open_file.OpenFile.{OpenFile}
@@ -90,18 +91,18 @@ pub record StateThree (kept : ℕ) (l m s : ProcessState) : Type 0 where
   pub execpromises : SetThree kept l.execpromises m.execpromises s.execpromises
   pub veils : VeilsThree l.veils m.veils s.veils
   pub locked : l.locked ≡ m.locked
-  pub dir : l.dir ≡ m.dir
+  pub start : l.start ≡ m.start
   pub ended : l.ended ≡ m.ended
   pub files : l.files ≡ m.files
 
-all_three : {kept : ℕ} {p q r e f g : Option ℕ} {us vs ws : List (Place × ℕ)} {a b c x y z : Bool} {i j k : ℕ}
+all_three : {kept : ℕ} {p q r e f g : Option ℕ} {us vs ws : List (Place × ℕ)} {a b c x y z : Bool} {i j k : Start}
     {u v w : List (ℕ × OpenFile)} → holds kept error ≡ true →
     SetThree kept p q r → SetThree kept e f g → VeilsThree us vs ws → a ≡ b → i ≡ j → x ≡ y → u ≡ v →
-    StateThree kept (record { promises = p; execpromises = e; veils = us; locked = a; dir = i; ended = x; files = u })
-    (record { promises = q; execpromises = f; veils = vs; locked = b; dir = j; ended = y; files = v })
-    (record { promises = r; execpromises = g; veils = ws; locked = c; dir = k; ended = z; files = w })
-all_three erring p e veils locked dir ended files =
-    record { erring = erring; promises = p; execpromises = e; veils = veils; locked = locked; dir = dir; ended = ended; files = files }
+    StateThree kept (record { promises = p; execpromises = e; veils = us; locked = a; start = i; ended = x; files = u })
+    (record { promises = q; execpromises = f; veils = vs; locked = b; start = j; ended = y; files = v })
+    (record { promises = r; execpromises = g; veils = ws; locked = c; start = k; ended = z; files = w })
+all_three erring p e veils locked start ended files =
+    record { erring = erring; promises = p; execpromises = e; veils = veils; locked = locked; start = start; ended = ended; files = files }
 
 veils_three : (vs : List (Place × ℕ)) → VeilsThree vs vs vs
 veils_three [] = three_no_veils
@@ -113,7 +114,7 @@ state_three erring h = all_three erring (set_three h.promises) (set_three h.exec
 -- after three events of one kind
 pub pledged_three : {kept : ℕ} {l m s : ProcessState} {p q r e f g : Option ℕ} → SetThree kept p q r → SetThree kept e f g →
     StateThree kept l m s → StateThree kept (state_after (Pledged p e) l) (state_after (Pledged q f) m) (state_after (Pledged r g) s)
-pledged_three p e w = all_three w.erring (narrowed_three w.promises p) (narrowed_three w.execpromises e) w.veils w.locked w.dir w.ended w.files
+pledged_three p e w = all_three w.erring (narrowed_three w.promises p) (narrowed_three w.execpromises e) w.veils w.locked w.start w.ended w.files
 
 veil_put : (place : Place) (a b c : ℕ) {us vs ws : List (Place × ℕ)} → holds b (bit_and c a) ≡ true → VeilsThree us vs ws →
     VeilsThree (with_veil place a us) (with_veil place b vs) (with_veil place c ws)
@@ -129,17 +130,17 @@ veil_put place a b c has (three_veils {place = p} {a = x} {b = y} {c = z} {us = 
 
 pub unveiled_three : {kept : ℕ} {l m s : ProcessState} (place : Place) (a b c : ℕ) → holds b (bit_and c a) ≡ true →
     StateThree kept l m s → StateThree kept (state_after (Unveiled place a) l) (state_after (Unveiled place b) m) (state_after (Unveiled place c) s)
-unveiled_three place a b c has w = all_three w.erring w.promises w.execpromises (veil_put place a b c has w.veils) w.locked w.dir w.ended w.files
+unveiled_three place a b c has w = all_three w.erring w.promises w.execpromises (veil_put place a b c has w.veils) w.locked w.start w.ended w.files
 
 pub after_three : (event : Event) {kept : ℕ} {l m s : ProcessState} → StateThree kept l m s →
     StateThree kept (state_after event l) (state_after event m) (state_after event s)
 after_three (Pledged p e) w = pledged_three (set_three p) (set_three e) w
 after_three (Unveiled place a) w = unveiled_three place a a a (last_two a a) w
-after_three Locked w = all_three w.erring w.promises w.execpromises w.veils refl w.dir w.ended w.files
-after_three (Moved dir) w = all_three w.erring w.promises w.execpromises w.veils w.locked refl w.ended w.files
-after_three Ended w = all_three w.erring w.promises w.execpromises w.veils w.locked w.dir refl w.files
+after_three Locked w = all_three w.erring w.promises w.execpromises w.veils refl w.start w.ended w.files
+after_three (Moved move) w = all_three w.erring w.promises w.execpromises w.veils w.locked (ap (start_after move) w.start) w.ended w.files
+after_three Ended w = all_three w.erring w.promises w.execpromises w.veils w.locked w.start refl w.files
 after_three (Filed number file) w =
-    all_three w.erring w.promises w.execpromises w.veils w.locked w.dir w.ended (ap (set_file number file) w.files)
+    all_three w.erring w.promises w.execpromises w.veils w.locked w.start w.ended (ap (set_file number file) w.files)
 
 -- and after an exec
 pub exec_three : (left : ExecPromises) {kept : ℕ} {l m s : ProcessState} → StateThree kept l m s →
@@ -147,8 +148,8 @@ pub exec_three : (left : ExecPromises) {kept : ℕ} {l m s : ProcessState} → S
 exec_three left {kept = kept} {l = l} {m = m} {s = s} w = by w.execpromises
   where
     by : {p q r : Option ℕ} → SetThree kept p q r → StateThree kept (state_by_exec left p l) (state_by_exec left q m) (state_by_exec left r s)
-    by three_unset = all_three w.erring three_unset three_unset three_no_veils refl w.dir refl w.files
-    by (three_some {a = a} {b = b} {c = c} has same) = all_three w.erring (three_some has same) (stays left) w.veils w.locked w.dir w.ended w.files
+    by three_unset = all_three w.erring three_unset three_unset three_no_veils refl w.start refl w.files
+    by (three_some {a = a} {b = b} {c = c} has same) = all_three w.erring (three_some has same) (stays left) w.veils w.locked w.start w.ended w.files
       where
         stays : (left : ExecPromises) → SetThree kept (left_for_exec left a) (left_for_exec left b) (left_for_exec left c)
         stays Unset = three_unset

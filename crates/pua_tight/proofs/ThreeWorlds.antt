@@ -9,6 +9,7 @@ use Rattle.pua_tree.specs.declared.fault.TreeFault.{TreeFault}
 use Rattle.pua_path.specs.declared.errno.Errno.{Errno}
 use Rattle.pua_path.specs.declared.errno.Errno.TheVariants.{EAGAIN, EBADF, EINVAL, EPERM}
 use Rattle.pua_path.specs.declared.found.Found.{Found}
+use Rattle.pua_path.specs.declared.found.Start.{Start}
 use Rattle.pua_path.specs.declared.found.Last.TheVariants.{Followed}
 use Rattle.pua_path.specs.declared.text.Ending.TheVariants as ending
 use Rattle.pua_calls.specs.Promises.{holds, recvfd, sendfd}
@@ -95,12 +96,12 @@ module _ (kept : ℕ) (table : CallTable) (t : Tree) (l m s : ProcessState) (w :
   same_change : (action : Action) → decide table t l action ≡ Ok c → decide table t m action ≡ Ok d → decide table t s action ≡ Ok e →
       ChangeThree kept c d e
   same_change action p q r =
-      let done : ℕ → List (ℕ × OpenFile) → Decision = λ dir files. decide_by refusals table t (free dir files) action in
-      let one : done l.dir l.files ≡ Ok c = freely table t l action c p in
-      let two : done m.dir m.files ≡ Ok d = freely table t m action d q in
-      let three : done s.dir s.files ≡ Ok e = freely table t s action e r in
-      by_ok kept c c c c d e alike_three refl (sym one ∙ (λ i. done (w.dir i) (w.files i)) ∙ two)
-      (sym one ∙ (λ i. done ((w.dir ∙ later.dir) i) ((w.files ∙ later.files) i)) ∙ three)
+      let done : Start → List (ℕ × OpenFile) → Decision = λ from files. decide_by refusals table t (free from files) action in
+      let one : done l.start l.files ≡ Ok c = freely table t l action c p in
+      let two : done m.start m.files ≡ Ok d = freely table t m action d q in
+      let three : done s.start s.files ≡ Ok e = freely table t s action e r in
+      by_ok kept c c c c d e alike_three refl (sym one ∙ (λ i. done (w.start i) (w.files i)) ∙ two)
+      (sym one ∙ (λ i. done ((w.start ∙ later.start) i) ((w.files ∙ later.files) i)) ∙ three)
 
   veil_change : (a b g : ℕ) → holds b (bit_and g a) ≡ true → (r : Result Found Errno) →
       on_named refusals.failed r (λ object. Granted (AddEvent (Unveiled (place_of object) a))) ≡ Ok c →
@@ -111,8 +112,8 @@ module _ (kept : ℕ) (table : CallTable) (t : Tree) (l m s : ProcessState) (w :
   veil_change a b g has (Err v) p q r = cc
 
   pledge_change : {p q r x y z : Given} → GivenThree kept p q r → GivenThree kept x y z →
-      decide_by refusals table t (free l.dir l.files) (Pledge p x) ≡ Ok c → decide_by refusals table t (free m.dir m.files) (Pledge q y) ≡ Ok d →
-      decide_by refusals table t (free s.dir s.files) (Pledge r z) ≡ Ok e → ChangeThree kept c d e
+      decide_by refusals table t (free l.start l.files) (Pledge p x) ≡ Ok c → decide_by refusals table t (free m.start m.files) (Pledge q y) ≡ Ok d →
+      decide_by refusals table t (free s.start s.files) (Pledge r z) ≡ Ok e → ChangeThree kept c d e
   pledge_change null_three null_three i j k = by_ok kept _ _ _ c d e (pledges_three three_unset three_unset) i j k
   pledge_change null_three (good_three a b) i j k = by_ok kept _ _ _ c d e (pledges_three three_unset (three_some a b)) i j k
   pledge_change (good_three a b) null_three i j k = by_ok kept _ _ _ c d e (pledges_three (three_some a b) three_unset) i j k
@@ -127,11 +128,11 @@ module _ (kept : ℕ) (table : CallTable) (t : Tree) (l m s : ProcessState) (w :
   change_three (pledge_three {p = a} {q = b} {r = g} {e = x} {f = y} {g = z} first second) p q r =
       pledge_change first second (freely table t l (Pledge a x) c p) (freely table t m (Pledge b y) d q) (freely table t s (Pledge g z) e r)
   change_three (unveil_three {path = path} {a = a} {b = b} {c = g} has) p q r =
-      let done : ℕ → ℕ → Decision = λ n dir. on_named refusals.failed (path_named table.whose t dir ending.Dot path Followed)
+      let done : ℕ → Start → Decision = λ n from. on_named refusals.failed (path_named table.whose t from ending.Dot path Followed)
       (λ object. Granted (AddEvent (Unveiled (place_of object) n))) in
-      veil_change a b g has (path_named table.whose t s.dir ending.Dot path Followed)
-      (ap (done a) (sym (w.dir ∙ later.dir)) ∙ freely table t l (Unveil path (Some a)) c p)
-      (ap (done b) (sym later.dir) ∙ freely table t m (Unveil path (Some b)) d q) (freely table t s (Unveil path (Some g)) e r)
+      veil_change a b g has (path_named table.whose t s.start ending.Dot path Followed)
+      (ap (done a) (sym (w.start ∙ later.start)) ∙ freely table t l (Unveil path (Some a)) c p)
+      (ap (done b) (sym later.start) ∙ freely table t m (Unveil path (Some b)) d q) (freely table t s (Unveil path (Some g)) e r)
 
 data EffectThree : ℕ → Effect → Effect → Effect → Type 0 where
   fails3 : {kept : ℕ} {v : Errno} → EffectThree kept (Fails v) (Fails v) (Fails v)

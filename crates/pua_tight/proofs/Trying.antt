@@ -22,7 +22,7 @@ use Rattle.pua_script.specs.declared.answer.Answer.{Answer}
 use Rattle.pua_script.specs.declared.fault.ScriptFault.{ScriptFault}
 use Rattle.pua_script.specs.declared.request.Action.{Action}
 use Rattle.pua_script.specs.declared.request.Action.TheVariants.{OnPath, Symlink, Rename, Link, Pledge, Unveil, Lock, Fork, Exit, Uses, Comment}
-use Rattle.pua_script.specs.declared.request.Action.TheVariants.{Hold, Close, Fchdir, Take}
+use Rattle.pua_script.specs.declared.request.Action.TheVariants.{Hold, Close, Fchdir, Take, Chroot}
 use Rattle.pua_tight.specs.declared.fault.TightFault.{TightFault}
 use Rattle.pua_tight.specs.declared.arguments.Arguments.{Arguments}
 use Rattle.pua_tight.specs.Tight.{Piece, InPromises, InExecpromises, InVeil, Line, without, asked_in, asks_of, lines_asked, lines_of}
@@ -138,8 +138,11 @@ given_left piece ask = by piece ask.action
     by (InExecpromises bit) (Close number) = refl
     by (InVeil bit) (Close number) = refl
     by (InPromises bit) (Fchdir number) = refl
+    by (InPromises bit) (Chroot path) = refl
     by (InExecpromises bit) (Fchdir number) = refl
+    by (InExecpromises bit) (Chroot path) = refl
     by (InVeil bit) (Fchdir number) = refl
+    by (InVeil bit) (Chroot path) = refl
     by (InPromises bit) (Take number from theirs) = refl
     by (InExecpromises bit) (Take number from theirs) = refl
     by (InVeil bit) (Take number from theirs) = refl
@@ -190,8 +193,11 @@ given_back piece ask = by piece ask.action
     by (InExecpromises bit) (Close number) = refl
     by (InVeil bit) (Close number) = refl
     by (InPromises bit) (Fchdir number) = refl
+    by (InPromises bit) (Chroot path) = refl
     by (InExecpromises bit) (Fchdir number) = refl
+    by (InExecpromises bit) (Chroot path) = refl
     by (InVeil bit) (Fchdir number) = refl
+    by (InVeil bit) (Chroot path) = refl
     by (InPromises bit) (Take number from theirs) = refl
     by (InExecpromises bit) (Take number from theirs) = refl
     by (InVeil bit) (Take number from theirs) = refl
@@ -217,6 +223,7 @@ given_kept ask = by ask.action
     by (Hold number call path) = refl
     by (Close number) = refl
     by (Fchdir number) = refl
+    by (Chroot path) = refl
     by (Take number from theirs) = refl
     by Comment = refl
 

@@ -4,12 +4,13 @@ use Rattle.std.specs.List.{list_any}
 use Rattle.std.specs.Prelude.{Option, Some, None, IsTrue, map, ◌-◌}
 use Rattle.pua_tree.specs.Tree.{Tree, climb}
 use Rattle.pua_path.specs.declared.found.Found.{Found}
+use Rattle.pua_path.specs.declared.found.Start.{Start}
 use Rattle.pua_path.specs.declared.errno.Errno.{Errno}
 use Rattle.pua_path.specs.declared.errno.Errno.TheVariants.{EACCES}
 use Rattle.pua_calls.specs.Promises.{holds, all_promises, error}
 use Rattle.pua_calls.specs.declared.rules.ExecPromises.{ExecPromises}
 use Rattle.pua_calls.specs.declared.rules.ExecPromises.TheVariants.{Unset, Stay}
-use Rattle.pua_policy.specs.States.{ProcessState, Event, Pledged, Unveiled, Locked, Moved, Ended, Filed, set_file, state_after, state_by_exec, after_exec}
+use Rattle.pua_policy.specs.States.{ProcessState, Event, Pledged, Unveiled, Locked, Moved, Ended, Filed, set_file, start_after, state_after, state_by_exec, after_exec}
 use Rattle.pua_policy.specs.States.{left_for_exec, held_set, has_error, may_any, has_veil, veil_at, with_veil, same_place}
 use Rattle.pua_policy.specs.Verdict.{cover_with, cover_fault, nearest, directories_over, place_of}
 use Rattle.pua_policy.specs.declared.open_file.OpenFile.{OpenFile}
@@ -22,12 +23,12 @@ use Rattle.pua_policy.proofs.ForCallers.{holds_through}
 use Rattle.pua_tight.specs.Narrower.{SetWithin, unset, within, VeilsWithin, no_veils, veils_too, StateWithin}
 use Rattle.pua_tight.proofs.Sets.{any_more, holds_self, set_self, narrowed_within, default_within, chosen_within}
 
-pub all_within : {p q e f : Option ℕ} {vs ws : List (Place × ℕ)} {a b c d : Bool} {m n : ℕ} {x y : List (ℕ × OpenFile)} →
+pub all_within : {p q e f : Option ℕ} {vs ws : List (Place × ℕ)} {a b c d : Bool} {m n : Start} {x y : List (ℕ × OpenFile)} →
     SetWithin p q → SetWithin e f → VeilsWithin vs ws → a ≡ b → m ≡ n → c ≡ d → x ≡ y →
-    StateWithin (record { promises = p; execpromises = e; veils = vs; locked = a; dir = m; ended = c; files = x })
-    (record { promises = q; execpromises = f; veils = ws; locked = b; dir = n; ended = d; files = y })
-all_within p e veils locked dir ended files =
-    record { promises = p; execpromises = e; veils = veils; locked = locked; dir = dir; ended = ended; files = files }
+    StateWithin (record { promises = p; execpromises = e; veils = vs; locked = a; start = m; ended = c; files = x })
+    (record { promises = q; execpromises = f; veils = ws; locked = b; start = n; ended = d; files = y })
+all_within p e veils locked start ended files =
+    record { promises = p; execpromises = e; veils = veils; locked = locked; start = start; ended = ended; files = files }
 
 -- each within itself
 pub veils_self : (vs : List (Place × ℕ)) → VeilsWithin vs vs
@@ -40,7 +41,7 @@ state_self h = all_within (set_self h.promises) (set_self h.execpromises) (veils
 -- after an event of both, or one of fewer words
 pub pledged_within : {h k : ProcessState} {p q e f : Option ℕ} → SetWithin p q → SetWithin e f → StateWithin h k →
     StateWithin (state_after (Pledged p e) h) (state_after (Pledged q f) k)
-pledged_within p e w = all_within (narrowed_within w.promises p) (narrowed_within w.execpromises e) w.veils w.locked w.dir w.ended w.files
+pledged_within p e w = all_within (narrowed_within w.promises p) (narrowed_within w.execpromises e) w.veils w.locked w.start w.ended w.files
 
 veil_put : (place : Place) (a b : ℕ) {vs ws : List (Place × ℕ)} → holds b a ≡ true → VeilsWithin vs ws →
     VeilsWithin (with_veil place a vs) (with_veil place b ws)
@@ -55,23 +56,23 @@ veil_put place a b less (veils_too {place = p} {a = c} {b = d} {vs = vs} {ws = w
 
 pub unveiled_within : {h k : ProcessState} (place : Place) (a b : ℕ) → holds b a ≡ true → StateWithin h k →
     StateWithin (state_after (Unveiled place a) h) (state_after (Unveiled place b) k)
-unveiled_within place a b less w = all_within w.promises w.execpromises (veil_put place a b less w.veils) w.locked w.dir w.ended w.files
+unveiled_within place a b less w = all_within w.promises w.execpromises (veil_put place a b less w.veils) w.locked w.start w.ended w.files
 
 pub after_within : (event : Event) {h k : ProcessState} → StateWithin h k → StateWithin (state_after event h) (state_after event k)
 after_within (Pledged p e) w = pledged_within (set_self p) (set_self e) w
 after_within (Unveiled place a) w = unveiled_within place a a (holds_self a) w
-after_within Locked w = all_within w.promises w.execpromises w.veils refl w.dir w.ended w.files
-after_within (Moved dir) w = all_within w.promises w.execpromises w.veils w.locked refl w.ended w.files
-after_within Ended w = all_within w.promises w.execpromises w.veils w.locked w.dir refl w.files
-after_within (Filed number file) w = all_within w.promises w.execpromises w.veils w.locked w.dir w.ended (ap (set_file number file) w.files)
+after_within Locked w = all_within w.promises w.execpromises w.veils refl w.start w.ended w.files
+after_within (Moved move) w = all_within w.promises w.execpromises w.veils w.locked (ap (start_after move) w.start) w.ended w.files
+after_within Ended w = all_within w.promises w.execpromises w.veils w.locked w.start refl w.files
+after_within (Filed number file) w = all_within w.promises w.execpromises w.veils w.locked w.start w.ended (ap (set_file number file) w.files)
 
 -- and after an exec
 pub exec_within : (left : ExecPromises) {h k : ProcessState} → StateWithin h k → StateWithin (after_exec left h) (after_exec left k)
 exec_within left {h = h} {k = k} w = by w.execpromises
   where
     by : {p q : Option ℕ} → SetWithin p q → StateWithin (state_by_exec left p h) (state_by_exec left q k)
-    by unset = all_within unset unset no_veils refl w.dir refl w.files
-    by (within {a = a} {b = b} less) = all_within (within less) (stays left) w.veils w.locked w.dir w.ended w.files
+    by unset = all_within unset unset no_veils refl w.start refl w.files
+    by (within {a = a} {b = b} less) = all_within (within less) (stays left) w.veils w.locked w.start w.ended w.files
       where
         stays : (left : ExecPromises) → SetWithin (left_for_exec left a) (left_for_exec left b)
         stays Unset = unset

@@ -12,7 +12,7 @@ use Rattle.pua_path.specs.declared.text.Ending.TheVariants as ending
 use Rattle.pua_calls.specs.Promises.{holds, lacking, unveil}
 use Rattle.pua_calls.specs.Calls.{CallTable}
 use Rattle.pua_calls.specs.declared.rules.Rules.{Rules}
-use Rattle.pua_policy.specs.States.{ProcessState, Event, Unveiled, may_any, is_within, error_frees_exec, has_error, veil_at, working_dir}
+use Rattle.pua_policy.specs.States.{ProcessState, Event, Unveiled, may_any, is_within, error_frees_exec, has_error, veil_at, start}
 use Rattle.pua_policy.specs.States.{unveil_fault, place_fault, most_places}
 use Rattle.pua_policy.specs.Verdict.{refusal_of, place_of}
 use Rattle.pua_policy.specs.declared.place.Place.{Place}
@@ -226,7 +226,7 @@ module _ (w : World) (h : ProcessState) where
           tested (may_give table.whose (Good a) (Good c)) (may_give table.whose (Good b) (Good d)) _ _ (gives table.whose (given_less less) (given_less other)) e
   decided_less table (less_unveiled {path = path} {a = a} {b = b} less) e =
       veil_gives path a b less (refusal_of (may_any h (unveil ∷ []))) (fault_if h.locked EPERM)
-      (path_named table.whose w.tree (working_dir h) ending.Dot path Followed) e
+      (path_named table.whose w.tree (start h) ending.Dot path Followed) e
 
 pub okay_less : (table : CallTable) (w : World) (x y : Asked) → AskWithin x y → (apply table w y).0 ≡ answer.Okay → (apply table w x).0 ≡ answer.Okay
 okay_less table w x y lies =

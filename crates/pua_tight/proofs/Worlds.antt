@@ -13,7 +13,7 @@ use Rattle.pua_calls.specs.Calls.{CallTable, rule_of, ending_of, last_of}
 use Rattle.pua_path.specs.Resolution.{resolution_of_text}
 use Rattle.pua_calls.specs.declared.call.Call.{Call}
 use Rattle.pua_calls.specs.Promises.{holds, sendfd}
-use Rattle.pua_policy.specs.States.{ProcessState, Ended, Filed, file_at, held_set, is_directory, is_pledged, working_dir, may_any}
+use Rattle.pua_policy.specs.States.{ProcessState, Ended, Filed, file_at, held_set, is_directory, is_pledged, start, may_any}
 use Rattle.pua_policy.specs.declared.open_file.OpenFile.{OpenFile}
 use Rattle.pua_policy.proofs.ForCallers.{holds_through}
 use Rattle.pua_policy.specs.Verdict.{allowed_unless, if_promised, verdict_of, is_allowed, found_fault, cover, cover_fault}
@@ -374,7 +374,7 @@ module _ (table : CallTable) (h k : ProcessState) (w : StateWithin h k) (t : Tre
 pub allows_no_more : WithinAllowsNoMore
 allows_no_more table tight given w t call text e =
     found_more table tight given w t call (object_named t given call text)
-    (subst (λ r. is_allowed (verdict_of t table tight call r) ≡ true) (named w.dir) e)
+    (subst (λ r. is_allowed (verdict_of t table tight call r) ≡ true) (named w.start) e)
   where
-    named : working_dir tight ≡ working_dir given → object_named t tight call text ≡ object_named t given call text
+    named : start tight ≡ start given → object_named t tight call text ≡ object_named t given call text
     named same = ap (λ d. resolution_of_text t d (ending_of call) text (last_of call)) same

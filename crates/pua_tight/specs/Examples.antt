@@ -57,6 +57,11 @@ pub record TightRows : Type 0 where
       ∷ codes "2 pledge recvfd,sendfd -" ∷ codes "2 take 4 1 3" ∷ []))
       ≡ Some (text_of_lines (codes "1 hold 3 open-r /etc/passwd" ∷ codes "1 fork 2" ∷ codes "1 pledge sendfd -" ∷ codes "2 pledge recvfd -"
       ∷ codes "2 take 4 1 3" ∷ []))
+  -- a chroot needs `id`, and `r` on its directory; behind it `id` goes
+  pub rooted : written_by Openbsd (text_of_lines (codes "1 unveil /etc rw" ∷ codes "1 pledge id,rpath,wpath -" ∷ codes "1 chroot /etc"
+      ∷ codes "1 pledge id,rpath -" ∷ codes "1 open-r /passwd" ∷ []))
+      ≡ Some (text_of_lines (codes "1 unveil /etc r" ∷ codes "1 pledge id,rpath -" ∷ codes "1 chroot /etc" ∷ codes "1 pledge rpath -"
+      ∷ codes "1 open-r /passwd" ∷ []))
 
 pub tight_rows : TightRows
 tight_rows = record {
@@ -71,6 +76,7 @@ tight_rows = record {
   chmod = refl;
   held = refl;
   taken = refl;
+  rooted = refl;
 }
 
 -- a directory with a file that `dns` opens, and another one

@@ -28,7 +28,7 @@ pub record StateWithin (tight given : ProcessState) : Type 0 where
   pub execpromises : SetWithin tight.execpromises given.execpromises
   pub veils : VeilsWithin tight.veils given.veils
   pub locked : tight.locked ≡ given.locked
-  pub dir : tight.dir ≡ given.dir
+  pub start : tight.start ≡ given.start
   pub ended : tight.ended ≡ given.ended
   pub files : tight.files ≡ given.files
 

@@ -5,7 +5,7 @@ use Rattle.std.specs.Prelude.{Some, option_map}
 use Rattle.pua_path.specs.declared.errno.Errno.{Errno}
 use Rattle.pua_path.specs.declared.errno.Errno.TheVariants.{EPERM, ENOENT, E2BIG, EACCES, EAGAIN, EBUSY, EEXIST, ENOTDIR, EISDIR, EINVAL}
 use Rattle.pua_path.specs.declared.errno.Errno.TheVariants.{ENOSPC, ELOOP, ENAMETOOLONG, ENOTEMPTY, ENOSYS, ENOTSOCK, EADDRINUSE, EBADF}
-use Rattle.pua_calls.specs.Promises.{lacking, holds, keyword_rows, error, proc, recvfd, sendfd, unveil}
+use Rattle.pua_calls.specs.Promises.{lacking, holds, id, keyword_rows, error, proc, recvfd, sendfd, unveil}
 use Rattle.pua_calls.specs.Calls.{CallTable, rule_of, calls}
 use Rattle.pua_script.specs.Requests.{Asked}
 use Rattle.pua_script.specs.Family.{is_okay}
@@ -15,7 +15,7 @@ use Rattle.pua_script.specs.declared.answer.Answer.TheVariants.{Okay, Failed, Ki
 use Rattle.pua_script.specs.declared.request.Given.{Given}
 use Rattle.pua_script.specs.declared.request.Given.TheVariants.{Good}
 use Rattle.pua_script.specs.declared.request.Action.{Action}
-use Rattle.pua_script.specs.declared.request.Action.TheVariants.{Pledge, Unveil, Uses, Take}
+use Rattle.pua_script.specs.declared.request.Action.TheVariants.{Pledge, Unveil, Uses, Take, Chroot}
 pub use Rattle.pua_tight.specs.declared.piece.Piece.{Piece}
 pub use Rattle.pua_tight.specs.declared.piece.Piece.TheVariants.{InPromises, InExecpromises, InVeil}
 
@@ -105,16 +105,17 @@ abbrev pub all_asked : CallTable → ℕ
 all_asked table = union (proc ∷ unveil ∷ table.rename.old.needs.alternatives ++ table.rename.new.needs.alternatives
     ++ table.link.old.needs.alternatives ++ table.link.new.needs.alternatives ++ flat_map (λ call. (rule_of table call).alternatives) calls)
 
--- the sets of which a call without a path asks for one; what is taken, the other process has to send
+-- the sets of which a request asks for one that is no call on a path; what is taken, the other process has to send
 abbrev pub used_by : Action → List ℕ
 used_by (Uses sets) = sets
 used_by (Take number from theirs) = recvfd ∷ sendfd ∷ []
+used_by (Chroot path) = id ∷ []
 used_by action = []
 
 abbrev pub all_used : List Asked → ℕ
 all_used asks = union (flat_map (λ ask. used_by ask.action) asks)
 
--- the promises that some call asks for, or some request without a path, but `error`
+-- the promises that some call asks for, or some request that is no call on a path, but `error`
 abbrev pub asked_in : CallTable → List Asked → ℕ
 asked_in table asks = lacking error (bit_or (all_asked table) (all_used asks))
 

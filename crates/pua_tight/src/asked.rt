@@ -7,7 +7,8 @@ ghost use Rattle.pua_tight.specs.Tight.{all_asked, all_used, asked_in, union, us
 use pua_calls::{Call, CallTable, Promises};
 use pua_script::{Action, Request};
 
-/// The promises that some call asks for by a table, or some request without a path, but `error`.
+/// The promises that some call asks for by a table, or some request that is no call on a path, but
+/// `error`.
 pub(crate) fn asked_in(table: &CallTable, requests: &[Request]) -> Promises
     ensures { result ≡ asked_in table.now requests.now }
 {
@@ -16,7 +17,7 @@ pub(crate) fn asked_in(table: &CallTable, requests: &[Request]) -> Promises
         .without(Promises::ERROR)
 }
 
-/// The promises for which requests without a path ask.
+/// The promises for which requests ask that are no calls on a path.
 fn all_used(requests: &[Request]) -> Promises
     ensures { result ≡ all_used requests.now }
 {
@@ -27,14 +28,15 @@ fn all_used(requests: &[Request]) -> Promises
     used
 }
 
-/// The promises for which a request without a path asks, and others: a take asks for recvfd, and
-/// for sendfd of who sent.
+/// The promises for which a request asks that is no call on a path, and others: a take asks for
+/// recvfd, and for sendfd of who sent; a chroot asks for id.
 fn with_used(action: &Action, others: Promises) -> Promises
     ensures { result ≡ bit_or (union (used_by action.now)) others }
 {
     match action {
         Action::Uses(any) => with_sets(any.sets(), others),
         Action::Take { .. } => with_sets(&[Promises::RECVFD, Promises::SENDFD], others),
+        Action::Chroot(_) => with_sets(&[Promises::ID], others),
         _ => others,
     }
 }

@@ -12,7 +12,7 @@ use Rattle.pua_calls.specs.TmpTable.{tmp_table}
 use Rattle.pua_calls.specs.declared.call.Call.{Call}
 use Rattle.pua_calls.specs.declared.call.Call.TheVariants as call
 use Rattle.pua_calls.specs.declared.rules.Rules.{Rules}
-use Rattle.pua_policy.specs.States.{held_set, is_ended, veils, working_dir}
+use Rattle.pua_policy.specs.States.{held_set, is_ended, veils, start}
 use Rattle.pua_policy.specs.Verdict.{is_allowed, object_named, verdict_of, verdict_on}
 use Rattle.pua_policy.specs.declared.answer.Verdict.TheVariants.{Allowed}
 use Rattle.pua_script.specs.Bytes.{are_in_bytes, is_in_bytes}
@@ -37,6 +37,7 @@ use Rattle.pua_jointly.specs.Jointly.{GroupsEdit, groups_then, joint_line, joint
 use Rattle.pua_texts.specs.BesideLines.{Beside, beside_heading, beside_list, beside_living, beside_own}
 use Rattle.pua_texts.specs.EverLines.{ever_lines, heading_ever}
 use Rattle.pua_texts.specs.Openings.{opening_line, opening_text}
+use Rattle.pua_texts.specs.RootLines.{root_line}
 use Rattle.pua_texts.specs.States.{HasOpening, OpeningsArePrinted, exec_line, held_lines, kept_lines, opening_set, openings_told, receives_told}
 use Rattle.pua_texts.specs.States.{unveiled_line}
 use Rattle.pua_tool.specs.BesideWritten.{AreOkaysBeside, IsForeseenBeside, NoneStarts, alone}
@@ -124,25 +125,27 @@ module _ (t : Tree) (a : ProcessState) (test : Thing → Call → Bool) where
 
 module _ (rules : Rules) (t : Tree) (b : Beside) (lives : is_ended b.process ≡ false) (lines : List EverLine) (list : List ℕ)
     (is : list ≡ beside_list rules t b lines) where
-  told_own : (o : Opening) → HasOpening (openings_told rules (heading_ever rules b.own 0).time b.process) o → HasOpening (beside_own rules b) o
+  told_own : (o : Opening) → HasOpening (openings_told rules (heading_ever rules b.own 0).time b.process) o → HasOpening (beside_own rules (root_line t b.process) b) o
   told_own o has =
       let alive = with_end (codes "process alive") in
       let held = held_lines rules b.process in
       let execs = exec_line b.execs in
-      let receives = receives_told rules (heading_ever rules b.own 0).time b.process in (
-        alive ++ held ++ execs ++ receives ++ has.0,
+      let receives = receives_told rules (heading_ever rules b.own 0).time b.process in
+      let root = root_line t b.process in (
+        alive ++ held ++ execs ++ receives ++ root ++ has.0,
         has.1 ++ unveiled_line b.process,
-        ap (λ (ended : Bool). if ended then with_end (codes "process ended") else beside_living rules b) lives
-            ∙ ap (λ told. alive ++ held ++ (execs ++ receives ++ told ++ unveiled_line b.process)) has.2
-            ∙ parts alive held execs receives has.0 (opening_line o) has.1 (unveiled_line b.process),
+        ap (λ (ended : Bool). if ended then with_end (codes "process ended") else beside_living rules root b) lives
+            ∙ ap (λ told. alive ++ held ++ (execs ++ receives ++ root ++ told ++ unveiled_line b.process)) has.2
+            ∙ parts alive held execs receives root has.0 (opening_line o) has.1 (unveiled_line b.process),
       )
     where
-      parts : (a p e f b line c u : List ℕ) → a ++ p ++ (e ++ f ++ (b ++ line ++ c) ++ u) ≡ (a ++ p ++ e ++ f ++ b) ++ line ++ (c ++ u)
-      parts a p e f b line c u = search (append_assoc)
+      parts : (a p e f r b line c u : List ℕ) →
+          a ++ p ++ (e ++ f ++ r ++ (b ++ line ++ c) ++ u) ≡ (a ++ p ++ e ++ f ++ r ++ b) ++ line ++ (c ++ u)
+      parts a p e f r b line c u = search (append_assoc)
 
   pub in_list : (o : Opening) → HasOpening (openings_told rules (heading_ever rules b.own 0).time b.process) o → HasLine list (codes "opening " ++ opening_text o)
   in_list o has =
-      in_text (beside_heading b) (beside_own rules b) (kept_lines t b.process) o [] (ever_lines t lines) list is (told_own o has)
+      in_text (beside_heading b) (beside_own rules (root_line t b.process) b) (kept_lines t b.process) o [] (ever_lines t lines) list is (told_own o has)
 
 -- ---- what is answered ok
 
@@ -178,7 +181,7 @@ module _ (table : CallTable) (sound : NoCallNeedsError table) (w : World) (m : �
           (edit_before table d.before (d.ask ∷ d.after) w (alone (m ∷ more))
           (subst (λ (asks : List Asked). GroupsEdit table w asks (alone (m ∷ more))) d.are edit)) d.ask.process parts.0 in
           let exec = execs_then table u d.ask asker.0 asker.1 did.0 did.1 in
-          let seen = asker.2 (working_dir asker.0) call.Exec exec.path (wider u.tree asker.0 call.Exec exec.path exec.allowed) in
+          let seen = asker.2 (start asker.0) call.Exec exec.path (wider u.tree asker.0 call.Exec exec.path exec.allowed) in
           never seen.line seen.listed seen.allows
 
       by : (b : Bool) → none_done is_exec table w asks (m.0 ∷ []) ≡ b → none_done is_exec table w asks (m.0 ∷ []) ≡ true
@@ -256,7 +259,7 @@ module _ (table : CallTable) (sound : NoCallNeedsError table) (w : World) (m : �
             ⊎ HasItsLine asked path
         by last kept foresees (by_verdict allowed) =
             let u = (world_after table w asks).tree in
-            inl (foresees (working_dir last) asked path
+            inl (foresees (start last) asked path
             (allowed_by (verdict_on u (tmp_table table) last asked path)
             (tmp_table_allows table u last asked (object_named u last asked path) allowed)))
         by last kept foresees (by_opening o opened) =

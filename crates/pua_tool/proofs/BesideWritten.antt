@@ -24,6 +24,7 @@ use Rattle.pua_jointly.specs.Jointly.{ByMember, GroupsEdit, IsJointlyListed, gro
 use Rattle.pua_jointly.specs.JointLasting.{JointlyTold, Numbered, StartsAsTold, acting_in, families}
 use Rattle.pua_jointly.specs.JointPrograms.{Acting, AreSaid, IsSaidOf, TellsOfOne, agents_by, crew_by, worse, worst}
 use Rattle.pua_texts.specs.BesideLines.{Beside, beside_heading, beside_own}
+use Rattle.pua_texts.specs.RootLines.{root_line}
 use Rattle.pua_texts.specs.States.{OpeningsArePrinted, kept_lines}
 use Rattle.pua_texts.specs.TogetherLines.{living}
 use Rattle.pua_words.specs.declared.command.Processes.{Processes}
@@ -210,7 +211,7 @@ module _ (law : Laws) (choice : Chosen) (tree_bytes script_bytes : List ℕ) (ta
       b = beside m others is.own (worst acting)
 
       abbrev head : List ℕ
-      head = (beside_heading b ++ beside_own choice.rules b) ++ kept_lines w.tree m.1
+      head = (beside_heading b ++ beside_own choice.rules (root_line w.tree b.process) b) ++ kept_lines w.tree m.1
 
       stands : (line : EverLine) → Contains lines line → HasLine list (ever_line_text w.tree line)
       stands line listed =

@@ -37,7 +37,7 @@ use Rattle.pua_calls.specs.Calls.{about_rules}
 use Rattle.pua_calls.specs.TmpTable.{tmp_table}
 use Rattle.pua_calls.specs.Promises.{no_promises, promises_of}
 use Rattle.pua_calls.specs.declared.call.Call.{Call}
-use Rattle.pua_policy.specs.States.{held_set, working_dir}
+use Rattle.pua_policy.specs.States.{held_set, start}
 use Rattle.pua_policy.specs.Verdict.{object_named, verdict_on}
 use Rattle.pua_policy.proofs.ForCallers.{holds_through}
 use Rattle.pua_script.specs.OpeningLaws.{Accounted, by_verdict, by_opening, may_open, OkaysAreAccounted, OpeningsAreHeld, OpeningsNarrow}
@@ -50,6 +50,7 @@ use Rattle.pua_ever.specs.declared.lasting_list.ExecBound.TheVariants.{Bounded}
 use Rattle.pua_ever.proofs.ForCallers.{bound_parts, first_of, second_of}
 use Rattle.pua_texts.specs.EverLines.{ever_lines}
 use Rattle.pua_texts.specs.Openings.{opening_text}
+use Rattle.pua_texts.specs.RootLines.{root_line}
 use Rattle.pua_texts.specs.States.{HasOpening, OpeningsArePrinted, heading_line, kept_lines, opening_set, own_lines}
 use Rattle.pua_tool.specs.Forever.{AreOkaysForeseen}
 use Rattle.pua_tool.specs.Listed.{HasLine}
@@ -148,13 +149,13 @@ module _ (choice : Chosen) (tree_bytes script_bytes : List ℕ) (table : CallTab
 
     module _ (is_text : text ≡ front ++ (head_lines w.tree (heading_ever choice.rules (execs_of w.tree tmp h) process) h ++ more)) where
       line_of : (call : Call) (path : List ℕ) → (o : Opening) × (opens_call call path o ≡ true)
-          × HasOpening (own_lines (heading_ever choice.rules (execs_of w.tree tmp h) process) h) o →
+          × HasOpening (own_lines (heading_ever choice.rules (execs_of w.tree tmp h) process) (root_line w.tree h) h) o →
           HasItsLine call path
       line_of call path line =
           let head = heading_ever choice.rules (execs_of w.tree tmp h) process in (
             line.0,
             line.1,
-            in_text (heading_line head) (own_lines head h) (kept_lines w.tree h) line.0 front more text is_text line.2,
+            in_text (heading_line head) (own_lines head (root_line w.tree h) h) (kept_lines w.tree h) line.0 front more text is_text line.2,
           )
 
       module _ (asks : List Asked) (bytes : IsTrue (are_in_bytes asks)) (edit : MembersEdit table w asks (process ∷ []))
@@ -170,7 +171,7 @@ module _ (choice : Chosen) (tree_bytes script_bytes : List ℕ) (table : CallTab
             let own : may_open h call path ≡ true =
             narrow h last (subst (λ g. Tightens h g) same later.2.tightens) call path may in
             let head = heading_ever choice.rules (execs_of w.tree tmp h) process in
-            line_of call path (printed.ever head (execs_of w.tree tmp h) h call path lives refl opens own)
+            line_of call path (printed.ever head (root_line w.tree h) (execs_of w.tree tmp h) h call path lives refl opens own)
 
         -- through execs they are among those, or among those that it hands down
         by_handed : (handed : ℕ) → bound_of table h ≡ Some handed → has_exec (ever w.tree tmp h) ≡ true → HasItsLine call path
@@ -188,7 +189,7 @@ module _ (choice : Chosen) (tree_bytes script_bytes : List ℕ) (table : CallTab
             line_of call path (
               found.0,
               found.2,
-              printed.each head h found.0 lives opens found.1
+              printed.each head (root_line w.tree h) h found.0 lives opens found.1
                   (ap (λ set. holds_named set (promises_of found.0.promise)) at ∙ sets),
             )
 
@@ -216,7 +217,7 @@ module _ (choice : Chosen) (tree_bytes script_bytes : List ℕ) (table : CallTab
               (object_named (world_after table w asks).tree last call path) ⊎ HasItsLine call path
           by last kept foresees (by_verdict allowed) =
               let u = (world_after table w asks).tree in
-              inl (foresees (working_dir last) call path
+              inl (foresees (start last) call path
               (allowed_by (verdict_on u tmp last call path) (tmp_table_allows table u last call (object_named u last call path) allowed)))
           by last kept foresees (by_opening o opened) =
               inr (has_its_line asks bytes edit held member belongs last kept call path

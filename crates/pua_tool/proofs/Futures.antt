@@ -7,7 +7,7 @@ use Rattle.std.proofs.lemmas.Bool.{and_parts}
 use Rattle.std.proofs.lemmas.List.Folds.{list_all-append}
 use Rattle.pua_tree.specs.Tree.{distinct_names}
 use Rattle.pua_path.specs.Paths.{is_absolute}
-use Rattle.pua_policy.specs.States.{working_dir}
+use Rattle.pua_policy.specs.States.{root_dir, working_dir}
 use Rattle.pua_audit.specs.Reach.{path_of, alphabet_of}
 use Rattle.pua_audit.specs.SubLists.{SubList}
 use Rattle.pua_audit.specs.declared.base.Base.{Base}
@@ -25,23 +25,24 @@ root_path : (word : List (List ℕ)) → is_absolute (path_of Root word) ≡ tru
 root_path [] = refl
 root_path (letter ∷ word) = refl
 
-reaches_no_more : (table : CallTable) (t : Tree) (now last : ProcessState) (still : Bool) → AllowsNoMore table now last →
-    (still ≡ true → working_dir last ≡ working_dir now) → ReachesNoMore table t now last still
-reaches_no_more table t now last still allows dirs = record {
-  root = λ alphabet limit. fewer_reach_less
+reaches_no_more : (table : CallTable) (t : Tree) (now last : ProcessState) (still rooted : Bool) → AllowsNoMore table now last →
+    (still ≡ true → working_dir last ≡ working_dir now) → (rooted ≡ true → root_dir last ≡ root_dir now) →
+    ReachesNoMore table t now last still rooted
+reaches_no_more table t now last still rooted allows dirs roots = record {
+  root = λ top alphabet limit. fewer_reach_less
       (record { tree = t; table = table; process = last; base = Root; alphabet = alphabet; limit = limit })
       (record { tree = t; table = table; process = now; base = Root; alphabet = alphabet; limit = limit }) refl refl
-      (λ pair e. allows.absolute t pair.1 (path_of Root pair.0) (root_path pair.0) e);
-  cwd = λ is alphabet limit. fewer_reach_less
+      (λ pair e. allows.absolute (roots top) t pair.1 (path_of Root pair.0) (root_path pair.0) e);
+  cwd = λ top is alphabet limit. fewer_reach_less
       (record { tree = t; table = table; process = last; base = Cwd; alphabet = alphabet; limit = limit })
       (record { tree = t; table = table; process = now; base = Cwd; alphabet = alphabet; limit = limit }) refl refl
-      (λ pair e. allows.relative (dirs is) t pair.1 (path_of Cwd pair.0) e);
+      (λ pair e. allows.relative (roots top) (dirs is) t pair.1 (path_of Cwd pair.0) e);
 }
 
 pub narrowing : Narrowing
 narrowing table sound w process now asks here confined none member belongs =
     let one = families_narrow table w asks process now here confined none member belongs in
-    (one.0, one.1, (one.2.tightens, λ t. reaches_no_more table t now one.0 _ (one.2.allows sound) one.2.dir))
+    (one.0, one.1, (one.2.tightens, λ t. reaches_no_more table t now one.0 _ _ (one.2.allows sound) one.2.dir one.2.root))
 
 -- over a tree with the same rows and nodes the same letters, and so the same reach
 same_reach : (table : CallTable) (h : ProcessState) (base : Base) (candidates : List (List ℕ)) (limit : ℕ) (t u : Tree) → u.rows ≡ t.rows →
@@ -52,12 +53,12 @@ same_reach table h base candidates limit t u rows nodes =
     ∙ reach_needs_rows (record { tree = t; table = table; process = h; base = base; alphabet = alphabet_of t candidates; limit = limit }) u
     rows nodes
 
-at_base : (table : CallTable) (t : Tree) (now last : ProcessState) (still : Bool) → ReachesNoMore table t now last still → (base : Base) →
-    (base ≡ Cwd → still ≡ true) →
+at_base : (table : CallTable) (t : Tree) (now last : ProcessState) (still rooted : Bool) → ReachesNoMore table t now last still rooted →
+    (base : Base) → rooted ≡ true → (base ≡ Cwd → still ≡ true) →
     (alphabet : List (List ℕ)) (limit : ℕ) →
     SubList (reach_over t table last base alphabet limit) (reach_over t table now base alphabet limit)
-at_base table t now last still no_more Root moved alphabet limit = no_more.root alphabet limit
-at_base table t now last still no_more Cwd moved alphabet limit = no_more.cwd (moved refl) alphabet limit
+at_base table t now last still rooted no_more Root top moved alphabet limit = no_more.root top alphabet limit
+at_base table t now last still rooted no_more Cwd top moved alphabet limit = no_more.cwd top (moved refl) alphabet limit
 
 pub narrowing_now : NarrowingNow
 narrowing_now table sound w process now asks here confined none rows nodes member belongs =
@@ -66,10 +67,10 @@ narrowing_now table sound w process now asks here confined none rows nodes membe
     let u = (world_after table w asks).tree in (
       one.0,
       one.1,
-      λ base moved candidates limit.
+      λ base top moved candidates limit.
           subst (λ pairs. SubList pairs (reach_over t table now base (alphabet_of t candidates) limit))
           (sym (same_reach table one.0 base candidates limit t u rows nodes))
-          (at_base table t now one.0 _ (one.2.1 t) base moved (alphabet_of t candidates) limit),
+          (at_base table t now one.0 _ _ (one.2.1 t) base top moved (alphabet_of t candidates) limit),
     )
 
 pub confinement : Confinement

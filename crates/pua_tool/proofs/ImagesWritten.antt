@@ -13,7 +13,8 @@ use Rattle.pua_script.specs.Family.{is_exec, is_member, is_okay}
 use Rattle.pua_script.specs.Replay.{answer_and_world, apply}
 use Rattle.pua_texts.specs.ObjectLines.{heading_before, heading_now, image_list_of, lists_of, object_lines, process_list}
 use Rattle.pua_texts.specs.States.{heading_line, kept_lines, own_lines}
-use Rattle.pua_objects.specs.Objects.{objects}
+use Rattle.pua_objects.specs.Roots.{shown_objects}
+use Rattle.pua_texts.specs.RootLines.{root_line}
 use Rattle.pua_words.specs.declared.command.Processes.{Processes}
 use Rattle.pua_words.specs.declared.command.Processes.TheVariants.{One}
 use Rattle.pua_tool.specs.Fronts.{first_lines}
@@ -80,14 +81,14 @@ module _ (choice : Chosen) (tree_bytes script_bytes front : List ℕ) (table : C
 
   -- what stands behind a heading
   abbrev rest : ProcessState → List ℕ
-  rest h = (own_lines (heading_now choice.rules ask.process) h ++ kept_lines w.tree h) ++ object_lines w.tree (objects w.tree table h)
+  rest h = (own_lines (heading_now choice.rules ask.process) (root_line w.tree h) h ++ kept_lines w.tree h) ++ object_lines w.tree (shown_objects w.tree table h)
 
   image_is : (h : ProcessState) → kept_at w ask.process ≡ Some h →
       image_list_of line choice.rules table w ask.process ≡ heading_line (heading_before line choice.rules ask.process) ++ rest h
   image_is h is =
       ap (λ made. option_map_or (process_list (heading_before line choice.rules ask.process) table w.tree) made []) is
-      ∙ headed (heading_line (heading_before line choice.rules ask.process)) (own_lines (heading_now choice.rules ask.process) h)
-      (kept_lines w.tree h) (object_lines w.tree (objects w.tree table h))
+      ∙ headed (heading_line (heading_before line choice.rules ask.process)) (own_lines (heading_now choice.rules ask.process) (root_line w.tree h) h)
+      (kept_lines w.tree h) (object_lines w.tree (shown_objects w.tree table h))
 
   first_asks : script_by choice.rules front ≡ Ok before
   first_asks =
@@ -112,8 +113,8 @@ module _ (choice : Chosen) (tree_bytes script_bytes front : List ℕ) (table : C
       ++ (option_map_or (process_list (heading_now choice.rules ask.process) table w.tree) made [] ++ []))) is
       ∙ ap (λ list. Ok (answer_lines 1 done.answers ++ list))
       (append-nil (process_list (heading_now choice.rules ask.process) table w.tree h)
-      ∙ headed (heading_line (heading_now choice.rules ask.process)) (own_lines (heading_now choice.rules ask.process) h)
-      (kept_lines w.tree h) (object_lines w.tree (objects w.tree table h)))
+      ∙ headed (heading_line (heading_now choice.rules ask.process)) (own_lines (heading_now choice.rules ask.process) (root_line w.tree h) h)
+      (kept_lines w.tree h) (object_lines w.tree (shown_objects w.tree table h)))
 
   whole : images_text choice tree_bytes script_bytes whose ≡ Ok (images_after choice.rules served numbers)
   unfolding images_text

@@ -2,7 +2,7 @@
 use Rattle.pua_tool.proofs.Common.{◌≡◌, ◌∙◌, ◌∷◌, [], ℕ, List, ◌++◌, ap, refl, sym, Ok, Option, Some, None, CallTable, Tree, Asked, World}
 use Rattle.pua_tool.proofs.Common.{ProcessState, kept_at, new_world, told_to, world_after, answer_lines, with_end, listing, script_by, Chosen}
 use Rattle.pua_tool.proofs.Common.{Replayed, Result, table_by, as_listing, as_script, replay_of, ToolFault, arith, flat_map}
-use Rattle.std.proofs.Common.{zero, suc, append_assoc, append-nil}
+use Rattle.std.proofs.Common.{zero, suc, append_assoc, append-nil, inl, subst}
 use Rattle.std.specs.Prelude.{◌&&◌, true, Err, if◌then◌else◌, is_some}
 use Rattle.std.specs.Option.{option_map_or}
 use Rattle.std.specs.List.{Contains}
@@ -10,8 +10,9 @@ use Rattle.pua_tree.specs.Steps.{◌>>=◌}
 use Rattle.pua_tree.proofs.ForCallers.{same_Ok, Err≢Ok}
 use Rattle.pua_script.proofs.ForCallers.{replays_keep_byte_trees, listings_list_byte_trees, scripts_ask_in_bytes}
 use Rattle.pua_script.specs.Bytes.{IsByteTree}
-use Rattle.pua_objects.specs.Objects.{Line, objects, line_text}
-use Rattle.pua_objects.specs.Laws.{Complete, SoundLines}
+use Rattle.pua_objects.specs.Objects.{Line, line_text}
+use Rattle.pua_objects.specs.Roots.{shown_objects}
+use Rattle.pua_objects.specs.Laws.{CompleteFrom, ShowsWithin, SoundBelow, SoundLines, StartsAreIn}
 use Rattle.pua_ever.proofs.ForCallers.{placed_after_read}
 use Rattle.pua_texts.specs.ObjectLines.{process_list, heading_now}
 use Rattle.pua_texts.specs.States.{head_lines}
@@ -50,7 +51,8 @@ pub list_is : (choice : Chosen) (tree_bytes script_bytes : List ℕ) (which : Pr
 unfolding objects_text
 list_is choice tree_bytes script_bytes which done r = λ i. r i >>= λ done. lists_asked choice.rules done which
 
-module _ (complete : Complete) (sound : SoundLines) (accounted : OkaysAreAccounted) (openings : OpeningsArePrinted) (choice : Chosen) (tree_bytes script_bytes : List ℕ) (table : CallTable) (t : Tree) (first : List Asked)
+module _ (complete : CompleteFrom) (starts : StartsAreIn) (within : ShowsWithin) (sound : SoundLines) (below : SoundBelow) (accounted : OkaysAreAccounted)
+    (openings : OpeningsArePrinted) (choice : Chosen) (tree_bytes script_bytes : List ℕ) (table : CallTable) (t : Tree) (first : List Asked)
     (process : ℕ) (text : List ℕ) (given : table_by choice ≡ Ok table) (read : listing tree_bytes ≡ Ok t)
     (scripted : script_by choice.rules script_bytes ≡ Ok first)
     (told : objects_text choice tree_bytes script_bytes (One process) ≡ Ok text) where
@@ -97,12 +99,16 @@ module _ (complete : Complete) (sound : SoundLines) (accounted : OkaysAreAccount
             here = is;
             is_text = text_is;
             complete = λ from call path. complete w.tree table h from call path left.tree;
-            sound = sound w.tree table h left.tree (placed_after_read table choice.rules tree_bytes script_bytes t first read scripted process h is);
-            okays = okays_listed accounted openings choice.rules table w process h front
-                (flat_map (λ (l : Line). with_end (line_text w.tree l)) (objects w.tree table h)) text (tables_are_by_rules choice table given) is
+            sound = λ top line listed. sound w.tree table h left.tree
+                (placed_after_read table choice.rules tree_bytes script_bytes t first read scripted process h is) top line
+                (subst (λ (ls : List Line). Contains ls line) (within.all w.tree table h (inl top)) listed);
+            sound_below = below w.tree table h left.tree
+                (placed_after_read table choice.rules tree_bytes script_bytes t first read scripted process h is);
+            okays = okays_listed accounted openings starts choice.rules table w process h front
+                (flat_map (λ (l : Line). with_end (line_text w.tree l)) (shown_objects w.tree table h)) text (tables_are_by_rules choice table given) is
                 (λ from call path. complete w.tree table h from call path left.tree) text_is;
             printed = λ line listed.
-                let found = in_lines (λ (l : Line). with_end (line_text w.tree l)) (objects w.tree table h) line listed in (
+                let found = in_lines (λ (l : Line). with_end (line_text w.tree l)) (shown_objects w.tree table h) line listed in (
                   front ++ head_lines w.tree (heading_now choice.rules process) h ++ found.0,
                   found.1,
                   text_is ∙ ap (λ lines. front ++ (head_lines w.tree (heading_now choice.rules process) h ++ lines)) found.2
@@ -110,6 +116,6 @@ module _ (complete : Complete) (sound : SoundLines) (accounted : OkaysAreAccount
                 );
           }
 
-pub objects_as_written : Complete → SoundLines → OkaysAreAccounted → OpeningsArePrinted → ObjectsAsWritten
-objects_as_written complete sound accounted openings choice tree_bytes script_bytes table t first process text given read scripted told =
-    written complete sound accounted openings choice tree_bytes script_bytes table t first process text given read scripted told
+pub objects_as_written : CompleteFrom → StartsAreIn → ShowsWithin → SoundLines → SoundBelow → OkaysAreAccounted → OpeningsArePrinted → ObjectsAsWritten
+objects_as_written complete starts within sound below accounted openings choice tree_bytes script_bytes table t first process text given read scripted told =
+    written complete starts within sound below accounted openings choice tree_bytes script_bytes table t first process text given read scripted told

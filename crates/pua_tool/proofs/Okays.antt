@@ -12,15 +12,16 @@ use Rattle.pua_calls.specs.Tables.{NamesNoError}
 use Rattle.pua_ever.specs.Through.{AreWithin}
 use Rattle.pua_calls.specs.declared.call.Call.{Call}
 use Rattle.pua_calls.specs.declared.rules.Rules.{Rules}
-use Rattle.pua_policy.specs.States.{working_dir}
+use Rattle.pua_policy.specs.States.{start}
 use Rattle.pua_policy.specs.Verdict.{is_allowed, object_named, verdict_on}
 use Rattle.pua_policy.specs.declared.answer.Verdict.{Verdict}
 use Rattle.pua_policy.specs.declared.answer.Verdict.TheVariants.{Allowed, Failed, Death}
 use Rattle.pua_script.specs.OpeningLaws.{Accounted, by_verdict, by_opening, OkaysAreAccounted}
 use Rattle.pua_script.specs.Openings.{Opening, holds_named, is_opening, opening_of, openings, opens_call}
-use Rattle.pua_objects.specs.Laws.{IsListed}
+use Rattle.pua_objects.specs.Laws.{HasShownLine, StartsAreIn}
 use Rattle.pua_texts.specs.ObjectLines.{heading_now}
 use Rattle.pua_texts.specs.Openings.{opening_line, opening_text}
+use Rattle.pua_texts.specs.RootLines.{root_line}
 use Rattle.pua_texts.specs.States.{HasOpening, OpeningsArePrinted, head_lines, heading_line, kept_lines, own_lines}
 use Rattle.pua_tool.specs.Listed.{AreOkaysListed, HasLine, IsListComplete}
 
@@ -93,17 +94,17 @@ named_within a b within o there = by (promises_of o.promise) (each_of (λ (o : O
     by (Ok set) sound e = within set sound e
     by (Err errno) sound e = absurd (false≢true e)
 
-module _ (accounted : OkaysAreAccounted) (printed : OpeningsArePrinted) where
+module _ (accounted : OkaysAreAccounted) (printed : OpeningsArePrinted) (starts : StartsAreIn) where
   pub okays_listed : (rules : Rules) (table : CallTable) (w : World) (process : ℕ) (h : ProcessState) (front more text : List ℕ) →
       table.whose ≡ rules → kept_at w process ≡ Some h → IsListComplete table w.tree h →
       text ≡ front ++ (head_lines w.tree (heading_now rules process) h ++ more) → AreOkaysListed table w process h text
   okays_listed rules table w process h front more text whose here complete is call path told =
       by (accounted table w process call path h here told)
     where
-      by : Accounted table w.tree h call path → IsListed w.tree table h call (object_named w.tree h call path)
+      by : Accounted table w.tree h call path → HasShownLine w.tree table h call (object_named w.tree h call path)
           ⊎ ((o : Opening) × IsTrue (opens_call call path o) × HasLine text (codes "opening " ++ opening_text o))
-      by (by_verdict allowed) = inl (complete (working_dir h) call path (allowed_by (verdict_on w.tree table h call path) allowed))
+      by (by_verdict allowed) = inl (complete (start h) call path (starts.own w.tree h) (allowed_by (verdict_on w.tree table h call path) allowed))
       by (by_opening o opened) =
           let head = heading_now rules process in
-          let line = printed.now head table h call path o whose refl opened in
-          inr (o, line.0, in_text (heading_line head) (own_lines head h) (kept_lines w.tree h) o front more text is line.1)
+          let line = printed.now head (root_line w.tree h) table h call path o whose refl opened in
+          inr (o, line.0, in_text (heading_line head) (own_lines head (root_line w.tree h) h) (kept_lines w.tree h) o front more text is line.1)

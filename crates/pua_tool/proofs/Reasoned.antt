@@ -33,6 +33,7 @@ use Rattle.pua_script.specs.Bytes.{IsByteTree, is_in_bytes, are_in_bytes}
 use Rattle.pua_script.specs.Requests.{says_nothing}
 use Rattle.pua_script.proofs.ForCallers.{replays_keep_byte_trees, listings_list_byte_trees, scripts_ask_in_bytes}
 use Rattle.pua_objects.specs.Objects.{Line, Item, Subject, At, Others, calls_on, has_calls, is_named_by, items, line_of, objects, subject_verdict}
+use Rattle.pua_objects.specs.Roots.{is_shown, shown_objects}
 use Rattle.pua_objects.proofs.ForCallers.{Among, among_contained, filter_among, map_among}
 use Rattle.pua_ever.proofs.ForCallers.{first_new, first_of, second_of}
 use Rattle.pua_why.specs.Columns.{let_by, resting_on, veil_columns}
@@ -167,9 +168,10 @@ module _ (table : CallTable) (t : Tree) (h : ProcessState) where
       let held : PromisingHolds h sets (Holds set.0) = subst (PromisingHolds h sets) set.1 (promisings_hold h sets) in
       (set.0, set.1, held.0, among_resting cs call among set.0 set.1)
 
-  line_rests : (line : Line) → Contains (objects t table h) line → Rests line
+  line_rests : (line : Line) → Contains (shown_objects t table h) line → Rests line
   line_rests line there =
-      let a = filter_among has_calls (map (line_of t table h) (items t (veils h))) line (among_contained (objects t table h) line there) in
+      let listed = filter_among (λ (l : Line). is_shown t h l.subject) (objects t table h) line (among_contained (shown_objects t table h) line there) in
+      let a = filter_among has_calls (map (line_of t table h) (items t (veils h))) line listed.0 in
       let from = map_among (line_of t table h) (items t (veils h)) line a.0 in
       subst Rests from.2 (item_rests from.0)
 
@@ -298,12 +300,12 @@ module _ (choice : Chosen) (tree_bytes script_bytes : List ℕ) (table : CallTab
             sym (same_Ok (reason_lines served ++ why_lists_of choice.rules served (process ∷ [])) text (sym (ap asked_by here) ∙ after))
             ∙ ap (λ made. front ++ (option_map_or own made [] ++ [])) here ∙ ap (λ list. front ++ list) (append-nil (own h))
 
-        line_reasoned : (h : ProcessState) → kept_at left process ≡ Some h → (line : Line) → Contains (objects left.tree table h) line →
+        line_reasoned : (h : ProcessState) → kept_at left process ≡ Some h → (line : Line) → Contains (shown_objects left.tree table h) line →
             IsLineReasoned table t asks process h line text
         line_reasoned h here line listed =
             let over = covering_of left.tree h line.subject in
             let head = head_lines left.tree (heading_now choice.rules process) h in
-            let found = in_lines (why_line served process h) (objects left.tree table h) line listed in
+            let found = in_lines (why_line served process h) (shown_objects left.tree table h) line listed in
             record {
               over = over;
               stands = (

@@ -200,7 +200,7 @@ module _ (together : TogetherAfterRead) (choice : Chosen) (tree_bytes script_byt
     head = together_heading members ++ flat_map (member_lines choice.rules w.tree) members
 
     abbrev state : ProcessState → List ℕ
-    state one = bound_lines choice.rules (heading_ever choice.rules (execs_of w.tree tmp one) 0).time one ++ veil_lines w.tree (veils one)
+    state one = bound_lines choice.rules (heading_ever choice.rules (execs_of w.tree tmp one) 0).time [] one ++ veil_lines w.tree (veils one)
 
     stands : (one : ProcessState) → one_of tmp members ≡ Some one → (line : EverLine) → Contains (ever_lasting w.tree tmp one) line →
         HasLine text (ever_line_text w.tree line)

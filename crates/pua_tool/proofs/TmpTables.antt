@@ -7,7 +7,7 @@ use Rattle.pua_calls.specs.declared.call.Call.{Call}
 use Rattle.pua_policy.specs.States.{held_for_exec}
 use Rattle.pua_ever.specs.Refusals.{can_unveil, changing_calls, lacks_c, refusal, table_refusal}
 use Rattle.pua_ever.specs.Through.{bound_of}
-use Rattle.pua_ever.specs.Together.{Joint, joint_after, joint_of, joined, process_by, with_one}
+use Rattle.pua_ever.specs.Together.{Joint, files_together, joint_after, joint_of, joined, process_by, with_one}
 use Rattle.pua_ever.specs.declared.refusal.EverRefusal.{EverRefusal}
 use Rattle.pua_ever.specs.declared.refusal.EverRefusal.TheVariants.{CanUnveil}
 use Rattle.pua_tool.specs.TogetherTexts.{first_refused, refused_or}
@@ -42,4 +42,4 @@ after_too table joint [] = refl
 after_too table joint (h ∷ more) = after_too table (with_one table joint h) more
 
 pub joined_too : (table : CallTable) (first : ProcessState) (more : List ProcessState) → joined (tmp_table table) first more ≡ joined table first more
-joined_too table first more = λ i. process_by first (after_too table (joint_of table first) more i)
+joined_too table first more = λ i. process_by first (files_together first more) (after_too table (joint_of table first) more i)

@@ -8,7 +8,7 @@ use Rattle.pua_script.specs.Requests.{Asked}
 use Rattle.pua_script.specs.Scripts.{script_by}
 use Rattle.pua_script.specs.Replay.{World, new_world, kept_at, world_after}
 use Rattle.pua_script.specs.Laws.{IsConfined}
-use Rattle.pua_script.specs.Family.{is_exec, is_chdir, none_done, members_alone, family, is_member, HasKept}
+use Rattle.pua_script.specs.Family.{is_exec, is_chdir, is_chroot, none_done, members_alone, family, is_member, HasKept}
 use Rattle.pua_script.specs.Tightening.{NoCallNeedsError, Tightens}
 use Rattle.pua_script.specs.Confinement.{TakingNeedsC, ChangingNeeds, HoldsNone, UncoveredStay}
 use Rattle.pua_script.specs.Bytes.{IsByteTree, are_in_bytes}
@@ -23,12 +23,12 @@ abbrev pub reach_over : Tree → CallTable → ProcessState → Base → List (L
 reach_over t table h base alphabet limit =
     reach (record { tree = t; table = table; process = h; base = base; alphabet = alphabet; limit = limit })
 
--- a process reaches no more than another over a tree, with all letters and limits: from the root, and from the working
--- directory if no member moved
-pub record ReachesNoMore (table : CallTable) (t : Tree) (now last : ProcessState) (still : Bool) : Type 0 where
-  pub root : (alphabet : List (List ℕ)) (limit : ℕ) →
+-- a process reaches no more than another over a tree, with all letters and limits, if no member did a chroot: from the root,
+-- and from the working directory if no member moved
+pub record ReachesNoMore (table : CallTable) (t : Tree) (now last : ProcessState) (still rooted : Bool) : Type 0 where
+  pub root : IsTrue rooted → (alphabet : List (List ℕ)) (limit : ℕ) →
       SubList (reach_over t table last Root alphabet limit) (reach_over t table now Root alphabet limit)
-  pub cwd : IsTrue still → (alphabet : List (List ℕ)) (limit : ℕ) →
+  pub cwd : IsTrue rooted → IsTrue still → (alphabet : List (List ℕ)) (limit : ℕ) →
       SubList (reach_over t table last Cwd alphabet limit) (reach_over t table now Cwd alphabet limit)
 
 -- the first part: whatever is asked by anyone, as long as no exec of a member is answered ok, over each tree, so over the last one
@@ -37,7 +37,8 @@ Narrowing = (table : CallTable) → NoCallNeedsError table → (w : World) (proc
     kept_at w process ≡ Some now → IsConfined now → IsTrue (none_done is_exec table w asks (process ∷ [])) →
     (member : ℕ) → IsTrue (is_member (family table w asks (process ∷ [])) member) →
     HasKept (world_after table w asks) member (λ last. Tightens now last
-    × ((t : Tree) → ReachesNoMore table t now last (none_done is_chdir table w asks (process ∷ []))))
+    × ((t : Tree) → ReachesNoMore table t now last (none_done is_chdir table w asks (process ∷ []))
+    (none_done is_chroot table w asks (process ∷ []))))
 
 -- so where rows, kinds and targets are again those of now, each member's reach over the last tree lies within the
 -- process's reach over the tree of now
@@ -47,6 +48,7 @@ NarrowingNow = (table : CallTable) → NoCallNeedsError table → (w : World) (p
     (world_after table w asks).tree.rows ≡ w.tree.rows → (world_after table w asks).tree.nodes ≡ w.tree.nodes →
     (member : ℕ) → IsTrue (is_member (family table w asks (process ∷ [])) member) →
     HasKept (world_after table w asks) member (λ last. (base : Base) →
+    IsTrue (none_done is_chroot table w asks (process ∷ [])) →
     (base ≡ Cwd → IsTrue (none_done is_chdir table w asks (process ∷ []))) →
     (candidates : List (List ℕ)) (limit : ℕ) →
     SubList (reach_over (world_after table w asks).tree table last base (alphabet_of (world_after table w asks).tree candidates) limit)
@@ -78,7 +80,8 @@ IsNarrowed table w asks = (process : ℕ) (now : ProcessState) →
     kept_at w process ≡ Some now → IsConfined now → IsTrue (none_done is_exec table w asks (process ∷ [])) →
     (member : ℕ) → IsTrue (is_member (family table w asks (process ∷ [])) member) →
     HasKept (world_after table w asks) member (λ last.
-    ReachesNoMore table (world_after table w asks).tree now last (none_done is_chdir table w asks (process ∷ [])))
+    ReachesNoMore table (world_after table w asks).tree now last (none_done is_chdir table w asks (process ∷ []))
+    (none_done is_chroot table w asks (process ∷ [])))
 
 abbrev pub NarrowingAsRead : Type 0
 NarrowingAsRead = AsRead IsNarrowed

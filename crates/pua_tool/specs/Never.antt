@@ -22,6 +22,7 @@ use Rattle.pua_how.specs.declared.target.Target.{Target}
 use Rattle.pua_texts.specs.Lines.{with_end}
 use Rattle.pua_tool.specs.HowTexts.{HowWanted, IsHowText, things_asked}
 use Rattle.pua_tool.specs.Texts.{Chosen, table_by}
+use Rattle.pua_path.specs.declared.found.Start.{Start}
 
 abbrev pub never_line : List ℕ
 never_line = with_end (codes "never")
@@ -37,7 +38,7 @@ NeverComesBehind table w process now call text thing = (asks : List Asked) → I
     (text ≡ never_line) ⊎ IsTrue (none_done is_exec table w asks (process ∷ [])) → MembersEdit table w asks (process ∷ []) →
     (member : ℕ) → IsTrue (is_member (family table w asks (process ∷ [])) member) →
     let after = world_after table w asks in
-    HasKept after member (λ last. (from : ℕ) (path : List ℕ) (object : Found) →
+    HasKept after member (λ last. (from : Start) (path : List ℕ) (object : Found) →
     resolution_of_text after.tree from (ending_of call) path (last_of call) ≡ Ok object → is_of after.tree now thing object ≡ true →
     verdict after.tree (tmp_table table) last call object ≡ Allowed → ⊥)
 

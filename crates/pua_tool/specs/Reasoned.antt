@@ -19,7 +19,8 @@ use Rattle.pua_script.specs.Laws.{LacksRoom}
 use Rattle.pua_script.specs.Requests.{Asked, says_nothing}
 use Rattle.pua_script.specs.Scripts.{script_by}
 use Rattle.pua_script.specs.Replay.{World, apply, new_world, kept_at, world_after}
-use Rattle.pua_objects.specs.Objects.{Line, Subject, At, Others, line_text, objects}
+use Rattle.pua_objects.specs.Objects.{Line, Subject, At, Others, line_text}
+use Rattle.pua_objects.specs.Roots.{shown_objects}
 use Rattle.pua_why.specs.Columns.{columns, resting_on, veil_columns}
 use Rattle.pua_why.specs.Keys.{reason_key}
 use Rattle.pua_why.specs.Openings.{opened_by, opener_text}
@@ -113,7 +114,7 @@ pub record IsListReasoned (rules : Rules) (table : CallTable) (t : Tree) (asks :
   pub is_text : text ≡ flat_map with_end lines
       ++ why_list (heading_now rules process) (record { table = table; world = new_world t; asks = asks }) now
   pub told : AreReasonsTold table (new_world t) [] asks lines
-  pub reasoned : (line : Line) → Contains (objects (world_after table (new_world t) asks).tree table now) line →
+  pub reasoned : (line : Line) → Contains (shown_objects (world_after table (new_world t) asks).tree table now) line →
       IsLineReasoned table t asks process now line text
 
 -- of each table, listing and script that a command reads

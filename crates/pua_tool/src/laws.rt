@@ -26,7 +26,7 @@ ghost use Rattle.pua_script.specs.Tightening.{OthersLeave, OthersLeaveAlways};
 use pua_ever::{through_law, together_law};
 use pua_jointly::jointly_law;
 use pua_listing::read_back_law;
-use pua_objects::{completeness_law, soundness_law};
+use pua_objects::{root_law, soundness_law};
 use pua_script::{bytes_law, openings_law, pasts_law};
 use pua_texts::state_law;
 use pua_tree::FileTree;
@@ -78,14 +78,15 @@ pub fn images_text_law()
 {}
 
 /// Where there is a text of a list of objects of a process, it is the answers and the list of the
-/// process, each line of which stands in it; and whatever path is spelled, if a call is allowed on
-/// it, what it names has a line with the call. A call that is answered ok and has no such line is on
-/// a path that a promise opens, which has its line `opening`. And each call of each line is allowed
-/// on the line's own path, or on that of each further name.
+/// process, each line of which stands in it; and whatever path is spelled from where the paths of
+/// the process start, if a call is allowed on it, what it names has a line with the call. A call that
+/// is answered ok and has no such line is on a path that a promise opens, which has its line
+/// `opening`. And each call of each line is allowed on the line's own path, or on that of each
+/// further name, where the root of the process is that of the tree.
 pub fn objects_text_law()
     ensures { ObjectsAsWritten }
 {
-    completeness_law();
+    root_law();
     soundness_law();
     openings_law();
     state_law();

@@ -12,7 +12,7 @@ use Rattle.pua_why.proofs.Common.{unpromised_fault, told_path, uncovered_fault, 
 use Rattle.pua_why.proofs.Common.{facts_named, facts_under, call_trace, name_trace, Place}
 use Rattle.std.specs.Prelude.{bit_or}
 use Rattle.pua_path.specs.declared.text.Ending.TheVariants as ending
-use Rattle.pua_policy.specs.States.{has_veil, working_dir}
+use Rattle.pua_policy.specs.States.{has_veil, start}
 use Rattle.pua_policy.specs.Verdict.{nearest}
 use Rattle.pua_policy.specs.declared.place.Place.TheVariants.{Dir}
 use Rattle.pua_policy.specs.declared.answer.Cover.TheVariants.{All}
@@ -118,7 +118,7 @@ plainly_told t table h call text change e =
     by : (p : Promising) → promising h (rule_of table call).alternatives ≡ p → (o : Result Found PathFault) →
         (call_trace t h call text).outcome ≡ o →
         unless_refused (unpromised_fault p) (on_named (λ fault. fault)
-        (told_path Sole (outcome_in table.whose t (working_dir h) text o)) λ object.
+        (told_path Sole text (outcome_in table.whose t (start h) text o)) λ object.
         unless_failed (λ fault. fault) (or_fault (uncovered_fault Sole object (rule_of table call).perms (covering t h object))
         (wrong object)) (Ok (change_by table call object))) ≡ Ok change →
         Plainly t table h call text
@@ -158,7 +158,7 @@ openly_told t table h call text o change e = by (call_trace t h call text).outco
     under false object none = refl
 
     by : (r : Result Found PathFault) → (call_trace t h call text).outcome ≡ r →
-        on_named (λ fault. fault) (told_path Sole (outcome_in table.whose t (working_dir h) text r)) (λ object.
+        on_named (λ fault. fault) (told_path Sole text (outcome_in table.whose t (start h) text r)) (λ object.
         unless_failed (λ fault. fault) (or_fault (asked object) (wrong object)) (Ok (change_by table call object))) ≡ Ok change →
         Openly t table h call text o
     by (Ok object) is e = record {
@@ -240,8 +240,8 @@ module _ (whose : Rules) (pair : PairRule) (t : Tree) (h : ProcessState) (end : 
       by : (p : Promising) → promising h pair.old.needs.alternatives ≡ p → (q : Promising) → promising h pair.new.needs.alternatives ≡ q →
           (o : Result Found PathFault) → first.outcome ≡ o → (n : Result Found PathFault) → second.outcome ≡ n →
           unless_refused (unpromised_fault p)
-          (unless_refused (unpromised_fault q) (on_named (λ fault. fault) (told_path Old (outcome_in whose t (working_dir h) a o)) λ old. on_named (λ fault. fault)
-          (told_path New (outcome_in whose t (working_dir h) b n)) λ new.
+          (unless_refused (unpromised_fault q) (on_named (λ fault. fault) (told_path Old a (outcome_in whose t (start h) a o)) λ old. on_named (λ fault. fault)
+          (told_path New b (outcome_in whose t (start h) b n)) λ new.
           unless_failed (λ fault. fault) (both old new) (further old new))) ≡ Ok change → PairFactsOf pair t h end a b
       by (Holds x) p (Holds y) q (Ok old) o (Ok new) n e = record {
         old_promises = x;

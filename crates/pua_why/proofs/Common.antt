@@ -15,7 +15,7 @@ pub use Rattle.pua_path.specs.declared.found.Last.TheVariants.{Followed}
 pub use Rattle.pua_path.specs.declared.text.Ending.{Ending}
 pub use Rattle.pua_path.specs.declared.traced.PathFault.{PathFault}
 pub use Rattle.pua_path.specs.declared.traced.PathTextFault.{PathTextFault}
-pub use Rattle.pua_policy.specs.States.{ProcessState, is_ended, is_locked, perms_kept, working_dir}
+pub use Rattle.pua_policy.specs.States.{ProcessState, is_ended, is_locked, perms_kept, start}
 pub use Rattle.pua_policy.specs.Misfits.{misfit}
 pub use Rattle.pua_policy.specs.Reasons.{covering, HasEnded, Holds, Lacks, Promising, promising}
 pub use Rattle.pua_policy.specs.Verdict.{object_of, or_fault}
@@ -28,7 +28,7 @@ pub use Rattle.pua_script.specs.Decide.{unless_failed, unless_refused}
 pub use Rattle.pua_script.specs.Limits.{most_processes}
 pub use Rattle.pua_script.specs.Replay.{change_effect, come_of, edit_effect, edited_tree, kept_at, World}
 pub use Rattle.pua_script.specs.declared.answer.Answer.{Answer}
-pub use Rattle.pua_script.specs.declared.request.Action.TheVariants.{Close, Exit, Fchdir, Fork, Hold, Link, Lock, OnPath, Pledge, Rename}
+pub use Rattle.pua_script.specs.declared.request.Action.TheVariants.{Chroot, Close, Exit, Fchdir, Fork, Hold, Link, Lock, OnPath, Pledge, Rename}
 pub use Rattle.pua_script.specs.declared.request.Action.TheVariants.{Symlink, Take, Unveil, Uses, Comment}
 pub use Rattle.pua_tree.specs.Edits.{add, cut, shift, tie}
 pub use Rattle.pua_tree.specs.LentRows.{lent_entry}

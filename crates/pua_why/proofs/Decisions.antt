@@ -3,11 +3,11 @@ use Rattle.pua_why.proofs.Common.{◌≡◌, ℕ, Bool, true, false, List, [], �
 use Rattle.pua_why.proofs.Common.{if◌then◌else◌, ◌||◌, not, is_some, nat_le, option_map, Tree, Spot, add, cut, tie, shift, TreeFault}
 use Rattle.pua_why.proofs.Common.{spot_named, node_named, Ending, Followed, Found, Whole, Slot, text_fault, trace_of_text, PathTextFault}
 use Rattle.pua_why.proofs.Common.{PathFault, holds, unveil, CallTable, PairRule, rule_of, ProcessState, is_ended, is_locked, perms_kept}
-use Rattle.pua_why.proofs.Common.{working_dir, object_of, or_fault, Place, Call, most_processes, Change, NoChange, AddNode, CutRow}
+use Rattle.pua_why.proofs.Common.{start, object_of, or_fault, Place, Call, most_processes, Change, NoChange, AddNode, CutRow}
 use Rattle.pua_why.proofs.Common.{ShiftRow, TieRow, BeginProgram, AddEvent, CopyAs, TakeFile, Outcome, Side, Sole, Old, New, unless_refused}
 use Rattle.pua_why.proofs.Common.{unless_failed, on_named, adding, link_node, change_by, shifting, fault_if, pair_by, World, kept_at}
 use Rattle.pua_why.proofs.Common.{change_effect, come_of, edit_effect, edited_tree, OnPath, Symlink, Rename, Link, Pledge, Unveil, Lock}
-use Rattle.pua_why.proofs.Common.{Fork, Exit, Uses, Hold, Close, Fchdir, Take, Comment, Answer, lacking, misfit, InView, By, Promising}
+use Rattle.pua_why.proofs.Common.{Fork, Exit, Uses, Hold, Close, Fchdir, Chroot, Take, Comment, Answer, lacking, misfit, InView, By, Promising}
 use Rattle.pua_why.proofs.Common.{Holds, HasEnded, Lacks, promising, covering}
 use Rattle.pua_why.proofs.Common.{Fault, LacksLetters, Unfit, IsLocked, NumberTaken, NoProcessLeft, unpromised_fault, told_path}
 use Rattle.pua_why.proofs.Common.{uncovered_fault, place_beyond, faults, faults_of, change_or_fault, no_room, room_fault, outcome_fault}
@@ -15,18 +15,18 @@ use Rattle.pua_why.proofs.Common.{decision_of}
 use Rattle.std.specs.Prelude.{◌&&◌, ok_or}
 use Rattle.pua_tree.specs.Tree.{is_empty}
 use Rattle.pua_tree.specs.Edits.{is_inside, is_same_node}
-use Rattle.pua_path.specs.Paths.{path_fault}
+use Rattle.pua_path.specs.Paths.{is_absolute, path_fault}
 use Rattle.pua_path.specs.Resolution.{resolution_of_text}
 use Rattle.pua_path.specs.declared.errno.Errno.{Errno}
-use Rattle.pua_path.specs.declared.errno.Errno.TheVariants.{EBADF, EPERM, EACCES, EAGAIN, EINVAL}
+use Rattle.pua_path.specs.declared.errno.Errno.TheVariants.{EBADF, EPERM, EACCES, EAGAIN, EINVAL, ENOENT}
 use Rattle.pua_path.specs.declared.text.Ending.TheVariants as ending
 use Rattle.pua_path.specs.declared.found.Way.TheVariants as way
 use Rattle.pua_path.specs.Traces.{text_errno, object_or_errno}
 use Rattle.pua_path.proofs.ForCallers.{text_traces_answer}
-use Rattle.pua_calls.specs.Promises.{proc, recvfd, sendfd}
+use Rattle.pua_calls.specs.Promises.{id, proc, recvfd, sendfd}
 use Rattle.pua_policy.specs.declared.open_file.OpenFile.{OpenFile}
-use Rattle.pua_policy.specs.States.{Filed, Moved, file_at, held_set, is_directory, is_pledged}
-use Rattle.pua_script.specs.Decide.{close_by, fchdir_by, holding}
+use Rattle.pua_policy.specs.States.{Filed, Moved, ToDir, file_at, held_set, is_directory, is_pledged}
+use Rattle.pua_script.specs.Decide.{close_by, fchdir_by, holding, rooting}
 use Rattle.pua_script.specs.Replay.{sent_by, sent_of, take_effect}
 use Rattle.pua_why.specs.Reasons.{WrongFile, NotOpen, sent_fault}
 use Rattle.pua_calls.specs.Calls.{last_of, ending_of}
@@ -48,8 +48,10 @@ use Rattle.pua_script.specs.Openings.{Opening, opening_of}
 use Rattle.pua_script.specs.Decide.{before_long, errno_behind, errno_by, front_errno, named_in, path_named}
 use Rattle.pua_calls.specs.declared.rules.Rules.TheVariants.{Standard, Openbsd}
 use Rattle.pua_path.specs.declared.found.Last.{Last}
+use Rattle.pua_path.specs.declared.found.Start.{Start}
 use Rattle.pua_path.specs.Traces.{path_errno}
-use Rattle.pua_why.specs.Reasons.{fault_behind, fault_by, front_fault, outcome_in}
+use Rattle.pua_path.specs.declared.traced.PathFault.TheVariants.{InText, NoStart, Stops}
+use Rattle.pua_why.specs.Reasons.{bad_path, fault_behind, fault_by, front_fault, no_start, outcome_in}
 use Rattle.pua_script.specs.Decide.{tying, dots_by, top_by, ways_by, kinds_by, inside_by, is_whole, given_set, is_unknown}
 use Rattle.pua_script.specs.Decide.{asks_directory, object_by, rename_by, link_by, veil_by, unveil_errno, refusals, asker_of, decide}
 use Rattle.pua_policy.specs.Misfits.{misfit_errno}
@@ -100,18 +102,30 @@ failed_told : (o : Option Fault) (p : Option Errno) (d : Outcome Fault) (e : Dec
 failed_told o p d e same next = failed_as o d ∙ (λ i. unless_refused (same i) (next i)) ∙ checked_as p e
 
 -- on what a path named
-named_as : (side : Side) (outcome : Result Found PathFault) (f : Found → Outcome Fault) (g : Found → Decision) →
-    ((x : Found) → decision_of (f x) ≡ g x) →
-    decision_of (on_named (λ fault. fault) (told_path side outcome) f) ≡ on_named (λ errno. refusal.Failed errno) (object_or_errno outcome)
-    g
-named_as side (Ok x) f g each = each x
-named_as side (Err fault) f g each = refl
+bad_told : (side : Side) (text : List ℕ) (fault : PathFault) → fault_refusal (bad_path side text fault) ≡ refusal.Failed (path_errno fault)
+bad_told side text (InText fault) = refl
+bad_told side text (Stops stop) = refl
+bad_told side text NoStart = by (is_absolute text)
+  where
+    by : (v : Bool) → fault_refusal (no_start side v) ≡ refusal.Failed ENOENT
+    by true = refl
+    by false = refl
 
-named_told : (side : Side) (outcome : Result Found PathFault) (r : Result Found Errno) (f : Found → Outcome Fault) (g : Found → Decision) →
-    object_or_errno outcome ≡ r →
+named_as : (side : Side) (text : List ℕ) (outcome : Result Found PathFault) (f : Found → Outcome Fault) (g : Found → Decision) →
     ((x : Found) → decision_of (f x) ≡ g x) →
-    decision_of (on_named (λ fault. fault) (told_path side outcome) f) ≡ on_named (λ errno. refusal.Failed errno) r g
-named_told side outcome r f g is each = named_as side outcome f g each ∙ ap (λ r. on_named (λ errno. refusal.Failed errno) r g) is
+    decision_of (on_named (λ fault. fault) (told_path side text outcome) f)
+    ≡ on_named (λ errno. refusal.Failed errno) (object_or_errno outcome) g
+named_as side text (Ok x) f g each = each x
+named_as side text (Err fault) f g each = ap refusing (bad_told side text fault)
+  where
+    refusing : Refusal → Decision
+    refusing refused = Err refused
+
+named_told : (side : Side) (text : List ℕ) (outcome : Result Found PathFault) (r : Result Found Errno) (f : Found → Outcome Fault)
+    (g : Found → Decision) → object_or_errno outcome ≡ r →
+    ((x : Found) → decision_of (f x) ≡ g x) →
+    decision_of (on_named (λ fault. fault) (told_path side text outcome) f) ≡ on_named (λ errno. refusal.Failed errno) r g
+named_told side text outcome r f g is each = named_as side text outcome f g each ∙ ap (λ r. on_named (λ errno. refusal.Failed errno) r g) is
 
 -- the first of two faults
 or_as : (a b : Option Fault) → Told (or_fault a b) ≡ or_fault (Told a) (Told b)
@@ -179,19 +193,19 @@ module _ (t : Tree) (h : ProcessState) where
   front_told fault (Ok x) r is = ap (front_errno (path_errno fault)) is
   front_told fault (Err front) r is = ap (front_errno (path_errno fault)) is
 
-  behind_told : (from : ℕ) (fault : PathFault) (front : Option (List ℕ)) →
+  behind_told : (from : Start) (fault : PathFault) (front : Option (List ℕ)) →
       path_errno (fault_behind t from fault front) ≡ errno_behind t from (path_errno fault) front
   behind_told from fault None = refl
   behind_told from fault (Some front) =
       front_told fault (trace_of_text t from ending.Dot front Followed).outcome (resolution_of_text t from ending.Dot front Followed)
       (text_traces_answer t from ending.Dot front Followed)
 
-  fault_told : (whose : Rules) (from : ℕ) (text : List ℕ) (fault : PathFault) →
+  fault_told : (whose : Rules) (from : Start) (text : List ℕ) (fault : PathFault) →
       path_errno (fault_by whose t from text fault) ≡ errno_by whose t from text (path_errno fault)
   fault_told Standard from text fault = refl
   fault_told Openbsd from text fault = behind_told from fault (before_long text)
 
-  named_in_told : (whose : Rules) (from : ℕ) (text : List ℕ) (o : Result Found PathFault) →
+  named_in_told : (whose : Rules) (from : Start) (text : List ℕ) (o : Result Found PathFault) →
       object_or_errno (outcome_in whose t from text o) ≡ named_in whose t from text (object_or_errno o)
   named_in_told whose from text (Ok x) = refl
   named_in_told whose from text (Err fault) = ap failing (fault_told whose from text fault)
@@ -200,19 +214,19 @@ module _ (t : Tree) (h : ProcessState) where
       failing errno = Err errno
 
   path_told : (whose : Rules) (end : Ending) (text : List ℕ) (mode : Last) →
-      object_or_errno (outcome_in whose t (working_dir h) text (trace_of_text t (working_dir h) end text mode).outcome)
-      ≡ path_named whose t (working_dir h) end text mode
+      object_or_errno (outcome_in whose t (start h) text (trace_of_text t (start h) end text mode).outcome)
+      ≡ path_named whose t (start h) end text mode
   path_told whose end text mode =
-      named_in_told whose (working_dir h) text (trace_of_text t (working_dir h) end text mode).outcome
-      ∙ ap (named_in whose t (working_dir h) text) (text_traces_answer t (working_dir h) end text mode)
+      named_in_told whose (start h) text (trace_of_text t (start h) end text mode).outcome
+      ∙ ap (named_in whose t (start h) text) (text_traces_answer t (start h) end text mode)
 
   -- a call of the table, whose promises are held
   call_told : (table : CallTable) (c : Call) (path : List ℕ) (f : Found → Change) →
       decision_of (object_by faults table t (faults_of h) c path (λ x. Ok (f x)))
       ≡ object_by refusals table t (asker_of h) c path (λ x. Ok (f x))
   call_told table c path f =
-      named_told Sole (outcome_in table.whose t (working_dir h) path (trace_of_text t (working_dir h) (ending_of c) path (last_of c)).outcome)
-      (path_named table.whose t (working_dir h) (ending_of c) path (last_of c)) _ _
+      named_told Sole path (outcome_in table.whose t (start h) path (trace_of_text t (start h) (ending_of c) path (last_of c)).outcome)
+      (path_named table.whose t (start h) (ending_of c) path (last_of c)) _ _
       (path_told table.whose (ending_of c) path (last_of c)) λ x.
       failed_told _ (found_fault t table h c x) (Ok (f x)) (Ok (f x)) (or_told _ _ _ _ (cover_told Sole x (rule_of table c).perms)
       (object_told table c x)) refl
@@ -227,8 +241,8 @@ module _ (t : Tree) (h : ProcessState) where
       decision_of (object_by faults table t (past_promises asks_veils (faults_of h)) c path (λ x. Ok (f x)))
       ≡ object_by refusals table t (past_promises asks_veils (asker_of h)) c path (λ x. Ok (f x))
   past_told table c path f asks_veils =
-      named_told Sole (outcome_in table.whose t (working_dir h) path (trace_of_text t (working_dir h) (ending_of c) path (last_of c)).outcome)
-      (path_named table.whose t (working_dir h) (ending_of c) path (last_of c)) _ _
+      named_told Sole path (outcome_in table.whose t (start h) path (trace_of_text t (start h) (ending_of c) path (last_of c)).outcome)
+      (path_named table.whose t (start h) (ending_of c) path (last_of c)) _ _
       (path_told table.whose (ending_of c) path (last_of c)) λ x.
       failed_told _ (or_fault (cover_past asks_veils (asker_of h).cover Sole t x (rule_of table c).perms)
       (object_fault table.whose t c (object_of t x)))
@@ -241,11 +255,11 @@ module _ (t : Tree) (h : ProcessState) where
   pair_told whose rules end old new f g each =
       refused_told _ _ _ _ (promises_told h rules.old.needs.alternatives)
       (refused_told _ _ _ _ (promises_told h rules.new.needs.alternatives)
-      (named_told Old (outcome_in whose t (working_dir h) old (trace_of_text t (working_dir h) end old rules.old.last).outcome)
-      (path_named whose t (working_dir h) end old rules.old.last) _ _ (path_told whose end old rules.old.last)
+      (named_told Old old (outcome_in whose t (start h) old (trace_of_text t (start h) end old rules.old.last).outcome)
+      (path_named whose t (start h) end old rules.old.last) _ _ (path_told whose end old rules.old.last)
       λ a.
-      named_told New (outcome_in whose t (working_dir h) new (trace_of_text t (working_dir h) end new rules.new.last).outcome)
-      (path_named whose t (working_dir h) end new rules.new.last) _ _ (path_told whose end new rules.new.last)
+      named_told New new (outcome_in whose t (start h) new (trace_of_text t (start h) end new rules.new.last).outcome)
+      (path_named whose t (start h) end new rules.new.last) _ _ (path_told whose end new rules.new.last)
       λ b.
       failed_told _ _ (f a b) (g a b) (or_told _ _ _ _ (cover_told Old a rules.old.needs.perms) (cover_told New b rules.new.needs.perms))
       (each a b)))
@@ -355,8 +369,8 @@ veil_told : (whose : Rules) (t : Tree) (h : ProcessState) (path : List ℕ) (let
     decision_of (veil_by faults whose t (faults_of h) path letters) ≡ veil_by refusals whose t (asker_of h) path letters
 veil_told whose t h path None = refl
 veil_told whose t h path (Some perms) =
-    named_told Sole (outcome_in whose t (working_dir h) path (trace_of_text t (working_dir h) ending.Dot path Followed).outcome)
-    (path_named whose t (working_dir h) ending.Dot path Followed) _ _ (path_told t h whose ending.Dot path Followed) λ x.
+    named_told Sole path (outcome_in whose t (start h) path (trace_of_text t (start h) ending.Dot path Followed).outcome)
+    (path_named whose t (start h) ending.Dot path Followed) _ _ (path_told t h whose ending.Dot path Followed) λ x.
     failed_told _ _ _ _ (unveil_told h (place_of x) perms) refl
 
 -- a call without openings
@@ -378,15 +392,15 @@ fchdir_told : (h : ProcessState) (number : ℕ) → decision_of (fchdir_by fault
 fchdir_told h number = by (file_at h.files number)
   where
     entered : (file : OpenFile) (b : Bool) →
-        decision_of (unless_failed faults.failed (fault_if (not b) (faults.no_directory number)) (Ok (AddEvent (Moved file.node))))
-        ≡ unless_failed refusals.failed (fault_if (not b) (refusals.no_directory number)) (Ok (AddEvent (Moved file.node)))
+        decision_of (unless_failed faults.failed (fault_if (not b) (faults.no_directory number)) (Ok (AddEvent (Moved (ToDir file.node)))))
+        ≡ unless_failed refusals.failed (fault_if (not b) (refusals.no_directory number)) (Ok (AddEvent (Moved (ToDir file.node))))
     entered file true = refl
     entered file false = refl
 
     by : (o : Option OpenFile) → decision_of (on_named faults.failed (ok_or o (WrongFile (NotOpen number)))
-        (λ file. unless_failed faults.failed (fault_if (not (is_directory file)) (faults.no_directory number)) (Ok (AddEvent (Moved file.node)))))
+        (λ file. unless_failed faults.failed (fault_if (not (is_directory file)) (faults.no_directory number)) (Ok (AddEvent (Moved (ToDir file.node))))))
         ≡ on_named refusals.failed (ok_or o EBADF)
-        (λ file. unless_failed refusals.failed (fault_if (not (is_directory file)) (refusals.no_directory number)) (Ok (AddEvent (Moved file.node))))
+        (λ file. unless_failed refusals.failed (fault_if (not (is_directory file)) (refusals.no_directory number)) (Ok (AddEvent (Moved (ToDir file.node)))))
     by None = refl
     by (Some file) = entered file (is_directory file)
 
@@ -421,6 +435,8 @@ reasons_give_decisions table t h (Hold number c path) = by (opening_of table h c
     by (Some o) = past_told t h table c path (holding t number c) o.asks_veils
 reasons_give_decisions table t h (Close number) = close_told h number
 reasons_give_decisions table t h (Fchdir number) = fchdir_told h number
+reasons_give_decisions table t h (Chroot path) =
+    refused_told _ _ _ _ (promises_told h (id ∷ [])) (call_told t h table call.Chdir path rooting)
 reasons_give_decisions table t h (Take number from theirs) = refused_told _ _ _ _ (promises_told h (recvfd ∷ [])) refl
 reasons_give_decisions table t h Comment = refl
 
@@ -460,8 +476,8 @@ verdict_is t table h c (Err errno) = refl
 pub reasons_give_verdicts : ReasonsGiveVerdicts
 reasons_give_verdicts t table h c text =
     verdict_told (call_by faults table t (faults_of h) c text) ∙ ap verdict_as (calls_give table t h c text)
-    ∙ decided_as t table h c (may_any h (rule_of table c).alternatives) (named_in table.whose t (working_dir h) text (object_named t h c text))
-    ∙ verdict_is t table h c (named_in table.whose t (working_dir h) text (object_named t h c text))
+    ∙ decided_as t table h c (may_any h (rule_of table c).alternatives) (named_in table.whose t (start h) text (object_named t h c text))
+    ∙ verdict_is t table h c (named_in table.whose t (start h) text (object_named t h c text))
 
 -- the answer to a change
 abbrev told : Option Fault → Answer

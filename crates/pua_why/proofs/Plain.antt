@@ -1,7 +1,7 @@
 -- A request that is about no other process is granted no further process, and none of another's open files.
 use Rattle.pua_why.proofs.Common.{◌≡◌, ℕ, Some, None, refl, sym, ap, ◌∙◌, Ok, Err, Option, Tree, Spot, spot_named, node_named, Found, Whole}
 use Rattle.pua_why.proofs.Common.{Slot, CallTable, ProcessState, Call, Change, NoChange, Outcome, shifting, link_node, change_by, World, OnPath}
-use Rattle.pua_why.proofs.Common.{Symlink, Rename, Link, Pledge, Unveil, Lock, Fork, Exit, Uses, Hold, Close, Fchdir, Take, Comment}
+use Rattle.pua_why.proofs.Common.{Symlink, Rename, Link, Pledge, Unveil, Lock, Fork, Exit, Uses, Hold, Close, Fchdir, Chroot, Take, Comment}
 use Rattle.pua_why.proofs.Common.{Fault, change_or_fault, decision_of}
 use Rattle.pua_why.proofs.Common.{refused_by}
 use Rattle.std.proofs.Common.{inl, inr, ◌⊎◌, true≢false}
@@ -9,7 +9,7 @@ use Rattle.std.specs.Prelude.{IsFalse}
 use Rattle.pua_tree.specs.Tree.{Node}
 use Rattle.pua_calls.specs.declared.call.Call.TheVariants as call
 use Rattle.pua_path.specs.declared.found.Way.TheVariants as way
-use Rattle.pua_script.specs.Decide.{file_opened, filing, placing, tying}
+use Rattle.pua_script.specs.Decide.{file_opened, filing, placing, rooting, tying}
 use Rattle.pua_policy.specs.declared.open_file.OpenFile.{OpenFile}
 use Rattle.pua_script.specs.Guards.{IsDecided, IsShift}
 use Rattle.pua_script.specs.Worlds.{is_of_two}
@@ -38,6 +38,10 @@ module _ (w : World) (asker : ProcessState) where
   plain_tying : (x : ℕ) (spot : Option Spot) → Plain (tying x spot)
   plain_tying x None = refl
   plain_tying x (Some spot) = refl
+
+  plain_rooting : (x : Found) → Plain (rooting x)
+  plain_rooting (Whole dir way) = refl
+  plain_rooting (Slot dir name y) = refl
 
   plain_filing : (number : ℕ) (o : Option OpenFile) → Plain (filing number o)
   plain_filing number None = refl
@@ -74,6 +78,7 @@ module _ (w : World) (asker : ProcessState) where
   plain_decided table t h (Hold number c path) change other d = is_plain change _ d.2 (plain_filing number (file_opened t c (node_named d.0)))
   plain_decided table t h (Close number) change other d = is_plain change _ d.2 refl
   plain_decided table t h (Fchdir number) change other d = is_plain change _ d.is refl
+  plain_decided table t h (Chroot path) change other d = is_plain change _ d.is (plain_rooting d.object)
   plain_decided table t h (Take number from theirs) change other d = absurd (true≢false other)
   plain_decided table t h Comment change other d = is_plain change _ d refl
 

@@ -3,9 +3,12 @@ use Rattle.pua_why.proofs.Common.{◌≡◌, ℕ, Bool, true, false, List, Some,
 use Rattle.pua_why.proofs.Common.{PathFault, holds, ProcessState, is_ended, or_fault, Place, Outcome, Side, unless_refused, unless_failed}
 use Rattle.pua_why.proofs.Common.{on_named, fault_if, lacking, InView, By, Promising, Holds, HasEnded, Lacks, promising, Fault}
 use Rattle.pua_why.proofs.Common.{LacksLetters, unpromised_fault, told_path, uncovered_fault}
+use Rattle.pua_path.specs.Paths.{is_absolute}
+use Rattle.pua_path.specs.declared.traced.PathFault.TheVariants.{InText, NoStart, Stops}
 use Rattle.pua_policy.specs.declared.reason.Covering.{Covering}
 use Rattle.pua_policy.specs.declared.reason.Covering.TheVariants.{NoneOver}
-use Rattle.pua_why.specs.Reasons.{Ends, LacksPromises, BadPath, Uncovered}
+use Rattle.pua_why.specs.Reasons.{Ends, LacksPromises, BadPath, NoRoot, Uncovered, bad_path, no_start}
+use Rattle.pua_why.specs.Laws.{IsFromNoRoot, PathFaultHolds}
 use Rattle.pua_policy.specs.ReasonLaws.{PromisingHolds}
 use Rattle.pua_policy.proofs.ForCallers.{promisings_hold}
 
@@ -25,12 +28,26 @@ pub failed_true : (o : Option Fault) (d : Outcome Fault) (fault : Fault) (Is : F
 failed_true None d fault Is stops more e = more e
 failed_true (Some bad) d fault Is stops more e = subst Is (same_fault bad fault e) (stops bad refl)
 
-pub named_true : (side : Side) (outcome : Result Found PathFault) (further : Found → Outcome Fault) (fault : Fault) (Is : Fault → Type 0) →
-    ((bad : PathFault) → outcome ≡ Err bad → Is (BadPath side bad)) → ((object : Found) → outcome ≡ Ok object → further object ≡ Err fault →
-    Is fault) →
-    on_named (λ fault. fault) (told_path side outcome) further ≡ Err fault → Is fault
-named_true side (Ok object) further fault Is fails more e = more object refl e
-named_true side (Err bad) further fault Is fails more e = subst Is (same_fault (BadPath side bad) fault e) (fails bad refl)
+-- a path that names nothing: why, or that it starts at a root that was removed
+path_true : (side : Side) (text : List ℕ) (outcome : Result Found PathFault) (Is : Fault → Type 0) →
+    ((bad : PathFault) → PathFaultHolds text outcome bad → Is (BadPath side bad)) → (IsFromNoRoot text outcome → Is (NoRoot side)) →
+    (bad : PathFault) → outcome ≡ Err bad → Is (bad_path side text bad)
+path_true side text outcome Is fails rootless (InText fault) o = fails (InText fault) o
+path_true side text outcome Is fails rootless (Stops stop) o = fails (Stops stop) o
+path_true side text outcome Is fails rootless NoStart o = by (is_absolute text) refl
+  where
+    by : (v : Bool) → is_absolute text ≡ v → Is (no_start side v)
+    by true v = rootless (v, o)
+    by false v = fails NoStart (v, o)
+
+pub named_true : (side : Side) (text : List ℕ) (outcome : Result Found PathFault) (further : Found → Outcome Fault) (fault : Fault)
+    (Is : Fault → Type 0) → ((bad : PathFault) → PathFaultHolds text outcome bad → Is (BadPath side bad)) →
+    (IsFromNoRoot text outcome → Is (NoRoot side)) →
+    ((object : Found) → outcome ≡ Ok object → further object ≡ Err fault → Is fault) →
+    on_named (λ fault. fault) (told_path side text outcome) further ≡ Err fault → Is fault
+named_true side text (Ok object) further fault Is fails rootless more e = more object refl e
+named_true side text (Err bad) further fault Is fails rootless more e =
+    subst Is (same_fault (bad_path side text bad) fault e) (path_true side text (Err bad) Is fails rootless bad refl)
 
 -- of two faults the first, or the second
 pub either_true : (a b : Option Fault) (bad : Fault) (Is : Fault → Type 0) → (a ≡ Some bad → Is bad) → (b ≡ Some bad → Is bad) →

@@ -1,7 +1,7 @@
 -- Answers that are told with what opened them.
 use Rattle.pua_why.proofs.Common.{◌≡◌, ℕ, Bool, true, false, List, [], ◌∷◌, map, refl, ap, ◌∙◌, Option, Some, None, if◌then◌else◌, CallTable, World}
 use Rattle.pua_why.proofs.Common.{ProcessState, Tree, Answer, kept_at, OnPath, Symlink, Rename, Link, Pledge, Unveil, Lock, Fork, Exit}
-use Rattle.pua_why.proofs.Common.{Uses, Hold, Close, Fchdir, Take, Comment}
+use Rattle.pua_why.proofs.Common.{Uses, Hold, Close, Fchdir, Chroot, Take, Comment}
 use Rattle.std.specs.Prelude.{◌&&◌, find, not, option_map, unwrap_or}
 use Rattle.std.proofs.Common.{◌++◌, ◌+◌, ◌<◌, get_or, length, sym, take}
 use Rattle.std.proofs.lemmas.List.{map-append, take_more}
@@ -57,6 +57,7 @@ module _ (table : CallTable) (none : (about_rules table.whose).has_openings ≡ 
       then find (is_opening (unwrap_or p.promises no_promises) call text) openings else None)) none
   no_opener t (Close number) p = refl
   no_opener t (Fchdir number) p = refl
+  no_opener t (Chroot path) p = refl
   no_opener t (Take number from theirs) p = refl
   no_opener t Comment p = refl
 

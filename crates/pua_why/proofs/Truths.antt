@@ -2,12 +2,12 @@
 use Rattle.pua_why.proofs.Common.{◌≡◌, ℕ, Bool, true, false, List, [], ◌∷◌, length, Some, None, refl, sym, Result, Ok, Err, Option, subst}
 use Rattle.pua_why.proofs.Common.{ap, ◌∙◌, if◌then◌else◌, not, ◌||◌, is_some, nat_le, option_map, Tree, Spot, add, cut, tie, shift}
 use Rattle.pua_why.proofs.Common.{TreeFault, spot_named, node_named, Ending, Followed, Found, Whole, Slot, text_fault, trace_of_text}
-use Rattle.pua_why.proofs.Common.{PathTextFault, holds, unveil, CallTable, PairRule, rule_of, ProcessState, is_locked, perms_kept, working_dir}
+use Rattle.pua_why.proofs.Common.{PathTextFault, holds, unveil, CallTable, PairRule, rule_of, ProcessState, is_locked, perms_kept, start}
 use Rattle.pua_why.proofs.Common.{or_fault, Place, most_processes, Change, NoChange, AddNode, CutRow, ShiftRow, TieRow, BeginProgram}
 use Rattle.pua_why.proofs.Common.{AddEvent, CopyAs, TakeFile, Outcome, Side, Sole, Old, New, unless_refused, unless_failed, adding}
 use Rattle.pua_why.proofs.Common.{link_node}
 use Rattle.pua_why.proofs.Common.{shifting, pair_by, World, kept_at, change_effect, come_of, edit_effect, edited_tree, OnPath, Symlink}
-use Rattle.pua_why.proofs.Common.{Rename, Link, Pledge, Unveil, Lock, Fork, Exit, Uses, Hold, Close, Fchdir, Take, Comment, lacking, By}
+use Rattle.pua_why.proofs.Common.{Rename, Link, Pledge, Unveil, Lock, Fork, Exit, Uses, Hold, Close, Fchdir, Chroot, Take, Comment, lacking, By}
 use Rattle.pua_why.proofs.Common.{promising, covering, Fault, LacksLetters}
 use Rattle.pua_why.proofs.Common.{Unfit, IsLocked, NumberTaken, NoProcessLeft, unpromised_fault, place_beyond, faults, faults_of}
 use Rattle.pua_why.proofs.Common.{change_or_fault, no_room, room_fault, outcome_fault, name_trace, decision_of}
@@ -17,10 +17,10 @@ use Rattle.pua_tree.specs.Edits.{is_inside, is_same_node}
 use Rattle.pua_path.specs.declared.errno.Errno.TheVariants.{EBADF, EINVAL, ENOSPC, EPERM}
 use Rattle.pua_path.specs.declared.text.Ending.TheVariants as ending
 use Rattle.pua_path.specs.declared.found.Way.TheVariants as way
-use Rattle.pua_calls.specs.Promises.{proc, recvfd, sendfd}
+use Rattle.pua_calls.specs.Promises.{id, proc, recvfd, sendfd}
 use Rattle.pua_policy.specs.declared.open_file.OpenFile.{OpenFile}
-use Rattle.pua_policy.specs.States.{Filed, Moved, file_at, held_set, is_directory, is_ended, is_pledged}
-use Rattle.pua_script.specs.Decide.{close_by, fault_if, fchdir_by, on_named}
+use Rattle.pua_policy.specs.States.{Filed, Moved, ToDir, file_at, held_set, is_directory, is_ended, is_pledged}
+use Rattle.pua_script.specs.Decide.{close_by, fault_if, fchdir_by, on_named, rooting}
 use Rattle.pua_script.specs.Replay.{sent_by, sent_of}
 use Rattle.pua_why.specs.Reasons.{WrongFile, NotOpen, OpenNoDirectory, NotSent, MayNotSend, SendsDirectory, sent_fault, take_fault}
 use Rattle.pua_why.specs.Truths.{DirFaultHolds, FileFaultHolds, SentFaultHolds}
@@ -38,7 +38,7 @@ use Rattle.pua_calls.specs.declared.fits.Misfit.TheVariants.{ByDotDot, ByNothing
 use Rattle.pua_script.specs.Replay.{Fails, effect}
 use Rattle.pua_script.specs.declared.request.Given.{Given}
 use Rattle.pua_script.specs.declared.request.Action.{Action}
-use Rattle.pua_why.specs.Reasons.{Ends, LacksPromises, BadTarget, BadPath, Uncovered, Inside, UnknownPromise}
+use Rattle.pua_why.specs.Reasons.{Ends, LacksPromises, BadTarget, BadPath, NoRoot, Uncovered, Inside, UnknownPromise}
 use Rattle.pua_why.specs.Reasons.{AsksPromises, UnknownLetter, AsksLetters, NoPlaceLeft, NoRoom}
 use Rattle.pua_why.specs.Reasons.{beyond, asks_beyond, pledge_beyond, unless, unveil_beyond}
 use Rattle.pua_why.specs.Laws.{CallFaultHolds}
@@ -50,7 +50,7 @@ use Rattle.pua_why.proofs.Faults.{outcome_ok}
 use Rattle.pua_why.proofs.Steps.{same_fault, refused_true, failed_true, named_true, either_true, when_true, unpromised_true, uncovered_true}
 use Rattle.pua_script.proofs.ForCallers.{requests_lack}
 use Rattle.pua_why.proofs.Decisions.{reasons_give_decisions}
-use Rattle.pua_why.proofs.Faults.{object_true, call_faults_hold}
+use Rattle.pua_why.proofs.Faults.{behind_promises, call_faults_hold, faults_hold_by, object_true}
 use Rattle.pua_why.proofs.Held.{holds_are_refused, refused_too}
 use Rattle.std.proofs.lemmas.Bool.{false≢true, not-true}
 use Rattle.std.proofs.Common.{◌&&◌}
@@ -62,6 +62,7 @@ by_target table t h target path Ends is = is
 by_target table t h target path (LacksPromises error sets) is = is
 by_target table t h target path (BadTarget bad) is = absurd is
 by_target table t h target path (BadPath side bad) is = is
+by_target table t h target path (NoRoot side) is = is
 by_target table t h target path (Uncovered side object) is = is
 by_target table t h target path (LacksLetters side place given lacks) is = is
 by_target table t h target path (Unfit side object wrong) is = is
@@ -92,7 +93,8 @@ symlink_true table t h target path fault e =
     (λ bad e. unpromised_true h (rule_of table call.Symlink).alternatives bad (SymlinkFaultHolds table t h target path) (λ ended. ended)
     (λ error lacks is. is) e)
     (λ e. failed_true _ _ fault (SymlinkFaultHolds table t h target path) (λ bad e. target_true table t h target path bad e)
-    (λ e. by_target table t h target path fault (object_true t table h call.Symlink path (adding (link_node target)) fault e)) e) e
+    (λ e. by_target table t h target path fault (behind_promises (rule_of table call.Symlink).alternatives t table h call.Symlink path fault
+    (object_true t table h call.Symlink path (adding (link_node target)) fault e))) e) e
 
 -- two paths
 module _ (whose : Rules) (pair : PairRule) (t : Tree) (h : ProcessState) (end : Ending) (a b : List ℕ) where
@@ -192,12 +194,13 @@ module _ (whose : Rules) (pair : PairRule) (t : Tree) (h : ProcessState) (end : 
       (λ bad e. unpromised_true h pair.old.needs.alternatives bad Pair (λ ended. ended) (λ error lacks is. inl is) e)
       (λ e. refused_true _ _ fault Pair
       (λ bad e. unpromised_true h pair.new.needs.alternatives bad Pair (λ ended. ended) (λ error lacks is. inr is) e)
-      (λ e. named_true Old (outcome_in whose t (working_dir h) a (name_trace pair.old t h end a).outcome) _ fault Pair (λ bad o. o)
-      (λ old led_old e. named_true New (outcome_in whose t (working_dir h) b (name_trace pair.new t h end b).outcome) _ fault Pair
-      (λ bad n. n)
+      (λ e. named_true Old a (outcome_in whose t (start h) a (name_trace pair.old t h end a).outcome) _ fault Pair (λ bad o. o)
+      (λ o. o)
+      (λ old led_old e. named_true New b (outcome_in whose t (start h) b (name_trace pair.new t h end b).outcome) _ fault Pair
+      (λ bad n. n) (λ n. n)
       (λ new led_new e.
-      let o = outcome_ok whose t (working_dir h) a (name_trace pair.old t h end a).outcome old led_old in
-      let n = outcome_ok whose t (working_dir h) b (name_trace pair.new t h end b).outcome new led_new in
+      let o = outcome_ok whose t (start h) a (name_trace pair.old t h end a).outcome old led_old in
+      let n = outcome_ok whose t (start h) b (name_trace pair.new t h end b).outcome new led_new in
       failed_true _ _ fault Pair
       (λ bad e. either_true _ _ bad Pair
       (cover_true Old old bad pair.old.needs.perms o (λ place given over lacks. (old, o, over, lacks, refl)))
@@ -267,8 +270,8 @@ module _ (whose : Rules) (t : Tree) (h : ProcessState) (path : List ℕ) where
   veil_true : (letters : Option ℕ) (fault : Fault) → veil_by faults whose t (faults_of h) path letters ≡ Err fault → Veil letters fault
   veil_true None fault e = subst (Veil None) (same_fault UnknownLetter fault e) refl
   veil_true (Some perms) fault e =
-      named_true Sole (outcome_in whose t (working_dir h) path (trace_of_text t (working_dir h) ending.Dot path Followed).outcome) _ fault
-      (Veil (Some perms)) (λ bad o. o)
+      named_true Sole path (outcome_in whose t (start h) path (trace_of_text t (start h) ending.Dot path Followed).outcome) _ fault
+      (Veil (Some perms)) (λ bad o. o) (λ o. o)
       (λ object o e. failed_true _ _ fault (Veil (Some perms)) (λ bad e. beyond_true (place_of object) perms bad e) (λ granted. cc) e) e
 
 unveil_true : (table : CallTable) (t : Tree) (h : ProcessState) (path : List ℕ) (letters : Option ℕ) (fault : Fault) →
@@ -300,14 +303,14 @@ fchdir_true : (h : ProcessState) (number : ℕ) (fault : Fault) → fchdir_by fa
 fchdir_true h number fault = by (file_at h.files number) refl
   where
     directory : (file : OpenFile) → file_at h.files number ≡ Some file → (b : Bool) → is_directory file ≡ b →
-        unless_failed (λ (f : Fault). f) (fault_if (not b) (WrongFile (OpenNoDirectory number))) (Ok (AddEvent (Moved file.node))) ≡ Err fault →
+        unless_failed (λ (f : Fault). f) (fault_if (not b) (WrongFile (OpenNoDirectory number))) (Ok (AddEvent (Moved (ToDir file.node)))) ≡ Err fault →
         DirFaultHolds h number fault
     directory file is true dir e = cc
     directory file is false dir e = subst (DirFaultHolds h number) (same_fault (WrongFile (OpenNoDirectory number)) fault e) (refl, file, is, dir)
 
     by : (o : Option OpenFile) → file_at h.files number ≡ o →
         on_named (λ (f : Fault). f) (ok_or o (WrongFile (NotOpen number))) (λ file. unless_failed (λ (f : Fault). f)
-        (fault_if (not (is_directory file)) (WrongFile (OpenNoDirectory number))) (Ok (AddEvent (Moved file.node)))) ≡ Err fault → DirFaultHolds h number fault
+        (fault_if (not (is_directory file)) (WrongFile (OpenNoDirectory number))) (Ok (AddEvent (Moved (ToDir file.node))))) ≡ Err fault → DirFaultHolds h number fault
     by None is e = subst (DirFaultHolds h number) (same_fault (WrongFile (NotOpen number)) fault e) (refl, is)
     by (Some file) is e = directory file is (is_directory file) refl e
 
@@ -330,6 +333,7 @@ check_faults_hold table t h (Hold number c path) fault e =
     call_faults_hold t table h c path fault (refused_too _ _ fault (sym (holds_are_refused table t h number c path)) e)
 check_faults_hold table t h (Close number) fault e = close_true h number fault e
 check_faults_hold table t h (Fchdir number) fault e = fchdir_true h number fault e
+check_faults_hold table t h (Chroot path) fault e = faults_hold_by (id ∷ []) t table h call.Chdir path rooting fault e
 check_faults_hold table t h (Take number from theirs) fault e = promise_true h (recvfd ∷ []) _ fault e
 check_faults_hold table t h Comment fault e = cc
 
@@ -428,6 +432,7 @@ never_full table t h (Uses sets) is = is
 never_full table t h (Hold number c path) is = is
 never_full table t h (Close number) is = is
 never_full table t h (Fchdir number) is = is
+never_full table t h (Chroot path) is = is
 never_full table t h (Take number from theirs) is = is
 never_full table t h Comment is = is
 

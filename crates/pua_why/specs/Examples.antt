@@ -311,6 +311,45 @@ file_rows = record {
   taken_in_a_chain = refl;
 }
 
+-- what is said of roots; places are as the whole tree has them
+pub record RootRows : Type 0 where
+  pub promise : why_by Openbsd ordered_tree (codes "1 pledge stdio,rpath -" ∷ codes "1 chroot /d" ∷ []) ≡
+      codes "1 ok" ∷ codes "2 killed no id since line 1" ∷ []
+  -- a path is refused as that of a chdir
+  pub refused : why_by Openbsd ordered_tree (codes "1 unveil /d r" ∷ codes "1 chroot /f" ∷ codes "1 chroot /d/f" ∷ codes "1 chroot /d/no"
+      ∷ codes "1 chroot /no/x" ∷ []) ≡
+      codes "1 ok" ∷ codes "2 ENOENT no veil on /f or above since line 1" ∷ codes "3 ENOTDIR /d/f is no directory"
+      ∷ codes "4 ENOENT /d/no is missing" ∷ codes "5 ENOENT /no is missing" ∷ []
+  -- a path turns with the root, and where it starts at the working directory with `..` at the root too
+  pub turned : why_by Openbsd ordered_tree (codes "1 chroot /d" ∷ codes "1 stat /f" ∷ codes "1 stat /d" ∷ codes "1 chdir /"
+      ∷ codes "1 stat ../d" ∷ []) ≡
+      codes "1 ok" ∷ codes "2 ok" ∷ codes "3 ENOENT /d/d is missing since line 1" ∷ codes "4 ok"
+      ∷ codes "5 ENOENT /d/d is missing since line 4" ∷ []
+  pub removed : why_by Openbsd ordered_tree (codes "1 unlink /d/e/x" ∷ codes "1 chroot /d/e" ∷ codes "1 rmdir d/e" ∷ codes "1 stat /"
+      ∷ codes "1 rename / d/y" ∷ codes "1 stat d" ∷ []) ≡
+      codes "1 ok" ∷ codes "2 ok" ∷ codes "3 ok" ∷ codes "4 ENOENT root is removed since line 3"
+      ∷ codes "5 ENOENT old: root is removed since line 3" ∷ codes "6 ok" ∷ []
+  pub directory_removed : why_by Openbsd ordered_tree (codes "1 unlink /d/e/x" ∷ codes "1 fork 2" ∷ codes "2 chdir /d/e" ∷ codes "2 chroot ."
+      ∷ codes "1 rmdir /d/e" ∷ codes "2 stat /x" ∷ codes "2 stat x" ∷ []) ≡
+      codes "1 ok" ∷ codes "2 ok" ∷ codes "3 ok" ∷ codes "4 ok" ∷ codes "5 ok" ∷ codes "6 ENOENT root is removed since line 5"
+      ∷ codes "7 ENOENT working directory is removed since line 5" ∷ []
+  pub in_a_chain : chain_by Openbsd ordered_tree (codes "1 unveil /d r" ∷ []) (codes "1 chroot /d") ≡
+      codes "needs id" ∷ codes "names dir /d" ∷ codes "veil r on /d since line 1" ∷ codes "ok" ∷ []
+  pub below_in_a_chain : chain_by Openbsd ordered_tree (codes "1 chroot /d" ∷ []) (codes "1 stat /e") ≡
+      codes "needs rpath" ∷ codes "names dir /d/e" ∷ codes "no veils" ∷ codes "ok" ∷ []
+
+pub root_rows : RootRows
+unfolding digits trace_from promises_text
+root_rows = record {
+  promise = refl;
+  refused = refl;
+  turned = refl;
+  removed = refl;
+  directory_removed = refl;
+  in_a_chain = refl;
+  below_in_a_chain = refl;
+}
+
 pub why_rows : WhyRows
 unfolding digits trace_from promises_text
 why_rows = record {

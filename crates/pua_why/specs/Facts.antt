@@ -7,17 +7,17 @@ use Rattle.pua_path.specs.declared.found.Last.TheVariants.{Followed}
 use Rattle.pua_path.specs.declared.found.Found.{Found}
 use Rattle.pua_path.specs.Traces.{PathTrace, trace_of_text}
 use Rattle.pua_path.specs.declared.traced.PathFault.{PathFault}
-use Rattle.pua_calls.specs.Promises.{no_promises, proc, promises_of, recvfd, unveil}
+use Rattle.pua_calls.specs.Promises.{id, no_promises, proc, promises_of, recvfd, unveil}
 use Rattle.pua_path.specs.declared.errno.Errno.{Errno}
 use Rattle.pua_calls.specs.Calls.{CallTable, NameRule, PairRule, rule_of, last_of, ending_of}
-use Rattle.pua_policy.specs.States.{ProcessState, working_dir, is_locked}
+use Rattle.pua_policy.specs.States.{ProcessState, start, is_locked}
 use Rattle.pua_calls.specs.declared.call.Call.{Call}
 use Rattle.pua_calls.specs.declared.call.Call.TheVariants as call
 use Rattle.pua_script.specs.Requests.{Asked}
 use Rattle.pua_script.specs.Replay.{World, kept_at}
 use Rattle.pua_script.specs.declared.request.Action.{Action}
 use Rattle.pua_script.specs.declared.request.Action.TheVariants.{OnPath, Symlink, Rename, Link, Pledge, Unveil, Lock, Fork, Exit, Uses, Comment}
-use Rattle.pua_script.specs.declared.request.Action.TheVariants.{Hold, Close, Fchdir, Take}
+use Rattle.pua_script.specs.declared.request.Action.TheVariants.{Hold, Close, Fchdir, Chroot, Take}
 use Rattle.pua_policy.specs.declared.reason.Covering.{Covering}
 use Rattle.pua_policy.specs.Reasons.{Promising, Holds, promising, covering}
 use Rattle.pua_script.specs.Decide.{Side, Sole, Old, New}
@@ -61,12 +61,18 @@ facts_under side t h object perms more =
 
 -- the links that a call's path follows, and what it names
 abbrev pub call_trace : Tree → ProcessState → Call → List ℕ → PathTrace
-call_trace t h call path = trace_of_text t (working_dir h) (ending_of call) path (last_of call)
+call_trace t h call path = trace_of_text t (start h) (ending_of call) path (last_of call)
 
 abbrev pub call_facts : CallTable → Tree → ProcessState → Call → List ℕ → List Fact
 call_facts table t h call path =
     facts_promised (promising h (rule_of table call).alternatives)
     (facts_named Sole (call_trace t h call path) λ object. facts_under Sole t h object (rule_of table call).perms [])
+
+-- a chroot passes its promise, and then what a chdir passes by its path
+abbrev pub chroot_facts : CallTable → Tree → ProcessState → List ℕ → List Fact
+chroot_facts table t h path =
+    facts_promised (promising h (id ∷ []))
+    (facts_named Sole (call_trace t h call.Chdir path) λ object. facts_under Sole t h object (rule_of table call.Chdir).perms [])
 
 -- the promise that a keyword names
 abbrev pub set_named : Result ℕ Errno → ℕ
@@ -92,7 +98,7 @@ facts_by table t h call path (Some o) = opened_facts table t h call path o
 
 -- of a path of two
 abbrev pub name_trace : NameRule → Tree → ProcessState → Ending → List ℕ → PathTrace
-name_trace name t h ending path = trace_of_text t (working_dir h) ending path name.last
+name_trace name t h ending path = trace_of_text t (start h) ending path name.last
 
 -- what both paths name, and what covers both
 abbrev pub names_facts : PairRule → Tree → ProcessState → Ending → List ℕ → List ℕ → List Fact
@@ -109,7 +115,7 @@ pair_facts pair t h ending old_path new_path =
 abbrev pub unveil_facts : Tree → ProcessState → List ℕ → List Fact
 unveil_facts t h path =
     facts_promised (promising h (unveil ∷ []))
-    (if is_locked h then [] else facts_named Sole (trace_of_text t (working_dir h) ending.Dot path Followed) λ object. [])
+    (if is_locked h then [] else facts_named Sole (trace_of_text t (start h) ending.Dot path Followed) λ object. [])
 
 abbrev pub facts : CallTable → Tree → ProcessState → Action → List Fact
 facts table t h (OnPath call path) = facts_by table t h call path (opening_of table h call path)
@@ -125,6 +131,7 @@ facts table t h (Uses sets) = facts_promised (promising h sets) []
 facts table t h (Hold number call path) = facts_by table t h call path (opening_of table h call path)
 facts table t h (Close number) = []
 facts table t h (Fchdir number) = []
+facts table t h (Chroot path) = chroot_facts table t h path
 facts table t h (Take number from theirs) = facts_promised (promising h (recvfd ∷ [])) []
 facts table t h Comment = []
 

@@ -11,8 +11,8 @@ use Rattle.pua_script.specs.Decide.{Side, Sole, Old, New}
 use Rattle.pua_calls.specs.declared.fits.Misfit.{Misfit}
 use Rattle.pua_calls.specs.declared.fits.Misfit.TheVariants.{Missing, Exists, IsDirectory, IsNoFile, IsNoDirectory, IsNoLink}
 use Rattle.pua_calls.specs.declared.fits.Misfit.TheVariants.{IsNoProgram, IsNotEmpty, ByDot, ByDotDot, ByNothing, IsNoSocket, InUse}
-use Rattle.pua_why.specs.Reasons.{Fault, Ends, LacksPromises, BadTarget, BadPath, Uncovered, LacksLetters, Unfit, Inside, UnknownPromise}
-use Rattle.pua_why.specs.Reasons.{AsksPromises, IsLocked, UnknownLetter, AsksLetters, NoPlaceLeft, NumberTaken, NoProcessLeft, NoRoom}
+use Rattle.pua_why.specs.Reasons.{Fault, Ends, LacksPromises, BadTarget, BadPath, NoRoot, Uncovered, LacksLetters, Unfit, Inside}
+use Rattle.pua_why.specs.Reasons.{UnknownPromise, AsksPromises, IsLocked, UnknownLetter, AsksLetters, NoPlaceLeft, NumberTaken, NoProcessLeft, NoRoom}
 use Rattle.pua_why.specs.Reasons.{WrongFile, FileFault, NotOpen, OpenNoDirectory, NotSent, MayNotSend, SendsDirectory}
 use Rattle.pua_why.specs.Reasons.{Reason, NeverMade, Ended, Refused, Granted}
 
@@ -85,6 +85,7 @@ fault_key Ends = 0 ∷ []
 fault_key (LacksPromises error sets) = 1 ∷ sets
 fault_key (BadTarget fault) = 2 ∷ text_key fault ∷ []
 fault_key (BadPath side fault) = 3 ∷ side_key side ∷ path_key fault ∷ []
+fault_key (NoRoot side) = 3 ∷ side_key side ∷ 8 ∷ []
 fault_key (Uncovered side object) = 4 ∷ side_key side ∷ []
 fault_key (LacksLetters side place given lacks) = 5 ∷ side_key side ∷ given ∷ lacks ∷ place_key place
 fault_key (Unfit side object misfit) = misfit_group misfit ∷ side_key side ∷ misfit_key misfit ∷ []

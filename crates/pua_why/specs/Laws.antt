@@ -1,12 +1,16 @@
 -- What is true of reasons.
-use Rattle.std.specs.Prelude.{◌≡◌, ℕ, suc, ◌+◌, true, false, List, [], ◌∷◌, ◌++◌, map, Option, Some, None, option_map, Ok, Err, bit_or, decimal, length}
+use Rattle.std.specs.Prelude.{◌≡◌, ℕ, suc, ◌+◌, true, false, List, [], ◌∷◌, ◌++◌, map, Option, Some, None, option_map, Result, Ok, Err, bit_or, decimal}
+use Rattle.std.specs.Prelude.{length}
 use Rattle.pua_tree.specs.Tree.{Tree}
+use Rattle.pua_path.specs.Paths.{is_absolute}
 use Rattle.pua_path.specs.declared.text.Ending.{Ending}
 use Rattle.pua_path.specs.declared.text.Ending.TheVariants as ending
 use Rattle.pua_path.specs.declared.found.Found.{Found}
+use Rattle.pua_path.specs.declared.traced.PathFault.{PathFault}
+use Rattle.pua_path.specs.declared.traced.PathFault.TheVariants.{NoStart}
 use Rattle.pua_calls.specs.Promises.{holds}
 use Rattle.pua_calls.specs.Calls.{CallTable, PairRule, about_rules, rule_of}
-use Rattle.pua_policy.specs.States.{ProcessState, is_ended, working_dir}
+use Rattle.pua_policy.specs.States.{ProcessState, is_ended, start}
 use Rattle.pua_policy.specs.Verdict.{object_of, object_named, verdict_of}
 use Rattle.pua_policy.specs.ReasonLaws.{LackSome, MisfitHolds}
 use Rattle.pua_calls.specs.declared.call.Call.{Call}
@@ -24,7 +28,7 @@ use Rattle.pua_script.specs.declared.request.Action.TheVariants.{OnPath, Rename,
 use Rattle.pua_policy.specs.Verdict.{refusal_verdict}
 use Rattle.pua_policy.specs.declared.answer.Verdict.{Verdict}
 use Rattle.pua_policy.specs.declared.answer.Verdict.TheVariants.{Allowed}
-use Rattle.pua_why.specs.Reasons.{Fault, Ends, LacksPromises, BadPath, Uncovered, LacksLetters, Unfit, fault_refusal, change_or_fault}
+use Rattle.pua_why.specs.Reasons.{Fault, Ends, LacksPromises, BadPath, NoRoot, Uncovered, LacksLetters, Unfit, fault_refusal, change_or_fault}
 use Rattle.pua_why.specs.Reasons.{faults, faults_of, reason, answer_of, outcome_in}
 use Rattle.pua_why.specs.Facts.{Opened, promise_of_row, Needs, Follows, Names, Under, call_trace, facts, facts_asked, name_trace, pair_facts}
 use Rattle.pua_why.specs.Keys.{reason_key}
@@ -50,7 +54,7 @@ verdict_by (Err fault) = refusal_verdict (fault_refusal fault)
 -- verdict knows of no openings
 abbrev pub ReasonsGiveVerdicts : Type 0
 ReasonsGiveVerdicts = (t : Tree) (table : CallTable) (h : ProcessState) (call : Call) (text : List ℕ) →
-    verdict_by (call_by faults table t (faults_of h) call text) ≡ verdict_of t table h call (named_in table.whose t (working_dir h) text (object_named t h call text))
+    verdict_by (call_by faults table t (faults_of h) call text) ≡ verdict_of t table h call (named_in table.whose t (start h) text (object_named t h call text))
 
 -- nor the answer of a request
 abbrev pub ReasonsGiveAnswers : Type 0
@@ -134,21 +138,39 @@ pub record PairsAreTold : Type 0 where
   pub links : (t : Tree) (table : CallTable) (h : ProcessState) (old new : List ℕ) (change : Change) →
       change_or_fault table t h (Link old new) ≡ Ok change → PairFactsOf table.link t h ending.Dot old new
 
--- what a fault of a call on a path says is so; a call on a path has no other faults
-abbrev pub CallFaultHolds : Tree → CallTable → ProcessState → Call → List ℕ → Fault → Type 0
-CallFaultHolds t table h call text Ends = is_ended h ≡ true
-CallFaultHolds t table h call text (LacksPromises error sets) = LackSome h (rule_of table call).alternatives sets
-CallFaultHolds t table h call text (BadPath Sole fault) =
-    outcome_in table.whose t (working_dir h) text (call_trace t h call text).outcome ≡ Err fault
-CallFaultHolds t table h call text (Uncovered Sole object) = ((call_trace t h call text).outcome ≡ Ok object) ×
+-- a path of this text has this outcome, and starts at the root, which was removed
+abbrev pub IsFromNoRoot : List ℕ → Result Found PathFault → Type 0
+IsFromNoRoot text outcome = (is_absolute text ≡ true) × (outcome ≡ Err NoStart)
+
+-- what is told of any other path that names nothing is so: one that starts at what was removed starts at the working directory
+abbrev pub PathFaultHolds : List ℕ → Result Found PathFault → PathFault → Type 0
+PathFaultHolds text outcome NoStart = (is_absolute text ≡ false) × (outcome ≡ Err NoStart)
+PathFaultHolds text outcome fault = outcome ≡ Err fault
+
+-- what a fault of a call's path says is so, behind the promises; a path has no other faults
+abbrev pub NamedFaultHolds : Tree → CallTable → ProcessState → Call → List ℕ → Fault → Type 0
+NamedFaultHolds t table h call text (BadPath Sole fault) =
+    PathFaultHolds text (outcome_in table.whose t (start h) text (call_trace t h call text).outcome) fault
+NamedFaultHolds t table h call text (NoRoot Sole) =
+    IsFromNoRoot text (outcome_in table.whose t (start h) text (call_trace t h call text).outcome)
+NamedFaultHolds t table h call text (Uncovered Sole object) = ((call_trace t h call text).outcome ≡ Ok object) ×
     (covering t h object ≡ NoneOver)
-CallFaultHolds t table h call text (LacksLetters Sole place given lacks) =
+NamedFaultHolds t table h call text (LacksLetters Sole place given lacks) =
     (object : Found) × ((call_trace t h call text).outcome ≡ Ok object) × (covering t h object ≡ By place given)
     × (holds given (rule_of table call).perms ≡ false) × (lacks ≡ lacking given (rule_of table call).perms)
-CallFaultHolds t table h call text (Unfit Sole object wrong) =
+NamedFaultHolds t table h call text (Unfit Sole object wrong) =
     ((call_trace t h call text).outcome ≡ Ok object) × (misfit table.whose t call (object_of t object) ≡ Some wrong) ×
     MisfitHolds t (object_of t object) wrong
-CallFaultHolds t table h call text _ = ⊥
+NamedFaultHolds t table h call text _ = ⊥
+
+-- the same with the promises: those of the call, or others that are asked
+abbrev pub FaultHoldsBy : List ℕ → Tree → CallTable → ProcessState → Call → List ℕ → Fault → Type 0
+FaultHoldsBy sets t table h call text Ends = is_ended h ≡ true
+FaultHoldsBy sets t table h call text (LacksPromises error lacks) = LackSome h sets lacks
+FaultHoldsBy sets t table h call text fault = NamedFaultHolds t table h call text fault
+
+abbrev pub CallFaultHolds : Tree → CallTable → ProcessState → Call → List ℕ → Fault → Type 0
+CallFaultHolds t table h call text fault = FaultHoldsBy (rule_of table call).alternatives t table h call text fault
 
 abbrev pub CallFaultsHold : Type 0
 CallFaultsHold = (t : Tree) (table : CallTable) (h : ProcessState) (call : Call) (text : List ℕ) (fault : Fault) →

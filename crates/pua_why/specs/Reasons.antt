@@ -7,10 +7,13 @@ use Rattle.pua_path.specs.declared.errno.Errno.{Errno}
 use Rattle.pua_policy.specs.declared.open_file.OpenFile.{OpenFile}
 use Rattle.pua_path.specs.declared.found.Found.{Found}
 use Rattle.pua_path.specs.declared.found.Last.TheVariants.{Followed}
+use Rattle.pua_path.specs.declared.found.Start.{Start}
+use Rattle.pua_path.specs.Paths.{is_absolute}
 use Rattle.pua_path.specs.declared.text.Ending.TheVariants as ending
 use Rattle.pua_path.specs.Traces.{text_errno, text_fault, path_errno, trace_of_text}
 use Rattle.pua_path.specs.declared.traced.PathTextFault.{PathTextFault}
 use Rattle.pua_path.specs.declared.traced.PathFault.{PathFault}
+use Rattle.pua_path.specs.declared.traced.PathFault.TheVariants.{NoStart}
 use Rattle.pua_calls.specs.Promises.{holds}
 use Rattle.pua_calls.specs.declared.rules.Rules.{Rules}
 use Rattle.pua_calls.specs.Calls.{CallTable}
@@ -57,6 +60,7 @@ pub data Fault : Type 0 where
   LacksPromises : Bool → List ℕ → Fault
   BadTarget : PathTextFault → Fault
   BadPath : Side → PathFault → Fault
+  NoRoot : Side → Fault
   Uncovered : Side → Found → Fault
   LacksLetters : Side → Place → ℕ → ℕ → Fault
   Unfit : Side → Found → Misfit → Fault
@@ -79,6 +83,7 @@ fault_refusal (LacksPromises true sets) = refusal.Failed ENOSYS
 fault_refusal (LacksPromises false sets) = refusal.Killed
 fault_refusal (BadTarget fault) = refusal.Failed (text_errno fault)
 fault_refusal (BadPath side fault) = refusal.Failed (path_errno fault)
+fault_refusal (NoRoot side) = refusal.Failed ENOENT
 fault_refusal (Uncovered side object) = refusal.Failed ENOENT
 fault_refusal (LacksLetters side place given lacks) = refusal.Failed EACCES
 fault_refusal (Unfit side object misfit) = refusal.Failed (misfit_errno misfit)
@@ -105,23 +110,32 @@ abbrev pub front_fault : PathFault → Result Found PathFault → PathFault
 front_fault fault (Ok directory) = fault
 front_fault fault (Err front) = front
 
-abbrev pub fault_behind : Tree → ℕ → PathFault → Option (List ℕ) → PathFault
+abbrev pub fault_behind : Tree → Start → PathFault → Option (List ℕ) → PathFault
 fault_behind t from fault None = fault
 fault_behind t from fault (Some front) = front_fault fault (trace_of_text t from ending.Dot front Followed).outcome
 
-abbrev pub fault_by : Rules → Tree → ℕ → List ℕ → PathFault → PathFault
+abbrev pub fault_by : Rules → Tree → Start → List ℕ → PathFault → PathFault
 fault_by Standard t from text fault = fault
 fault_by Openbsd t from text fault = fault_behind t from fault (before_long text)
 
 -- what a path names by these rules, or why it names nothing, by the outcome of its text
-abbrev pub outcome_in : Rules → Tree → ℕ → List ℕ → Result Found PathFault → Result Found PathFault
+abbrev pub outcome_in : Rules → Tree → Start → List ℕ → Result Found PathFault → Result Found PathFault
 outcome_in whose t from text (Ok object) = Ok object
 outcome_in whose t from text (Err fault) = Err (fault_by whose t from text fault)
 
--- what a path names, or why it names nothing
-abbrev pub told_path : Side → Result Found PathFault → Result Found Fault
-told_path side (Ok object) = Ok object
-told_path side (Err fault) = Err (BadPath side fault)
+-- that a path starts at what was removed: the root, where it begins with a slash, and else the working directory
+abbrev pub no_start : Side → Bool → Fault
+no_start side true = NoRoot side
+no_start side false = BadPath side NoStart
+
+abbrev pub bad_path : Side → List ℕ → PathFault → Fault
+bad_path side text NoStart = no_start side (is_absolute text)
+bad_path side text fault = BadPath side fault
+
+-- what a path of this text names, or why it names nothing
+abbrev pub told_path : Side → List ℕ → Result Found PathFault → Result Found Fault
+told_path side text (Ok object) = Ok object
+told_path side text (Err fault) = Err (bad_path side text fault)
 
 -- what the veils leave is less than these permissions
 abbrev pub uncovered_fault : Side → Found → ℕ → Covering → Option Fault
@@ -171,7 +185,8 @@ faults = record {
 abbrev pub faults_of : ProcessState → Asker Fault Fault
 faults_of p = record {
   promises = λ sets. unpromised_fault (promising p sets);
-  path = λ whose side t ending text last. told_path side (outcome_in whose t p.dir text (trace_of_text t p.dir ending text last).outcome);
+  path = λ whose side t ending text last.
+      told_path side text (outcome_in whose t p.start text (trace_of_text t p.start ending text last).outcome);
   cover = λ side t object perms. uncovered_fault side object perms (covering t p object);
   beyond = λ whose promises execpromises. pledge_beyond whose p promises execpromises;
   locked = fault_if p.locked IsLocked;

@@ -6,9 +6,9 @@ use Rattle.pua_script.specs.Decide.{Outcome}
 use Rattle.pua_why.specs.declared.told.Side.{Side}
 use Rattle.pua_why.specs.declared.told.Side.TheVariants.{Sole, Old, New}
 use Rattle.pua_why.specs.declared.told.Fault.{Fault}
-use Rattle.pua_why.specs.declared.told.Fault.TheVariants.{Ends, LacksPromises, LacksPromise, BadTarget, BadPath, Uncovered, LacksLetters}
-use Rattle.pua_why.specs.declared.told.Fault.TheVariants.{Unfit, Inside, UnknownPromise, AsksPromises, IsLocked, UnknownLetter, AsksLetters}
-use Rattle.pua_why.specs.declared.told.Fault.TheVariants.{NoPlaceLeft, NumberTaken, NoProcessLeft, NoRoom}
+use Rattle.pua_why.specs.declared.told.Fault.TheVariants.{Ends, LacksPromises, LacksPromise, BadTarget, BadPath, NoRoot, Uncovered}
+use Rattle.pua_why.specs.declared.told.Fault.TheVariants.{LacksLetters, Unfit, Inside, UnknownPromise, AsksPromises, IsLocked, UnknownLetter}
+use Rattle.pua_why.specs.declared.told.Fault.TheVariants.{AsksLetters, NoPlaceLeft, NumberTaken, NoProcessLeft, NoRoom}
 use Rattle.pua_why.specs.declared.told.Fault.TheVariants.{WrongFile}
 use Rattle.pua_why.specs.declared.told.FileFault.{FileFault}
 use Rattle.pua_why.specs.declared.told.FileFault.TheVariants.{NotOpen, OpenNoDirectory, NotSent, MayNotSend, SendsDirectory}
@@ -40,6 +40,7 @@ fault_seen (LacksPromises error held sets) = reasons.LacksPromises error (map (l
 fault_seen (LacksPromise error lacks) = reasons.LacksPromises error (lacks ∷ [])
 fault_seen (BadTarget fault) = reasons.BadTarget fault
 fault_seen (BadPath side fault) = reasons.BadPath (side_seen side) fault
+fault_seen (NoRoot side) = reasons.NoRoot (side_seen side)
 fault_seen (Uncovered side object) = reasons.Uncovered (side_seen side) object
 fault_seen (LacksLetters side place given lacks) = reasons.LacksLetters (side_seen side) place given lacks
 fault_seen (Unfit side object misfit) = reasons.Unfit (side_seen side) object misfit

@@ -30,8 +30,8 @@ use Rattle.pua_script.specs.Decide.{Side, Sole, Old, New}
 use Rattle.pua_calls.specs.declared.fits.Misfit.{Misfit}
 use Rattle.pua_calls.specs.declared.fits.Misfit.TheVariants.{Missing, Exists, IsDirectory, IsNoFile, IsNoDirectory, IsNoLink}
 use Rattle.pua_calls.specs.declared.fits.Misfit.TheVariants.{IsNoProgram, IsNotEmpty, ByDot, ByDotDot, ByNothing, IsNoSocket, InUse}
-use Rattle.pua_why.specs.Reasons.{Fault, Ends, LacksPromises, BadTarget, BadPath, Uncovered, LacksLetters, Unfit, Inside, UnknownPromise}
-use Rattle.pua_why.specs.Reasons.{AsksPromises, IsLocked, UnknownLetter, AsksLetters, NoPlaceLeft, NumberTaken, NoProcessLeft, NoRoom}
+use Rattle.pua_why.specs.Reasons.{Fault, Ends, LacksPromises, BadTarget, BadPath, NoRoot, Uncovered, LacksLetters, Unfit, Inside}
+use Rattle.pua_why.specs.Reasons.{UnknownPromise, AsksPromises, IsLocked, UnknownLetter, AsksLetters, NoPlaceLeft, NumberTaken, NoProcessLeft, NoRoom}
 use Rattle.pua_why.specs.Reasons.{WrongFile, FileFault, NotOpen, OpenNoDirectory, NotSent, MayNotSend, SendsDirectory}
 use Rattle.pua_why.specs.Reasons.{Reason, NeverMade, Ended, Refused, Granted, reason, answer_of}
 use Rattle.pua_why.specs.Keys.{reason_key}
@@ -145,6 +145,7 @@ fault_text t Ends = codes "ended"
 fault_text t (LacksPromises error sets) = joined_words (codes ", ") (map (λ set. codes "no " ++ promises_text set) sets)
 fault_text t (BadTarget fault) = codes "target " ++ text_fault_text fault
 fault_text t (BadPath side fault) = side_text side ++ path_fault_text t fault
+fault_text t (NoRoot side) = side_text side ++ codes "root is removed"
 fault_text t (Uncovered side object) = side_text side ++ codes "no veil on " ++ found_text t object ++ codes " or above"
 fault_text t (LacksLetters side place given lacks) =
     side_text side ++ codes "no " ++ letters_text lacks ++ codes " in " ++ veil_text t place given

@@ -13,14 +13,14 @@ use Rattle.pua_path.specs.declared.found.Found.{Found}
 use Rattle.pua_path.specs.declared.found.Found.TheVariants.{Whole}
 use Rattle.pua_path.specs.Traces.{text_fault, trace_of_text}
 use Rattle.pua_path.specs.declared.traced.PathFault.{PathFault}
-use Rattle.pua_calls.specs.Promises.{holds, proc, recvfd, sendfd, unveil}
+use Rattle.pua_calls.specs.Promises.{holds, id, proc, recvfd, sendfd, unveil}
 use Rattle.pua_policy.specs.declared.open_file.OpenFile.{OpenFile}
 use Rattle.pua_policy.specs.States.{file_at, held_set, is_directory, is_pledged}
 use Rattle.pua_policy.specs.ReasonLaws.{LackSome}
 use Rattle.pua_calls.specs.Calls.{CallTable, PairRule}
 use Rattle.pua_calls.specs.declared.rules.Rules.{Rules}
 use Rattle.pua_policy.specs.States.{ProcessState, error_frees_exec, pledged_set, held_for_exec, has_error, is_within, is_ended, is_locked, perms_kept, veils}
-use Rattle.pua_policy.specs.States.{working_dir, most_places}
+use Rattle.pua_policy.specs.States.{start, most_places}
 use Rattle.pua_calls.specs.declared.call.Call.TheVariants as call
 use Rattle.pua_script.specs.Limits.{most_processes}
 use Rattle.pua_script.specs.Decide.{Change, CopyAs, TakeFile, Side, Sole, Old, New, given_set, is_unknown, is_whole}
@@ -32,16 +32,16 @@ use Rattle.pua_script.specs.Laws.{LacksRoom}
 use Rattle.pua_script.specs.declared.request.Given.{Given}
 use Rattle.pua_script.specs.declared.request.Action.{Action}
 use Rattle.pua_script.specs.declared.request.Action.TheVariants.{OnPath, Symlink, Rename, Link, Pledge, Unveil, Lock, Fork, Exit, Uses, Comment}
-use Rattle.pua_script.specs.declared.request.Action.TheVariants.{Hold, Close, Fchdir, Take}
+use Rattle.pua_script.specs.declared.request.Action.TheVariants.{Hold, Close, Fchdir, Chroot, Take}
 use Rattle.pua_calls.specs.Promises.{lacking}
 use Rattle.pua_policy.specs.declared.reason.Covering.TheVariants.{NoneOver, By}
 use Rattle.pua_policy.specs.Reasons.{covering}
-use Rattle.pua_why.specs.Reasons.{Fault, Ends, LacksPromises, BadTarget, BadPath, Uncovered, LacksLetters, Unfit, Inside, UnknownPromise}
-use Rattle.pua_why.specs.Reasons.{AsksPromises, IsLocked, UnknownLetter, AsksLetters, NoPlaceLeft, NumberTaken, NoProcessLeft, NoRoom}
+use Rattle.pua_why.specs.Reasons.{Fault, Ends, LacksPromises, BadTarget, BadPath, NoRoot, Uncovered, LacksLetters, Unfit, Inside}
+use Rattle.pua_why.specs.Reasons.{UnknownPromise, AsksPromises, IsLocked, UnknownLetter, AsksLetters, NoPlaceLeft, NumberTaken, NoProcessLeft, NoRoom}
 use Rattle.pua_why.specs.Reasons.{WrongFile, NotOpen, OpenNoDirectory, NotSent, MayNotSend, SendsDirectory}
 use Rattle.pua_why.specs.Reasons.{beyond, change_or_fault, outcome_in, request_fault}
 use Rattle.pua_why.specs.Facts.{name_trace}
-use Rattle.pua_why.specs.Laws.{CallFaultHolds}
+use Rattle.pua_why.specs.Laws.{CallFaultHolds, FaultHoldsBy, IsFromNoRoot, PathFaultHolds}
 
 -- the promises that a request other than a call of the table needs
 abbrev pub PromiseFaultHolds : ProcessState → List ℕ → Fault → Type 0
@@ -87,12 +87,19 @@ abbrev pub side_text : List ℕ → List ℕ → Side → List ℕ
 side_text old new New = new
 side_text old new _ = old
 
+-- the same by rules
+abbrev pub side_named : Rules → PairRule → Tree → ProcessState → Ending → List ℕ → List ℕ → Side → Result Found PathFault
+side_named whose pair t h ending old new side =
+    outcome_in whose t (start h) (side_text old new side) (side_outcome pair t h ending old new side)
+
 abbrev pub PairFaultHolds : Rules → PairRule → Tree → ProcessState → Ending → List ℕ → List ℕ → Fault → Type 0
 PairFaultHolds whose pair t h ending old new Ends = is_ended h ≡ true
 PairFaultHolds whose pair t h ending old new (LacksPromises error lacks) =
     LackSome h pair.old.needs.alternatives lacks ⊎ LackSome h pair.new.needs.alternatives lacks
 PairFaultHolds whose pair t h ending old new (BadPath side fault) =
-    outcome_in whose t (working_dir h) (side_text old new side) (side_outcome pair t h ending old new side) ≡ Err fault
+    PathFaultHolds (side_text old new side) (side_named whose pair t h ending old new side) fault
+PairFaultHolds whose pair t h ending old new (NoRoot side) =
+    IsFromNoRoot (side_text old new side) (side_named whose pair t h ending old new side)
 PairFaultHolds whose pair t h ending old new (Uncovered side object) = (side_outcome pair t h ending old new side ≡ Ok object) ×
     (covering t h object ≡ NoneOver)
 PairFaultHolds whose pair t h ending old new (LacksLetters side place given lacks) =
@@ -118,7 +125,9 @@ abbrev pub UnveilFaultHolds : Rules → Tree → ProcessState → List ℕ → O
 UnveilFaultHolds whose t h path letters IsLocked = is_locked h ≡ true
 UnveilFaultHolds whose t h path letters UnknownLetter = letters ≡ None
 UnveilFaultHolds whose t h path letters (BadPath Sole fault) =
-    outcome_in whose t (working_dir h) path (trace_of_text t (working_dir h) ending.Dot path Followed).outcome ≡ Err fault
+    PathFaultHolds path (outcome_in whose t (start h) path (trace_of_text t (start h) ending.Dot path Followed).outcome) fault
+UnveilFaultHolds whose t h path letters (NoRoot Sole) =
+    IsFromNoRoot path (outcome_in whose t (start h) path (trace_of_text t (start h) ending.Dot path Followed).outcome)
 UnveilFaultHolds whose t h path letters (AsksLetters place given lacks) =
     (perms : ℕ) × (letters ≡ Some perms) × (perms_kept h place ≡ Some given) × (holds given perms ≡ false) × (lacks ≡ lacking given perms)
 UnveilFaultHolds whose t h path letters NoPlaceLeft = nat_le most_places (length (veils h)) ≡ true
@@ -149,6 +158,7 @@ CheckFaultHolds table t h (Uses sets) fault = PromiseFaultHolds h sets fault
 CheckFaultHolds table t h (Hold number call path) fault = CallFaultHolds t table h call path fault
 CheckFaultHolds table t h (Close number) fault = FileFaultHolds h number fault
 CheckFaultHolds table t h (Fchdir number) fault = DirFaultHolds h number fault
+CheckFaultHolds table t h (Chroot path) fault = FaultHoldsBy (id ∷ []) t table h call.Chdir path fault
 CheckFaultHolds table t h (Take number from theirs) fault = PromiseFaultHolds h (recvfd ∷ []) fault
 CheckFaultHolds table t h Comment fault = ⊥
 

@@ -2,6 +2,7 @@
 
 ghost use Rattle.std.specs.Prelude.{◌≡◌, ◌∷◌, [], ℕ, false, IfOk, Ok, Some, option_map};
 ghost use Rattle.pua_path.specs.Fits.{FoundFits, StandsAsNamed};
+ghost use Rattle.pua_path.specs.Paths.{is_absolute};
 ghost use Rattle.pua_path.specs.Traces.{trace_of_text};
 ghost use Rattle.pua_path.specs.declared.found.Found as founds;
 ghost use Rattle.pua_path.specs.declared.found.Last.TheVariants.{Followed};
@@ -9,11 +10,11 @@ ghost use Rattle.pua_path.specs.declared.text.Ending.TheVariants.{Dot};
 ghost use Rattle.pua_policy.specs.Reasons.{covering, promising};
 ghost use Rattle.pua_policy.specs.Verdict.{place_of};
 ghost use Rattle.pua_policy.specs.declared.reason.Covering.TheVariants.{By};
-ghost use Rattle.pua_script.specs.Decide.{Change, call_by, object_by, past_promises, symlink_by};
+ghost use Rattle.pua_script.specs.Decide.{Change, call_by, chroot_by, object_by, past_promises, symlink_by};
 ghost use Rattle.pua_script.specs.Decide.{unveil_by, veil_by};
 ghost use Rattle.pua_why.specs.Checked.{refused_by};
-ghost use Rattle.pua_why.specs.Reasons.{fault_by, faults, faults_of, front_fault, outcome_in};
-ghost use Rattle.pua_why.specs.Reasons.{place_beyond, uncovered_fault};
+ghost use Rattle.pua_why.specs.Reasons.{bad_path, fault_by, faults, faults_of, front_fault};
+ghost use Rattle.pua_why.specs.Reasons.{outcome_in, place_beyond, uncovered_fault};
 ghost use Rattle.pua_why.specs.Reasons.{unpromised_fault, unveil_beyond};
 ghost use Rattle.pua_why.specs.Seen.{fault_seen, side_seen};
 
@@ -21,19 +22,19 @@ use crate::told::{Fault, Side};
 use pua_calls::needs::ending;
 use pua_calls::{Call, CallTable, Perms, Promises, Rules};
 use pua_path::{
-    Counted, Ending, Found, Last, Links, PathFault, PathText, Probe, text_fault, trace,
+    Counted, Ending, Found, Last, Links, PathFault, PathText, Probe, Start, text_fault, trace,
 };
 use pua_policy::judge::misfit;
 use pua_policy::{Covering, MOST_PLACES, Place, Process, Promising};
 use pua_script::before_long;
-use pua_tree::{FileTree, NodeId, OutOfMemory};
+use pua_tree::{FileTree, OutOfMemory};
 use std::alloc::Global;
 
 /// What a path names from a directory, or why it names nothing. The links that it followed by then
 /// take the place of those that `links` had.
 pub(crate) fn traced<'t, P: Probe<'t>>(
     probe: &mut P,
-    from: NodeId,
+    from: Start,
     path: &[u8],
     ending: Ending,
     last: Last,
@@ -59,7 +60,7 @@ pub(crate) fn traced<'t, P: Probe<'t>>(
 pub(crate) fn named_by<'t, P: Probe<'t>>(
     probe: &mut P,
     table: &CallTable,
-    from: NodeId,
+    from: Start,
     path: &[u8],
     ending: Ending,
     last: Last,
@@ -71,9 +72,13 @@ pub(crate) fn named_by<'t, P: Probe<'t>>(
     ensures named { IfOk result (StandsAsNamed (P.tree probe.old)) }
     ensures tree { P.tree probe.new ≡ P.tree probe.old }
 {
-    match traced(probe, from, path, ending, last, links) {
+    let (root, dir) = (from.root, from.dir);
+    match traced(probe, Start { root, dir }, path, ending, last, links) {
         Ok(found) => Ok(found),
-        Err(fault) => Err(fault_by(probe, table.rules(), from, path, fault, links)),
+        Err(fault) => {
+            let from = Start { root, dir };
+            Err(fault_by(probe, table.rules(), from, path, fault, links))
+        }
     }
 }
 
@@ -82,7 +87,7 @@ pub(crate) fn named_by<'t, P: Probe<'t>>(
 fn fault_by<'t, P: Probe<'t>>(
     probe: &mut P,
     rules: Rules,
-    from: NodeId,
+    from: Start,
     path: &[u8],
     fault: PathFault,
     links: &mut Links,
@@ -102,7 +107,7 @@ fn fault_by<'t, P: Probe<'t>>(
 /// The fault of what stands before it, if that names no directory.
 fn front_fault<'t, P: Probe<'t>>(
     probe: &mut P,
-    from: NodeId,
+    from: Start,
     front: &[u8],
     fault: PathFault,
     links: &mut Links,
@@ -115,6 +120,23 @@ fn front_fault<'t, P: Probe<'t>>(
         Ok(_) => fault,
         Err(front) => front,
     }
+}
+
+/// The fault of a path that names nothing: it may start at a root that was removed.
+pub(crate) fn bad_path<'s>(side: Side, path: &[u8], fault: PathFault) -> Fault<'s>
+    ensures { fault_seen result ≡ bad_path (side_seen side) path.now fault }
+{
+    match fault {
+        PathFault::NoStart if is_absolute(path) => Fault::NoRoot(side),
+        _ => Fault::BadPath(side, fault),
+    }
+}
+
+/// Whether a path starts at the root.
+fn is_absolute(path: &[u8]) -> bool
+    ensures { result ≡ is_absolute path.now }
+{
+    path.first() == Some(&b'/')
 }
 
 /// The fault of promises: none of these sets is held.
@@ -204,10 +226,10 @@ pub(crate) fn object_fault<'s, T: FileTree>(
 {
     let mut probe = Counted::new(tree);
     let last = call.last();
-    let dir = process.dir();
-    let found = match named_by(&mut probe, table, dir, path, ending(call), last, links) {
+    let from = process.start();
+    let found = match named_by(&mut probe, table, from, path, ending(call), last, links) {
         Ok(found) => found,
-        Err(fault) => return Some(Fault::BadPath(Side::Sole, fault)),
+        Err(fault) => return Some(bad_path(Side::Sole, path, fault)),
     };
     let fault = cover_fault(&mut probe, process, Side::Sole, &found, table.perms(call));
     if fault.is_some() {
@@ -233,10 +255,10 @@ pub(crate) fn fit_fault<'s, T: FileTree>(
 {
     let mut probe = Counted::new(tree);
     let last = call.last();
-    let dir = process.dir();
-    let found = match named_by(&mut probe, table, dir, path, ending(call), last, links) {
+    let from = process.start();
+    let found = match named_by(&mut probe, table, from, path, ending(call), last, links) {
         Ok(found) => found,
-        Err(fault) => return Some(Fault::BadPath(Side::Sole, fault)),
+        Err(fault) => return Some(bad_path(Side::Sole, path, fault)),
     };
     let wrong = misfit(&mut probe, table.rules(), call, &found)?;
     Some(Fault::Unfit(Side::Sole, found, wrong))
@@ -260,6 +282,25 @@ pub(crate) fn call_fault<'s, T: FileTree>(
         return fault;
     }
     object_fault(tree, table, process, call, path, links)
+}
+
+/// The fault of a chroot: its promise is asked before its path is read, as that of a chdir.
+pub(crate) fn chroot_fault<'s, T: FileTree>(
+    tree: &T,
+    table: &CallTable,
+    process: &Process,
+    path: &[u8],
+    links: &mut Links,
+) -> Option<Fault<'s>>
+    ensures { option_map fault_seen result
+        ≡ refused_by (chroot_by faults table.now (T.content tree.now) (faults_of process.now)
+        path.now) }
+{
+    let fault = promise_fault(process, Promises::ID);
+    if fault.is_some() {
+        return fault;
+    }
+    object_fault(tree, table, process, Call::Chdir, path, links)
 }
 
 /// The fault of a symlink: the promise, then the target's text, then the path.
@@ -331,14 +372,14 @@ fn veil_fault<'s, T: FileTree>(
     match named_by(
         &mut probe,
         table,
-        process.dir(),
+        process.start(),
         path,
         Ending::Dot,
         Last::Followed,
         links,
     ) {
         Ok(found) => place_fault(alloc, process, place_of(&found), perms),
-        Err(fault) => Ok(Some(Fault::BadPath(Side::Sole, fault))),
+        Err(fault) => Ok(Some(bad_path(Side::Sole, path, fault))),
     }
 }
 

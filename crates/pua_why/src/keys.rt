@@ -83,6 +83,7 @@ fn add_fault(numbers: &mut Vec<u64>, fault: &Fault<'_>) -> Result<(), OutOfMemor
             numbers,
             &[3, side_number(side), path_number(fault)],
         ),
+        Fault::NoRoot(side) => add(numbers, &[3, side_number(side), 8]),
         Fault::Uncovered(side, _) => add(numbers, &[4, side_number(side)]),
         Fault::LacksLetters {
             side,

@@ -1,6 +1,6 @@
 //! Laws and worked examples of reasons, each the contract of a function that does nothing.
 
-ghost use Rattle.pua_why.specs.Examples.{FileRows, OpeningRows, WhyRows};
+ghost use Rattle.pua_why.specs.Examples.{FileRows, OpeningRows, RootRows, WhyRows};
 ghost use Rattle.pua_why.specs.Laws.{AnswersAreTold, CallFaultsHold, ChainsEnd, GrantsAreTold};
 ghost use Rattle.pua_why.specs.Laws.{PairsAreTold};
 ghost use Rattle.pua_why.specs.Laws.{ReasonsGiveAnswers, ReasonsGiveDecisions};
@@ -11,11 +11,12 @@ ghost use Rattle.pua_why.specs.Since.{SinceHolds};
 ghost use Rattle.pua_why.specs.Truths.{CheckFaultsHold, FullTreesAreFull, RequestFaultsHold};
 ghost use Rattle.pua_why.specs.Unknown.{UnknownsAreTold};
 
-/// Examples of reasons, of what promises open, and of descriptors.
+/// Examples of reasons, of what promises open, of descriptors, and of roots.
 pub fn why_examples()
     ensures reasons { WhyRows }
     ensures openings { OpeningRows }
     ensures files { FileRows }
+    ensures roots { RootRows }
 {}
 
 /// A decision is a function of what is reasoned: a reason never contradicts a refusal, nor that of a

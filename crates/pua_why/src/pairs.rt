@@ -13,7 +13,7 @@ ghost use Rattle.pua_why.specs.Checked.{refused_by};
 ghost use Rattle.pua_why.specs.Reasons.{Fault as Meant, faults, faults_of};
 ghost use Rattle.pua_why.specs.Seen.{fault_seen, on_found, side_seen};
 
-use crate::checks::{cover_fault, named_by, promises_fault};
+use crate::checks::{bad_path, cover_fault, named_by, promises_fault};
 use crate::told::{Fault, Side};
 use pua_calls::{CallTable, PairNeed};
 use pua_path::{Counted, Ending, Found, Links, Probe, Way};
@@ -133,30 +133,29 @@ fn objects<'s, T: FileTree>(
     ensures named { IfOk result (λ pair. StandsAsNamed (T.content tree.now) pair.new) }
 {
     let mut probe = Counted::new(tree);
-    let dir = process.dir();
     let old = match named_by(
         &mut probe,
         table,
-        dir,
+        process.start(),
         old,
         ending,
         need.old_name().last(),
         links,
     ) {
         Ok(found) => found,
-        Err(fault) => return Err(Fault::BadPath(Side::Old, fault)),
+        Err(fault) => return Err(bad_path(Side::Old, old, fault)),
     };
     let new = match named_by(
         &mut probe,
         table,
-        dir,
+        process.start(),
         new,
         ending,
         need.new_name().last(),
         links,
     ) {
         Ok(found) => found,
-        Err(fault) => return Err(Fault::BadPath(Side::New, fault)),
+        Err(fault) => return Err(bad_path(Side::New, new, fault)),
     };
     match covers_fault(&mut probe, need, process, &old, &new) {
         Some(fault) => Err(fault),

@@ -13,7 +13,7 @@ ghost use Rattle.pua_script.specs.Worlds.{world_of};
 ghost use Rattle.pua_why.specs.Facts.{Fact as Meant, Follows, call_facts, call_trace, facts};
 ghost use Rattle.pua_why.specs.Facts.{facts_by, facts_named, facts_of, facts_promised};
 ghost use Rattle.pua_why.specs.Facts.{facts_under, opened_facts, promise_of_row};
-ghost use Rattle.pua_why.specs.Facts.{names_facts, pair_facts, unveil_facts};
+ghost use Rattle.pua_why.specs.Facts.{chroot_facts, names_facts, pair_facts, unveil_facts};
 ghost use Rattle.pua_why.specs.Reasons.{uncovered_fault};
 ghost use Rattle.pua_why.specs.Seen.{fact_seen, on_named_fact, side_seen};
 
@@ -21,7 +21,7 @@ use crate::checks::traced;
 use crate::told::{Fact, Side};
 use pua_calls::needs::ending;
 use pua_calls::{Call, CallTable, PairNeed, Perms, Promises};
-use pua_path::{Counted, Ending, Found, Last, Links, Probe, Spot, Way};
+use pua_path::{Counted, Ending, Found, Last, Links, Probe, Spot, Start, Way};
 use pua_policy::{Covering, Place, Process, Promising};
 use pua_script::{Action, Opening, World, opening_of};
 use pua_tree::{FileTree, NodeId, OutOfMemory};
@@ -108,6 +108,7 @@ impl Passed {
             Action::Hold { call, path, .. } => {
                 self.add_asked(tree, table, process, *call, path.bytes())
             }
+            Action::Chroot(path) => self.add_chroot(tree, table, process, path.bytes()),
             Action::Take { .. } => self.add_promises(process, &[Promises::RECVFD]),
             Action::Close(_) | Action::Fchdir(_) => Ok(()),
             Action::Uses(any) => self.add_promises(process, any.sets()),
@@ -165,8 +166,8 @@ impl Passed {
             (call_trace (T.content tree.now) process.now call path.now) (λ object. [])) }
     {
         let mut probe = Counted::new(tree);
-        let (dir, last) = (process.dir(), call.last());
-        self.add_name(&mut probe, Side::Sole, dir, path, ending(call), last)?;
+        let (from, last) = (process.start(), call.last());
+        self.add_name(&mut probe, Side::Sole, from, path, ending(call), last)?;
         Ok(())
     }
 
@@ -191,6 +192,26 @@ impl Passed {
         }
     }
 
+    /// Adds what a chroot passes: its promise, and then what a chdir passes by its path.
+    fn add_chroot<T: FileTree>(
+        &mut self,
+        tree: &T,
+        table: &CallTable,
+        process: &Process,
+        path: &[u8],
+    ) -> Result<(), OutOfMemory>
+        ensures { OnOk result (self.new ≡ self.old
+            ++ chroot_facts table.now (T.content tree.now) process.now path.now) }
+    {
+        match process.promising(&[Promises::ID]) {
+            Promising::Holds(set) => {
+                self.add(Fact::Needs(set))?;
+                self.add_object(tree, table, process, Call::Chdir, path)
+            }
+            Promising::HasEnded | Promising::Lacks { .. } => Ok(()),
+        }
+    }
+
     /// Adds what the path of a call names, and then what covers that.
     fn add_object<T: FileTree>(
         &mut self,
@@ -206,8 +227,8 @@ impl Passed {
             (rule_of table.now call).perms [])) }
     {
         let mut probe = Counted::new(tree);
-        let (dir, last) = (process.dir(), call.last());
-        match self.add_name(&mut probe, Side::Sole, dir, path, ending(call), last)? {
+        let (from, last) = (process.start(), call.last());
+        match self.add_name(&mut probe, Side::Sole, from, path, ending(call), last)? {
             Some(found) => {
                 let perms = table.perms(call);
                 self.add_last_cover(&mut probe, process, Side::Sole, &found, perms)
@@ -253,13 +274,14 @@ impl Passed {
             ++ names_facts need.now (T.content tree.now) process.now ending old.now new.now) }
     {
         let mut probe = Counted::new(tree);
-        let dir = process.dir();
         let last = need.old_name().last();
-        let Some(old) = self.add_name(&mut probe, Side::Old, dir, old, ending, last)? else {
+        let Some(old) = self.add_name(&mut probe, Side::Old, process.start(), old, ending, last)?
+        else {
             return Ok(());
         };
         let last = need.new_name().last();
-        let Some(new) = self.add_name(&mut probe, Side::New, dir, new, ending, last)? else {
+        let Some(new) = self.add_name(&mut probe, Side::New, process.start(), new, ending, last)?
+        else {
             return Ok(());
         };
         self.add_covers(&mut probe, need, process, &old, &new)
@@ -304,8 +326,8 @@ impl Passed {
             return Ok(());
         }
         let mut probe = Counted::new(tree);
-        let (dir, last) = (process.dir(), Last::Followed);
-        self.add_name(&mut probe, Side::Sole, dir, path, Ending::Dot, last)?;
+        let (from, last) = (process.start(), Last::Followed);
+        self.add_name(&mut probe, Side::Sole, from, path, Ending::Dot, last)?;
         Ok(())
     }
 
@@ -325,7 +347,7 @@ impl Passed {
         &mut self,
         probe: &mut P,
         side: Side,
-        from: NodeId,
+        from: Start,
         path: &[u8],
         ending: Ending,
         last: Last,

@@ -9,7 +9,9 @@ ghost use Rattle.pua_why.specs.Checked.{reason_checked, checks_fault, granted_by
 ghost use Rattle.pua_why.specs.Reasons.{change_or_fault, faults, faults_of, reason};
 ghost use Rattle.pua_why.specs.Seen.{fault_seen, reason_seen};
 
-use crate::checks::{call_fault, fit_fault, object_fault, symlink_fault, unveil_fault};
+use crate::checks::{
+    call_fault, chroot_fault, fit_fault, object_fault, symlink_fault, unveil_fault,
+};
 use crate::given::{fork_fault, lock_fault, pledge_fault, process_fault, uses_fault};
 use crate::opens::{close_fault, fchdir_fault, receive_fault, take_fault};
 use crate::pairs::{link_fault, rename_fault};
@@ -179,6 +181,10 @@ fn fault_of<'s, T: FileTree>(
         }
         Action::Close(number) => Ok(close_fault(process, *number)),
         Action::Fchdir(number) => Ok(fchdir_fault(process, *number)),
+        Action::Chroot(path) => {
+            let fault = chroot_fault(tree, table, process, path.bytes(), &mut links);
+            Ok(fault)
+        }
         Action::Take { .. } => Ok(receive_fault(process)),
     }
 }

@@ -62,6 +62,7 @@ fn push_fault<T: FileTree>(
         Fault::LacksPromise { lacks, .. } => push_no(alloc, text, lacks),
         Fault::BadTarget(fault) => push_target(text, fault),
         Fault::BadPath(side, ref fault) => push_bad_path(text, paths, side, fault),
+        Fault::NoRoot(side) => push_no_root(text, side),
         Fault::Uncovered(side, ref found) => push_uncovered(text, paths, side, found),
         Fault::LacksLetters {
             side,
@@ -330,6 +331,15 @@ fn push_bad_path<T: FileTree>(
         PathFault::NoStart => text.push_str("working directory is removed"),
         PathFault::Stops(stop) => push_stop(text, paths, stop),
     }
+}
+
+/// Adds that a path starts at a root that was removed.
+fn push_no_root(text: &mut String, side: Side) -> Result<(), AllocError>
+    ensures { OnOk result (string_bytes text.new
+        ≡ string_bytes text.old ++ (side_text (side_seen side) ++ codes "root is removed")) }
+{
+    text.push_str(side_word(side))?;
+    text.push_str("root is removed")
 }
 
 /// Adds what is wrong with a path's text.

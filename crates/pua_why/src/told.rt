@@ -50,8 +50,10 @@ pub enum Fault<'s> {
     },
     /// The target of a link is no path.
     BadTarget(PathTextFault),
-    /// A path names nothing.
+    /// A path names nothing, and starts elsewhere than at a root that was removed.
     BadPath(Side, PathFault),
+    /// A path starts at the root, which was removed.
+    NoRoot(Side),
     /// No veil is kept at what a path named, nor at a directory over it.
     Uncovered(Side, Found),
     /// The nearest veil of what a path named lacks letters that are needed.

@@ -147,8 +147,8 @@ A line of SCRIPT is a process P, a call and its arguments, one blank between:
   P exit
   P hold N open-r|open-w|open-rw PATH
   P close|fchdir N
-  P take N Q M                    (what process Q has as descriptor M; these
-                                  four with `--rules openbsd` alone)
+  P take N Q M                    (what process Q has as descriptor M)
+  P chroot PATH                   (these five with `--rules openbsd` alone)
 
 A fault is a line on standard error. It says, or most often comes from:
   table: bad toml      FILE is no TOML document
@@ -302,6 +302,9 @@ Prints what `pua run` prints, then `objects P`, then the state of process P:
   execpromises LIST   the same of those of the program that it starts
   unveil locked       or given-up, where it lacks the promise `unveil`; or open:
                       it may put further veils, and the list holds for now alone
+  root PATH closed    with `--rules openbsd`: where its root is, unless that is
+                      TREE's; - where it was removed. The list has what is at or
+                      below PATH; or `root PATH open`: paths lead out of it
   opening PATH CALLS  with `--rules openbsd`: what a promise opens by itself. No
                       line of an object tells of it, but that those for ever
                       have the calls of tmppath. No veil hides it, unless

@@ -23,7 +23,7 @@ my %BY_PATH  = ('' => 'nl*', old => 'nl*', new => 'nl*ml*');
 my %BY_VEIL  = ('' => 'nl*m', old => 'nl*ml*m', new => 'nl*ml*mv');
 my %COMES_TO = (
     (map { $_ => { '' => '' } } 'promises', 'never made', 'ended'),
-    (map { $_ => \%BY_PATH } 'empty', 'long', 'long component', 'removed', 'links'),
+    (map { $_ => \%BY_PATH } 'empty', 'long', 'long component', 'removed', 'no root', 'links'),
     (map { $_ => \%BY_VEIL } 'letters', 'no veil'),
 );
 my %IS_EITHER = map { $_ => 1 } 'missing', 'no directory';

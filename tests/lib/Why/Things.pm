@@ -3,7 +3,7 @@ package Why::Things;
 use strict;
 use warnings;
 use Exporter qw(import);
-use Why::Changed qw($NEW place_of same_kind_fault same_words_fault things_of told_behind told_instead);
+use Why::Changed qw($NEW place_of same_kind_fault same_words_fault state_of things_of told_behind told_instead);
 use Why::World qw(OBSERVER is_over fields_of above);
 
 our @EXPORT_OK = qw(%FAULT_OF);
@@ -21,6 +21,7 @@ our %FAULT_OF = (
     'not empty'    => \&_not_empty,
     'inside'       => \&_inside,
     'removed'      => \&_removed,
+    'no root'      => \&_no_root,
 );
 
 sub _missing {
@@ -123,6 +124,18 @@ sub _removed {
     return 'nothing was removed' if !grep { / (?:rmdir|rename) / } @before;
     $fields[$place] = "/$fields[$place]";
     return same_kind_fault($case, told_instead($case, @fields), 'with a path from the root');
+}
+
+# A path that begins at the root does so, which is removed; and one that begins in the working directory does not.
+sub _no_root {
+    my ($case) = @_;
+    my @fields = fields_of($case->{request});
+    my $place  = place_of($case, 'path');
+    return "its path doesn't begin at the root" if $fields[$place] !~ m{\A/};
+    my $root = state_of($case)->{root} // 'that of the listing';
+    return "its root is $root" if $root ne '-';
+    $fields[$place] = ".$fields[$place]";
+    return same_kind_fault($case, told_instead($case, @fields), 'with a path from the directory');
 }
 
 # What stands at the root can't be moved, so it is asked what the path names.

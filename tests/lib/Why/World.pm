@@ -26,6 +26,7 @@ my @KINDS = (
     [ 'long',            qr/ENAMETOOLONG/,  qr/(path|target) has more than 1023 bytes/ ],
     [ 'long component',  qr/ENAMETOOLONG/,  qr/(path|target) has a component of more than 255 bytes/ ],
     [ 'removed',         qr/ENOENT/,        qr/working directory is removed/ ],
+    [ 'no root',         qr/ENOENT/,        qr/root is removed/ ],
     [ 'missing',         qr/ENOENT/,        qr/($PATH) is missing/ ],
     [ 'no directory',    qr/ENOTDIR/,       qr/($PATH) is no directory/ ],
     [ 'links',           qr/ELOOP/,         qr/($PATH) is link 33/ ],
@@ -133,7 +134,7 @@ sub facts {
 }
 
 # The state of a process behind a script: a hash of the first words of its lines, veils, a list of pairs
-# of a path and letters, and held, kinds by descriptor.
+# of a path and letters, held, kinds by descriptor, and root, the path of one of its own.
 sub state_of {
     my ($world, $script, $process) = @_;
     return $world->_lists($script)->{$process} || { veils => [], held => {} };
@@ -155,6 +156,7 @@ sub _lists {
         $list = $lists{$1} = { veils => [], held => {}, things => {} } if $line =~ /\Aobjects (\d+)\z/;
         next if !$list;
         push @{ $list->{veils} }, [ $1, $2 ] if $line =~ /\Aveil (\S+) (\S+)\z/;
+        $list->{root} = $1 if $line =~ /\Aroot (\S+) (?:closed|open)\z/;
         $list->{held}{$1} = $2 if $line =~ /\Aheld (\d+) (\S+) /;
         $list->{$1} = $2 if $line =~ /\A(process|promises|execpromises|unveil) (\S+)\z/;
         $list->{things}{$2} = $1 if $line =~ /\A(dir|file|prog|link) (\S+) /;

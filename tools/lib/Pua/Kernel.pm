@@ -11,7 +11,8 @@ use Fcntl qw(O_CREAT O_NONBLOCK O_RDONLY O_RDWR O_WRONLY S_ISFIFO S_ISSOCK);
 use POSIX ();
 use Socket qw(AF_UNIX SOCK_STREAM);
 our @EXPORT_OK
-    = qw(%TAKES $MOST_SOCKET answer_of_kernel answer_on_files execute has_pledge has_unveil named);
+    = qw(%TAKES $MOST_SOCKET answer_of_kernel answer_on_files execute has_pledge has_unveil let_move_root
+    mounted named put_in);
 
 # How many arguments each request of a script has.
 our %TAKES = (
@@ -19,7 +20,7 @@ our %TAKES = (
     (map { $_ => 1 } qw(chmod chdir exec connect bind mknod chown create-rw fchmod fchown fork)),
     (map { $_ => 1 } qw(access statfs truncate chflags utimes mkfifo)),
     (map { $_ => 2 } qw(symlink rename link pledge unveil)), exit => 0,
-    hold => 3, close => 1, fchdir => 1, take => 3,
+    hold => 3, close => 1, fchdir => 1, take => 3, chroot => 1,
 );
 
 # How many bytes of path a socket's address holds. Some systems have more; a longer path is asked of
@@ -50,12 +51,14 @@ sub named { my ($number) = @_; return $NAMES{$number} || "E$number" }
 # its chdir, open and exec know further words.
 my @NUMBERED = qw(stat lstat open mkdir rmdir unlink symlink rename link readlink chmod chdir chown
     access statfs execve pledge fchdir pidfd_open pidfd_getfd);
-my %NUMBERS;
+my @MOUNTING = qw(unshare mount pivot_root umount2);
+my (%NUMBERS, %MOUNTING);
 if (eval { local $SIG{__WARN__} = sub { }; require 'sys/syscall.ph'; 1 }) {
-    for my $call (@NUMBERED) {
+    for my $call (@NUMBERED, @MOUNTING) {
         my $number = eval { __PACKAGE__->can("SYS_$call")->() };
         $NUMBERS{$call} = $number if defined $number && $number =~ /\A[0-9]+\z/;
     }
+    %MOUNTING = map { $_ => delete $NUMBERS{$_} } @MOUNTING;
 }
 sub forget_numbers { %NUMBERS = (); return }
 
@@ -99,6 +102,7 @@ sub answer_of_kernel {
     return on_socket($call, $path) if $call eq 'bind' || $call eq 'connect';
     return by_descriptor($call, $path) if $call eq 'fchmod' || $call eq 'fchown';
     return pledged(@arguments) if $call eq 'pledge';
+    return rooted($path) if $call eq 'chroot';
     return unveiled(@arguments) if $call eq 'unveil';
     return told(POSIX::mkfifo($path, 0666)) if $call eq 'mknod' || $call eq 'mkfifo';
     if ($call eq 'exec') {
@@ -151,13 +155,51 @@ sub opened {
     return $answer;
 }
 
+# A directory as the root of all: out of one that chroot(2) alone made, a later chroot(2) can lead,
+# to what no script may touch. So a script moves its root on Linux alone, where a name space of
+# mounts can have no more than the directory.
+my ($CLONE_NEWNS, $MS_BIND, $MS_REC, $MS_PRIVATE, $MNT_DETACH) = (0x20000, 4096, 16384, 1 << 18, 2);
+my $MAY_MOVE_ROOT = 0;
+
+# Makes a directory a mount in a name space of its own, of this process and its children. Whether it
+# could.
+sub mounted {
+    my ($dir) = @_;
+    return 0 if $^O ne 'linux' || grep { !defined $MOUNTING{$_} } @MOUNTING;
+    my ($none, $top, $from, $to) = ('none', '/', $dir, $dir);
+    return syscall($MOUNTING{unshare}, $CLONE_NEWNS) != -1
+        && syscall($MOUNTING{mount}, $none, $top, 0, $MS_REC | $MS_PRIVATE, 0) != -1
+        && syscall($MOUNTING{mount}, $from, $to, 0, $MS_BIND, 0) != -1;
+}
+
+# Makes such a mount the root of all. Whether it could.
+sub put_in {
+    my ($dir) = @_;
+    chdir $dir or return 0;
+    my ($new, $old) = ('.', '.');
+    return 0 if syscall($MOUNTING{pivot_root}, $new, $old) == -1;
+    $MAY_MOVE_ROOT = syscall($MOUNTING{umount2}, $old, $MNT_DETACH) != -1 && chdir '/';
+    return $MAY_MOVE_ROOT;
+}
+
+# Lets a process move its root, of whose script it is known that it touches nothing outside.
+sub let_move_root { $MAY_MOVE_ROOT = 1; return }
+
+sub rooted {
+    my ($path) = @_;
+    return 'left-out' if !$MAY_MOVE_ROOT;
+    return $path eq '' ? told(nothing_there()) : told(chroot $path);
+}
+
 # The answer to a call about descriptors of this process, and what else is told: the new descriptor,
-# or of `held` the device, the number and the links of what is open.
+# or of `held` the device, the number and the links of what is open, and of `root` those of the
+# root, and whether one of some descriptors, or the working directory, is outside of it.
 my %ON_FILES = (
     close  => sub { told(POSIX::close($_[0])) },
     fchdir => \&enter,
     take   => \&take,
     held   => sub { my @fields = POSIX::fstat($_[0]); return @fields ? "ok @fields[0, 1, 3]" : told(0) },
+    root   => \&root_of,
 );
 sub answer_on_files {
     my ($call, @words) = @_;
@@ -178,6 +220,26 @@ sub enter {
     return told(syscall($NUMBERS{fchdir}, $fd) != -1) if defined $NUMBERS{fchdir};
     open my $dir, '<&', $fd or return told(0);
     return told(chdir $dir);
+}
+
+# What `..` leads to from a working directory at last is the root, if it is not outside of that.
+sub root_of {
+    my (@files) = @_;
+    my @root = (stat '/')[0, 1, 3] or return told(0);
+    my @ends = top_of_here();
+    for my $file (@files) {
+        push @ends, top_of_here() if enter($file) eq 'ok';
+    }
+    return "ok @root " . (grep({ $_ ne "@root[0, 1]" } @ends) ? 'open' : 'closed');
+}
+
+sub top_of_here {
+    my ($here, $last) = (join(' ', (stat '.')[0, 1]), '');
+    while ($here ne $last) {
+        chdir '..' or return $here;
+        ($last, $here) = ($here, join ' ', (stat '.')[0, 1]);
+    }
+    return $here;
 }
 
 # Takes a descriptor of another process, as Linux alone lets one that sends nothing.

@@ -2,7 +2,8 @@ package Pua::Perform;
 
 # Performs a script of pua(1) over the tree of a listing by real processes and real calls. The tree
 # is made in a fresh directory, which becomes `/` by chroot(2): so it has to be root, and nothing
-# outside of that directory is touched.
+# outside of that directory is touched. Where a script has chroot itself, it becomes the root of all
+# for its processes; else, as on other systems than Linux, chroot is left out, but in what is trusted.
 use strict;
 use warnings;
 use Exporter qw(import);
@@ -10,12 +11,12 @@ use Fcntl qw(O_CREAT O_WRONLY);
 use File::Temp qw(tempdir);
 use IO::Handle ();
 use POSIX ();
-use Pua::Kernel qw(%TAKES answer_of_kernel answer_on_files execute);
+use Pua::Kernel qw(%TAKES answer_of_kernel answer_on_files execute let_move_root mounted put_in);
 our @EXPORT_OK = qw(perform requests_of);
 
 my $PATIENCE = 3000;    # hundredths of a second in which a process has to answer
 my $NO_FILE  = 999_999;    # a descriptor that no process has
-my $ON_FILES = qr/\A(?:hold-.*|close|fchdir|take|held)\z/;
+my $ON_FILES = qr/\A(?:hold-.*|close|fchdir|take|held|root)\z/;
 
 # The bytes that a field spells; `=` is the empty text where it is an argument.
 sub bytes { my ($field) = @_; $field =~ s/\\([0-3][0-7][0-7])/chr oct $1/ge; return $field }
@@ -144,8 +145,9 @@ sub walk {
 }
 
 # What stands below a directory: a line `KIND PATH` for each name, as `pua objects` has them; and what
-# is open, `held PROCESS NUMBER PATH` for each of its names, or one line with `-`. @held has process,
-# number, device, number of the node and links.
+# is open, `held PROCESS NUMBER PATH` for each of its names, or one line with `-`; and roots, each
+# `root PROCESS PATH` with its word. @held has process, number, device, number of the node and links;
+# of a root the word instead of the number.
 sub left {
     my ($root, @held) = @_;
     chdir $root or die "$root: $!\n";
@@ -162,7 +164,8 @@ sub left {
     for my $file (@held) {
         my ($process, $number, $device, $node, $links) = @$file;
         my @paths = $links ? @{ $paths{"$device $node"} || ['?'] } : '-';
-        push @lines, map { "held $process $number $_" } @paths;
+        if    ($number =~ /\A[0-9]+\z/) { push @lines, map { "held $process $number $_" } @paths }
+        elsif ($paths[0] ne '/')       { push @lines, "root $process $paths[0] $number" }
     }
     return join '', map { "$_\n" } sort @lines;
 }
@@ -179,7 +182,8 @@ sub clear {
 
 # Performs the text of a script over that of a listing. In %$how, optional: room, where temporary
 # directories are made; helper, a static program made of conform.c, which then makes all calls;
-# left, whether what is left, and open, is asked for. Gives a list of the answers, and the lines of
+# left, whether what is left, and open, is asked for; trusted, whether the script is known to change
+# nothing where a chroot of its own may lead. Gives a list of the answers, and the lines of
 # what is left.
 sub perform {
     my ($listing, $script, $how) = @_;
@@ -220,9 +224,10 @@ sub answers_to {
         $to{$number} = [$from, $into];
     }
     pipe my $from, my $teller or die "pipe: $!\n";
+    my $moves = grep { @$_ && $_->[1] eq 'chroot' } @$requests;
     my $child = fork;
     die "fork: $!\n" unless defined $child;
-    begin($root, $how->{helper}, $from, $teller, \%to) if !$child;
+    begin($root, { %$how, moves => $moves }, $from, $teller, \%to) if !$child;
     close $teller;
     close $_->[0] for values %to;
     my $run = {
@@ -230,6 +235,7 @@ sub answers_to {
     };
     my @answers = map { @$_ ? answer_to($run, @$_) : undef } @$requests;
     my @held = $how->{left} ? held_in($run) : ();
+    push @held, roots_in($run) if $how->{left} && $moves;
     close $_->[1] for values %to;
     close $from;
     waitpid $child, 0;
@@ -238,20 +244,26 @@ sub answers_to {
 
 # Process 1 in its child, which doesn't return.
 sub begin {
-    my ($root, $helper, $from, $teller, $to) = @_;
+    my ($root, $how, $from, $teller, $to) = @_;
     eval {
+        my $helper = $how->{helper};
         close $from;
         close $_->[1] for values %$to;
         $SIG{CHLD} = 'IGNORE';
         $SIG{$_} = 'DEFAULT' for qw(HUP INT TERM);
+        my $is_mounted = $how->{moves} && mounted($root);
         if (defined $helper) {
             my @pipes = map { $_ => fileno $to->{$_}[0] } keys %$to;
-            execute($helper, 'helper', fileno $teller, 1, "root=$root", @pipes);
+            my $name = $is_mounted ? 'mounted' : $how->{trusted} ? 'trusted' : 'helper';
+            execute($helper, $name, fileno $teller, 1, "root=$root", @pipes);
             die "$helper: $!\n";
         }
-        chdir $root or die "$root: $!\n";
-        chroot '.' or die "chroot: $!\n";
-        chdir '/' or die "chdir: $!\n";
+        if (!$is_mounted || !put_in($root)) {
+            chdir $root or die "$root: $!\n";
+            chroot '.' or die "chroot: $!\n";
+            chdir '/' or die "chdir: $!\n";
+            let_move_root() if $how->{trusted};
+        }
         work(1, $teller, $to);
     };
     print {*STDERR} "conform.pl: $@";
@@ -323,6 +335,19 @@ sub held_in {
         }
     }
     return @held;
+}
+
+# The roots of the living processes, as what they have open: with `open` where one of these, or the
+# working directory, is outside of it, and else `closed`.
+sub roots_in {
+    my ($run) = @_;
+    my @roots;
+    for my $process (sort { $a <=> $b } keys %{ $run->{pid} }) {
+        my @files = values %{ $run->{files}{$process} || {} };
+        my ($answer, @node) = asked($run, $process, 'root', @files);
+        push @roots, [ $process, pop @node, @node ] if $answer eq 'ok';
+    }
+    return @roots;
 }
 
 # The arguments as a process is told them: `.` and hexadecimal digits; `-` for NULL.

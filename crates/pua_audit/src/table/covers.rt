@@ -3,6 +3,7 @@
 ghost use Rattle.std.specs.Prelude.{◌≡◌, ◌≤◌, ◌+◌, length, IfOk, IfSome, IsTrue};
 ghost use Rattle.pua_tree.specs.Tree.{Tree, WellFormed, above, is_dir};
 ghost use Rattle.pua_path.specs.Fits.{FoundFits, FoundsFit, StandsAsNamed};
+ghost use Rattle.pua_path.specs.Resolution.{above_in};
 ghost use Rattle.pua_path.specs.declared.found.Found.TheVariants.{Whole};
 ghost use Rattle.pua_path.specs.declared.found.Part.TheVariants as parts;
 ghost use Rattle.pua_path.specs.declared.found.Way.TheVariants.{DotDot};
@@ -10,6 +11,7 @@ ghost use Rattle.pua_policy.specs.Descent.{cover_in};
 ghost use Rattle.pua_policy.specs.States.{ProcessState};
 ghost use Rattle.pua_policy.specs.Verdict.{cover};
 ghost use Rattle.pua_audit.specs.Covers.{AreCovered};
+ghost use Rattle.pua_audit.specs.Judge.{seen_by};
 
 use crate::table::directories::Directories;
 use crate::terms::Terms;
@@ -30,11 +32,12 @@ impl Terms {
     ) -> Cover
         requires tree { P.tree probe.old ≡ self.now.seen.tree }
         requires fits { FoundsFit self.now.seen.tree found.now }
-        ensures exact { IfOk found.now (StandsAsNamed self.now.seen.tree) →
+        ensures exact { let seen = seen_by self.now.seen.tree self.now.process in
+            IfOk found.now (StandsAsNamed self.now.seen.tree) →
             AreCovered self.now.seen.tree self.now.process dirs.now →
             IsTrue (is_dir self.now.seen.tree from) →
             IfOk found.now (λ object. part.now ≡ parts.DotDot →
-            object ≡ Whole (above self.now.seen.tree from) DotDot) → IfOk found.now
+            object ≡ Whole (above_in seen from) DotDot) → IfOk found.now
             (λ object. result ≡ cover self.now.seen.tree self.now.process object) }
         ensures tree { P.tree probe.new ≡ P.tree probe.old }
         ensures cost { P.count probe.new ≤ P.count probe.old + length self.now.seen.tree.nodes }
@@ -58,7 +61,8 @@ impl Directories {
         ensures { IfSome result (λ left. (t : Tree) → WellFormed t →
             FoundFits t found.now → StandsAsNamed t found.now →
             AreCovered t process.now self.now → IsTrue (is_dir t from) →
-            (part.now ≡ parts.DotDot → found.now ≡ Whole (above t from) DotDot) →
+            (part.now ≡ parts.DotDot →
+            found.now ≡ Whole (above_in (seen_by t process.now) from) DotDot) →
             left ≡ cover t process.now found.now) }
     {
         if let Some(cover) = self.handed_down(process, found) {
@@ -73,7 +77,9 @@ impl Directories {
     /// What the veils of a process leave of the names in the directory above one that has a place
     /// and no veil of its own: both have the same cover.
     fn handed_up(&self, process: &Process, from: NodeId) -> Option<Cover>
-        ensures { IfSome result (λ left. (t : Tree) → WellFormed t →
+        ensures here { IfSome result (λ left. (t : Tree) →
+            AreCovered t process.now self.now → left ≡ cover_in t process.now from) }
+        ensures above { IfSome result (λ left. (t : Tree) → WellFormed t →
             AreCovered t process.now self.now → IsTrue (is_dir t from) →
             left ≡ cover_in t process.now (above t from)) }
     {

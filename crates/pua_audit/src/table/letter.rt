@@ -16,6 +16,7 @@ ghost use Rattle.pua_policy.specs.Descent.{cover_in};
 ghost use Rattle.pua_policy.specs.Verdict.{FoundsFit, cover, verdict_of, is_allowed};
 ghost use Rattle.pua_audit.specs.Bounds.{letter_cost, object_cost};
 ghost use Rattle.pua_audit.specs.Covers.{AreCovered};
+ghost use Rattle.pua_audit.specs.Judge.{seen_by};
 ghost use Rattle.pua_audit.specs.Ready.{judge_in};
 ghost use Rattle.pua_audit.specs.Entries.{AreWithin, links_of, found_of, leads_to};
 ghost use Rattle.pua_audit.specs.Spots.{IsNamed};
@@ -27,7 +28,7 @@ use crate::table::directories::Directories;
 use crate::table::within::Within;
 use crate::terms::Terms;
 use pua_calls::Calls;
-use pua_path::{Errno, Found, Last, Part, Probe};
+use pua_path::{Errno, Found, Last, Part, Probe, Start};
 use pua_policy::{Cover, Place, judge};
 use pua_tree::{LentName, NodeId};
 
@@ -123,6 +124,16 @@ impl Terms {
         self.process.kept(&place).is_some()
     }
 
+    /// Where a part is looked for that stands in a directory.
+    fn start_in(&self, dir: NodeId) -> Start
+        ensures root { result.root ≡ (seen_by self.now.seen.tree self.now.process).root }
+        ensures lives { IsTrue (is_dir self.now.seen.tree result.root) }
+        ensures dir { result.dir ≡ dir }
+    {
+        let root = self.root;
+        Start { root, dir }
+    }
+
     /// What a letter is in a living directory, followed once, with no link used before it.
     fn followed<'t, P: Probe<'t>>(
         &self,
@@ -145,7 +156,7 @@ impl Terms {
             + 2 * (part_cost self.now.seen.tree + object_cost self.now.seen.tree) }
     {
         let part = letter.part();
-        let (followed, links) = counted(pua_path::follow(probe, dir, &part));
+        let (followed, links) = counted(pua_path::follow(probe, self.start_in(dir), &part));
         let cover = self.cover_of(probe, dirs, dir, &part, &followed);
         let near = self.calls_on(probe, &followed, &cover);
         let far = self.calls_kept(probe, dirs, dir, &part, &followed, links, near);
@@ -173,14 +184,15 @@ impl Terms {
     ) -> Calls
         requires tree { P.tree probe.old ≡ self.now.seen.tree }
         requires living { IsTrue (is_dir self.now.seen.tree dir) }
-        ensures exact { AreCovered self.now.seen.tree self.now.process dirs.now →
-            followed.now ≡ found_of (follow self.now.seen.tree dir part.now) →
-            links ≡ links_of (follow self.now.seen.tree dir part.now) →
+        ensures exact { let seen = seen_by self.now.seen.tree self.now.process in
+            AreCovered self.now.seen.tree self.now.process dirs.now →
+            followed.now ≡ found_of (follow seen dir part.now) →
+            links ≡ links_of (follow seen dir part.now) →
             ((call : Call) → has near call ≡ is_allowed
             (verdict_of self.now.seen.tree self.now.table self.now.process call followed.now)) →
             (call : Call) → has result call ≡ is_allowed
             (verdict_of self.now.seen.tree self.now.table self.now.process call
-            (last self.now.seen.tree dir 0 part.now Kept)) }
+            (last seen dir 0 part.now Kept)) }
         ensures tree { P.tree probe.new ≡ P.tree probe.old }
         ensures cost { P.count probe.new ≤ P.count probe.old
             + (part_cost self.now.seen.tree + object_cost self.now.seen.tree) }
@@ -188,7 +200,7 @@ impl Terms {
         if links == 0 && followed.is_ok() {
             return near;
         }
-        let kept = pua_path::last(probe, dir, 0, part, Last::Kept);
+        let kept = pua_path::last(probe, self.start_in(dir), 0, part, Last::Kept);
         let cover = self.cover_of(probe, dirs, dir, part, &kept);
         self.calls_on(probe, &kept, &cover)
     }

@@ -5,7 +5,7 @@ use crate::plan::draft::is_open;
 use crate::step::{At, Dir};
 use pua_calls::{Call, CallTable, PairNeed, Perms, Promises};
 use pua_objects::{ListItem, Subject, list_items};
-use pua_path::Last;
+use pua_path::{Last, Start};
 use pua_policy::judge::cover_fault;
 use pua_policy::{Cover, May, Object, Place, Process};
 use pua_tree::{FileTree, Kind, Name, NodeId, OutOfMemory};
@@ -107,14 +107,37 @@ impl Need {
     }
 }
 
-/// The rows of items, without those of further names.
+/// The root of a process that works there or below it, if it has one of its own: no plan leads out
+/// of that.
+fn closed_root<T: FileTree>(tree: &T, from: Start) -> Option<NodeId> {
+    let is_closed = from.root != NodeId::ROOT && tree.is_within(from.dir, from.root);
+    is_closed.then_some(from.root)
+}
+
+/// Whether a plan can lead to an item.
+fn is_led_to<T: FileTree>(tree: &T, closed: &Option<NodeId>, item: &ListItem<'_>) -> bool {
+    let Some(root) = closed else {
+        return true;
+    };
+    match item.item.subject {
+        Subject::Root => false,
+        Subject::Others(dir) | Subject::Name(dir, _) => tree.is_within(dir, *root),
+        Subject::Dir(node, _, _) => tree.is_within(node, *root),
+    }
+}
+
+/// The rows of items, without those of further names and those to which no plan can lead.
 fn rows_of<T: FileTree>(
     alloc: Global,
     tree: &T,
     items: &[ListItem<'_>],
+    closed: &Option<NodeId>,
 ) -> Result<Vec<Row>, AllocError> {
     let mut rows = Vec::with_capacity(alloc, items.len())?;
     for item in items {
+        if !is_led_to(tree, closed, item) {
+            continue;
+        }
         let (node, dir) = match item.item.subject {
             Subject::Root => (Some(NodeId::ROOT), NodeId::ROOT),
             Subject::Others(_) => continue,
@@ -170,9 +193,9 @@ fn taken_in(alloc: Global, rows: &[Row]) -> Result<Vec<Name>, AllocError> {
 }
 
 impl<'t> Planner<'t> {
-    /// Walks all that stands or could stand in a tree, by the veils of a process. Where tmppath
-    /// opens calls, plans may have them on any path: what they come to is seen when they are
-    /// served. The only error is that a growth was refused.
+    /// Walks all that stands or could stand in a tree, by the veils of a process; below a root of
+    /// its own alone, if it works there. Where tmppath opens calls, plans may have them on any path:
+    /// what they come to is seen when they are served. The only error is that a growth was refused.
     pub fn new<T: FileTree>(
         alloc: Global,
         tree: &'t T,
@@ -180,7 +203,8 @@ impl<'t> Planner<'t> {
         table: &CallTable,
     ) -> Result<Planner<'t>, OutOfMemory> {
         let items = list_items(alloc, tree, process)?;
-        let rows = rows_of(alloc, tree, items.as_slice())?;
+        let closed = closed_root(tree, process.start());
+        let rows = rows_of(alloc, tree, items.as_slice(), &closed)?;
         Ok(Planner {
             alloc,
             process,

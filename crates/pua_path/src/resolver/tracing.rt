@@ -7,20 +7,20 @@ ghost use Rattle.pua_path.specs.Walks.{stop_at};
 
 use super::{Resolving, start_of};
 use crate::errno::Errno;
-use crate::found::{Found, Last};
+use crate::found::{Found, Last, Start};
 use crate::limits::MOST_LINKS;
 use crate::probe::Probe;
 use crate::rest::Rest;
 use crate::text::PathText;
 use crate::traced::{Links, PathFault, Spot, Stop};
-use pua_tree::{LentName, NodeId};
+use pua_tree::LentName;
 
-/// What a path names from a directory, as `resolve` has it, or why it names nothing: `NoStart`
-/// where `resolve` answers `ENOENT` for `from`, and else where the path leads no further. The links
+/// What a path names from a root and a directory, as `resolve` has it, or why it names nothing:
+/// `NoStart` where `resolve` answers `ENOENT` for `from`, and else where the path leads no further. The links
 /// that it followed by then, 32 at most, take the place of those that `links` had. Takes no memory.
 pub fn trace<'t, P: Probe<'t>>(
     probe: &mut P,
-    from: NodeId,
+    from: Start,
     text: &PathText<'_>,
     mode: Last,
     links: &mut Links,

@@ -1,7 +1,8 @@
 //! Of what paths name, and of the links on their way.
 
 use pua_path::{
-    Counted, Ending, Errno, Found, Last, Links, Part, PathText, Probe, follow, resolve, trace,
+    Counted, Ending, Errno, Found, Last, Links, Part, PathText, Probe, Start, follow, resolve,
+    trace,
 };
 use pua_tree::{Name, NodeId, read_listing};
 use std::alloc::Global;
@@ -15,7 +16,7 @@ fn kept_link_followed(alloc: Global) {
         unreachable!()
     };
     let mut probe = Counted::new(&tree);
-    let Ok(found) = resolve(&mut probe, NodeId::ROOT, &text, Last::Kept) else {
+    let Ok(found) = resolve(&mut probe, Start::from_top(NodeId::ROOT), &text, Last::Kept) else {
         unreachable!()
     };
     if let Found::Whole { .. } = found {
@@ -32,7 +33,12 @@ fn last_link_kept(alloc: Global) {
         unreachable!()
     };
     let mut probe = Counted::new(&tree);
-    let Ok(found) = resolve(&mut probe, NodeId::ROOT, &text, Last::Followed) else {
+    let Ok(found) = resolve(
+        &mut probe,
+        Start::from_top(NodeId::ROOT),
+        &text,
+        Last::Followed,
+    ) else {
         unreachable!()
     };
     if let Found::Slot { .. } = found {
@@ -49,7 +55,12 @@ fn not_found_for_no_directory(alloc: Global) {
         unreachable!()
     };
     let mut probe = Counted::new(&tree);
-    let Err(errno) = resolve(&mut probe, NodeId::ROOT, &text, Last::Followed) else {
+    let Err(errno) = resolve(
+        &mut probe,
+        Start::from_top(NodeId::ROOT),
+        &text,
+        Last::Followed,
+    ) else {
         unreachable!()
     };
     if errno != Errno::ENOTDIR {
@@ -67,7 +78,12 @@ fn links_31(alloc: Global) {
         unreachable!()
     };
     let mut probe = Counted::new(&tree);
-    let Ok(_) = resolve(&mut probe, NodeId::ROOT, &text, Last::Followed) else {
+    let Ok(_) = resolve(
+        &mut probe,
+        Start::from_top(NodeId::ROOT),
+        &text,
+        Last::Followed,
+    ) else {
         unreachable!()
     };
 }
@@ -82,7 +98,12 @@ fn links_33(alloc: Global) {
         unreachable!()
     };
     let mut probe = Counted::new(&tree);
-    let Err(_) = resolve(&mut probe, NodeId::ROOT, &text, Last::Followed) else {
+    let Err(_) = resolve(
+        &mut probe,
+        Start::from_top(NodeId::ROOT),
+        &text,
+        Last::Followed,
+    ) else {
         unreachable!()
     };
 }
@@ -97,7 +118,7 @@ fn follow_keeps_the_link(alloc: Global) {
     };
     let mut probe = Counted::new(&tree);
     probe.known();
-    let Ok((found, _)) = follow(&mut probe, NodeId::ROOT, &Part::Name(name)) else {
+    let Ok((found, _)) = follow(&mut probe, Start::from_top(NodeId::ROOT), &Part::Name(name)) else {
         unreachable!()
     };
     if let Found::Slot { .. } = found {
@@ -118,7 +139,13 @@ fn no_link_lent(alloc: Global) {
         unreachable!()
     };
     let mut probe = Counted::new(&tree);
-    let _ = trace(&mut probe, NodeId::ROOT, &text, Last::Followed, &mut links);
+    let _ = trace(
+        &mut probe,
+        Start::from_top(NodeId::ROOT),
+        &text,
+        Last::Followed,
+        &mut links,
+    );
     if links.spots().is_empty() {
         unreachable!()
     }

@@ -27,7 +27,7 @@ fn exec_loses_directory(alloc: Global) {
     };
     process.set_dir(NodeId::new(7));
     process.exec_into();
-    if process.dir().number() != 7 {
+    if process.start().dir.number() != 7 {
         unreachable!()
     }
 }

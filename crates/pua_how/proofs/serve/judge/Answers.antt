@@ -11,7 +11,7 @@ returns-then-is g c =
     let text = c.args.path.now in
     let probed : c.new-probe.result.tree ≡ t = c.new-probe.ensures.tree in
     asked_if c.args.table.now t h c.args.call c.args.target.now (object_named t h c.args.call text) c.in-Ok.found c.is_allowed.result
-    (sym (c.in-Ok.ensures.exact ∙ (λ i. resolution_of_text (probed i) (c.dir.ensures.state i) (c.ending.ensures i) text (c.last.ensures i))))
+    (sym (c.in-Ok.ensures.exact ∙ (λ i. resolution_of_text (probed i) (c.start.ensures.state i) (c.ending.ensures i) text (c.last.ensures i))))
     (sym c.is.ensures ∙ c.if-is.true)
     (c.is_allowed.ensures
     ∙ ap is_allowed (c.verdict.ensures.exact

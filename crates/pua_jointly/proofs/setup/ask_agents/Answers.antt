@@ -11,8 +11,8 @@ use Rattle.pua_jointly.proofs.setup.ask_agents.Goals as goal
 pub loop-place-preserved : goal.loop-place-preserved
 loop-place-preserved c =
     let table = c.args.table.now in
-    let last : ℕ = c.args.shape.last in
-    let many : ℕ = c.args.shape.agents in
+    let last : ℕ = c.args.size.shape.last in
+    let many : ℕ = c.args.size.shape.agents in
     let members = c.args.members.now in
     let place : ℕ = c.loop-place.place in
     let agents : List Agent = c.loop-place.agents.items in

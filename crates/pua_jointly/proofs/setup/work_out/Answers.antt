@@ -5,10 +5,11 @@ use Rattle.std.proofs.lemmas.Grind.{common_steps}
 use Rattle.std.proofs.lemmas.List.{length-map}
 use Rattle.pua_tree.specs.LentRows.{lent_entry}
 use Rattle.pua_tree.specs.declared.tree.LentRow.{LentRow}
-use Rattle.pua_jointly.specs.JointMembers.{AreSmall, states, veil_now}
+use Rattle.pua_jointly.specs.JointMembers.{AreSmall, Each, states, veil_now}
 use Rattle.pua_jointly.specs.JointPlace.{Once}
 use Rattle.pua_jointly.specs.JointSetting.{AreInOrder, AreMarksOf, AreWatched, IsSize}
 use Rattle.pua_jointly.specs.JointSetup.{crew_told}
+use Rattle.pua_jointly.specs.JointWords.{IsAgent}
 use Rattle.pua_jointly.specs.declared.crew.Crew.{Crew}
 use Rattle.pua_jointly.specs.declared.crew.Entry.{Entry}
 use Rattle.pua_jointly.specs.declared.shape.Shape.{Shape}
@@ -35,7 +36,7 @@ returns-clause-worked g c =
       watches = c.in_ok-watches.watches;
       watch_columns = c.in_ok-watches.watch_columns;
     } in
-    let same : crew_told crew ≡ states members = c.in_ok-agents.ensures.crew ∙ ap states c.deref-6.ensures.value in
+    let same : crew_told crew ≡ states members = c.in_ok-agents.ensures.crew ∙ ap states c.deref-7.ensures.value in
     let all_are : map veil_now lent ≡ flat_map veils (crew_told crew) = c.in_ok-veils.ensures
     ∙ ap (λ (ps : List (Bor ProcessState)). flat_map veils (states ps)) c.deref.ensures.value ∙ ap (flat_map veils) (sym same) in
     let in_tree : map lent_entry rows ≡ t.rows = c.in_ok-rows.ensures in
@@ -51,19 +52,29 @@ returns-clause-worked g c =
     (many ∙ sym (length-map members (λ (p : Bor ProcessState). p.now)) ∙ ap length (sym same))
     (subst (λ n. IsSize shape n (length c.in_ok-watches.watches.items) c.in-Some.size)
     (many_rows ∙ sym (length-map rows lent_entry) ∙ ap length in_tree)
-    (subst (λ n. IsSize shape c.len-2.result n c.in-Some.size) many_watches c.in-Some.ensures)) refl refl c.in_ok-agents.ensures.each
+    (subst (λ n. IsSize shape c.len-2.result n c.in-Some.size) many_watches c.in-Some.ensures)) refl refl
+    (subst (λ (s : Shape). Each (λ i agent. IsAgent c.args.table.now (s.last + 1) s.agents i agent.process.now agent) c.in_ok-agents.agents.items)
+    c.in-Some.ensures.same c.in_ok-agents.ensures.each)
     c.in_ok-entries.ensures.rows
     (subst Once (sym c.in_ok-entries.ensures.rows) (each_row_once t.rows c.known.ensures.rows_in_order)) c.in_ok-entries.ensures.each
     (subst (λ (vs : List (Bor Place × Bor ℕ)). AreMarksOf t c.in_ok-entries.entries.items (map veil_now vs) c.in_ok-marks.marks.items)
-    c.deref-9.ensures.value
-    (subst (λ (es : List Entry). AreMarksOf t es (map veil_now c.deref-9.result.now) c.in_ok-marks.marks.items) c.deref-8.ensures.value
+    c.deref-10.ensures.value
+    (subst (λ (es : List Entry). AreMarksOf t es (map veil_now c.deref-10.result.now) c.in_ok-marks.marks.items) c.deref-9.ensures.value
     c.in_ok-marks.ensures))
     (subst (λ (vs : List (Bor Place × Bor ℕ)). AreWatched t c.len.result (c.last_number.result + 1) (map veil_now vs) c.in_ok-watches.watches.items)
-    c.deref-5.ensures.value c.in_ok-watches.ensures.watches) c.in_ok-watches.ensures.columns c.in_ok-seats.ensures
+    c.deref-6.ensures.value
+    (subst (λ n. AreWatched t n (c.last_number.result + 1) (map veil_now c.deref-6.result.now) c.in_ok-watches.watches.items)
+    (ap length c.deref-5.ensures.value ∙ sym many) c.in_ok-watches.ensures.watches)) c.in_ok-watches.ensures.columns c.in_ok-seats.ensures
     (in_order t.rows c.in_ok-entries.entries.items c.known.ensures.rows_in_order c.in_ok-entries.ensures.rows)
+
+pub ask_agents-requires : goal.ask_agents-requires
+ask_agents-requires g c =
+    let members : List (Bor ProcessState) = c.in_ok-members.members.items in
+    let many : c.len.result ≡ length members = grind (arith, common_steps) in
+    ap length c.deref-7.ensures.value ∙ sym many ∙ ap (λ (s : Shape). s.agents) (sym c.in-Some.ensures.same)
 
 pub find_marks-requires : goal.find_marks-requires
 find_marks-requires g c =
     let t = g.T.FileTree.content c.args.tree.now in
-    subst AreInOrder (sym c.deref-8.ensures.value)
+    subst AreInOrder (sym c.deref-9.ensures.value)
     (in_order t.rows c.in_ok-entries.entries.items c.known.ensures.rows_in_order c.in_ok-entries.ensures.rows)

@@ -13,7 +13,7 @@ use Rattle.pua_jointly.proofs.watching.find_watches.Goals.{else-is_marked, then-
 pub loop-number-preserved : goal.loop-number-preserved
 loop-number-preserved g c =
     let t = g.T.FileTree.content c.args.tree.now in
-    let many : ℕ = c.args.shape.agents in
+    let many : ℕ = length c.args.members.now in
     let veils = map veil_now c.args.veils.now in
     let number : ℕ = c.loop-number.number in
     let watches : List Watch = c.loop-number.watches.items in
@@ -22,7 +22,7 @@ loop-number-preserved g c =
     let few = inv.few in
     let all = inv.all in
     let dir : c.new-dir.result ≡ number = grind (arith, common_steps) in
-    let low : number < c.args.shape.last + 1 = grind (arith, common_steps) in
+    let low : number < c.args.last + 1 = grind (arith, common_steps) in
     let told : c.is_marked.result ≡ is_watched t veils number = c.is_marked.ensures
     ∙ (λ z. get_or (c.deref.ensures.value z) (dir z) false) ∙ c.in_ok-watched.ensures number low in
     let gained = c.in_ok-push-2.ensures.items in
@@ -58,6 +58,6 @@ loop-number-preserved g c =
 
 pub returns-clause-watches : goal.returns-clause-watches
 returns-clause-watches g c =
-    let last : c.loop-number.number ≡ c.args.shape.last + 1 = grind (arith, common_steps) in
-    subst (λ n. AreWatched (g.T.FileTree.content c.args.tree.now) c.args.shape.agents n (map veil_now c.args.veils.now) c.loop-number.watches.items)
+    let last : c.loop-number.number ≡ c.args.last + 1 = grind (arith, common_steps) in
+    subst (λ n. AreWatched (g.T.FileTree.content c.args.tree.now) (length c.args.members.now) n (map veil_now c.args.veils.now) c.loop-number.watches.items)
     last c.loop-number.invariant.watched

@@ -5,7 +5,7 @@ use Rattle.pua_jointly.proofs.watching.find_watches.Given as goal
 
 abbrev pub invariant-loop-number : goal.invariant-loop-number
 invariant-loop-number g l = record {
-  watched : AreWatched (g.T.FileTree.content l.tree) l.shape.agents l.number (map veil_now l.veils) l.watches.items;
+  watched : AreWatched (g.T.FileTree.content l.tree) (length l.members) l.number (map veil_now l.veils) l.watches.items;
   few : length l.watches.items ≤ l.number;
   columns : AreColumns l.watches.items l.columns.items;
   all : length l.columns.items ≡ l.number;

@@ -5,4 +5,4 @@ pub returns-clause-lives : goal.returns-clause-lives
 returns-clause-lives g c = rw (
   c.unwrap_or.ensures,
   c.parent.ensures.parent,
-) (parent_lives _ c.args.dir c.known.ensures c.requires)
+) (parent_lives _ c.args.from.dir c.known.ensures c.requires.dir)

@@ -1,4 +1,4 @@
-use Rattle.pua_path.proofs.Common.{◌≡◌, length, is_dir, rest_parts, resolve_parts, way_of, Top}
+use Rattle.pua_path.proofs.Common.{rooted, ◌≡◌, length, is_dir, rest_parts, resolve_parts, way_of, Top}
 use Rattle.std.proofs.Common.{IsTrue}
 use Rattle.pua_path.proofs.resolver.resolve_text.Given as goal
 
@@ -7,9 +7,9 @@ invariant-loop-way g l =
     let t = g.P.Probe.tree l.fn.probe in
     record {
       tree : g.P.Probe.tree l.probe ≡ t;
-      lives : IsTrue (is_dir t l.here);
-      so_far : resolve_parts l.fn.left t l.fn.mode l.here (way_of l.way) (rest_parts l.rest.bytes.now) ≡ resolve_parts l.fn.left t l.fn.mode
-          l.fn.start Top (rest_parts l.fn.text.bytes.now);
+      lives : IsTrue (is_dir t l.dir);
+      so_far : resolve_parts l.fn.left (rooted t l.fn.start.root) l.fn.mode l.dir (way_of l.way) (rest_parts l.rest.bytes.now)
+          ≡ resolve_parts l.fn.left (rooted t l.fn.start.root) l.fn.mode l.fn.start.dir Top (rest_parts l.fn.text.bytes.now);
     }
 
 abbrev pub decreases-loop-way : goal.decreases-loop-way

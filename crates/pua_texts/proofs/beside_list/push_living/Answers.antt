@@ -13,5 +13,5 @@ returns c =
     let alive = string_bytes c.push_line.new.text in
     let held = string_bytes c.push_held.new.text in
     ok_text c.push_bounds.result (string_bytes c.push_bounds.new.text)
-    (text_more old _ (beside_bounds c.args.rules b) held _ (text_more old (with_end (codes "process alive")) (held_lines c.args.rules b.process)
+    (text_more old _ (beside_bounds c.args.rules c.args.root.now b) held _ (text_more old (with_end (codes "process alive")) (held_lines c.args.rules b.process)
     alive held c.in_ok-push_line.ensures c.in_ok-push_held.ensures) refl) c.push_bounds.ensures

@@ -8,6 +8,6 @@ use Rattle.pua_texts.proofs.object_lines.object_lines.Given as goal
 
 -- the lines so far, and those of the other items, are all lines
 abbrev pub invariant-loop-item : goal.invariant-loop-item
-invariant-loop-item l = (t : Tree) → AllByRecursion (IsToldIn t l.process) l.items →
-    lines_text plain [] l.lines.items ++ told t l.table l.process (λ line. 10 ∷ []) (items_told t (last_word [] l.lines.items)
-    (drop l.item-index l.items)) ≡ told t l.table l.process (λ line. 10 ∷ []) (items_told t [] l.items)
+invariant-loop-item g l = let t : Tree = g.T.FileTree.content l.tree in AllByRecursion (IsToldIn t l.process) l.items →
+    lines_text plain [] l.lines.items ++ told t l.table l.process l.shown (λ line. 10 ∷ []) (items_told t (last_word [] l.lines.items)
+    (drop l.item-index l.items)) ≡ told t l.table l.process l.shown (λ line. 10 ∷ []) (items_told t [] l.items)

@@ -1,7 +1,9 @@
 use Rattle.pua_texts.proofs.Common.{◌≡◌, ◌++◌, ◌+◌, [], List, ap, sym, subst, ◌∙◌, drop, length, arith, CallTable, calls_in, resting_on}
 use Rattle.pua_texts.proofs.Common.{world_left, subject_given}
 use Rattle.std.proofs.Common.{length-append}
-use Rattle.pua_objects.specs.Lines.{IsLineOn}
+use Rattle.pua_tree.specs.Tree.{Tree}
+use Rattle.pua_objects.specs.Items.{IsItemOn}
+use Rattle.pua_objects.specs.Lines.{IsShownLine}
 use Rattle.pua_objects.specs.ListItems.{items_told}
 use Rattle.pua_texts.specs.ListLines.{last_word, lines_text}
 use Rattle.pua_texts.specs.WhyLists.{AreColumnsOf}
@@ -12,7 +14,7 @@ use Rattle.pua_texts.proofs.WhyColumns.{behind, behind_is, covering_alike, lines
 use Rattle.pua_texts.proofs.object_lines.why_lines.Goals as goal
 
 pub loop-item-preserved : goal.loop-item-preserved
-loop-item-preserved c =
+loop-item-preserved g c =
     let items = c.args.items.now in
     let i = c.loop-item.item-index in
     let item = c.item-item.result in
@@ -21,6 +23,7 @@ loop-item-preserved c =
     let new = c.number_of.new.self in
     let lines = c.loop-item.lines.items in
     let old = c.loop-item.columns in
+    let shown = c.args.shown in
     record {
       veils = num.veils ∙ inv.veils;
       unveiled = num.unveiled ∙ inv.unveiled;
@@ -30,35 +33,36 @@ loop-item-preserved c =
             ap length num.grows,
             length-append old.resting num.more,
           )) inv.numbered) num.within);
-      lines = λ p number ruled all are.
+      lines = λ p number over ruled all are.
           let h = c.args.process.now in
           let t = (world_left p).tree in
           let here = told_at t h items item i c.loop-item-test.true c.item-item.is all in
           let subject = subject_given t item.item.subject in
-          let line = c.allowed_line-line.result in
-          let on : IsLineOn t p.table h subject line =
-          subst (λ (table : CallTable). IsLineOn t table h subject line) ruled
-          (c.allowed_line-line.ensures h c.args.table.now t subject c.new-allowed.ensures here.tells)
+          let line = c.line_shown-line.result in
+          let on : IsShownLine t p.table h shown subject line =
+          subst (λ (table : CallTable). IsShownLine t table h shown subject line) ruled
+          (subst (λ (u : Tree). IsItemOn u h subject item.item → IsShownLine u c.args.table.now h shown subject line) over
+          (c.line_shown-line.ensures h c.args.table.now subject c.new-allowed.ensures) here.tells)
           in
           let own : AreColumnsOf p number h.veils new = record {
             veils = num.veils ∙ inv.veils ∙ are.veils;
             unveiled = num.unveiled ∙ inv.unveiled ∙ are.unveiled;
           } in
           let rests = c.resting_on.ensures ∙ ap (λ (table : CallTable). resting_on table h (calls_in line.calls)) ruled in
-          subst (λ (lines : List ListLine). lines_text new [] lines ++ told t p.table h (behind p number h)
-          (items_told t (last_word [] lines) (drop (i + 1) items)) ≡ told t p.table h (behind p number h) (items_told t [] items))
+          subst (λ (lines : List ListLine). lines_text new [] lines ++ told t p.table h shown (behind p number h)
+          (items_told t (last_word [] lines) (drop (i + 1) items)) ≡ told t p.table h shown (behind p number h) (items_told t [] items))
           (sym c.in-Ok.ensures.items)
-          (told_more t p.table h (behind p number h) new items item i c.loop-item-test.true c.item-item.is c.name.result c.name.ensures line on
+          (told_more t p.table h shown (behind p number h) new items item i c.loop-item-test.true c.item-item.is c.name.result c.name.ensures line on
           c.in_ok-resting.resting item.veil lines _
           (λ word. behind_is p number h h.veils new (line_on word subject line) c.resting_on.result c.in_ok-resting.resting
           item.veil own num.is rests (here.veil ∙ covering_alike t h subject))
-          (ap (λ s. s ++ told t p.table h (behind p number h) (items_told t (last_word [] lines) (drop i items)))
-          (lines_grown old new num.more num.grows num.veils num.unveiled [] lines inv.numbered) ∙ inv.lines p number ruled all are));
+          (ap (λ s. s ++ told t p.table h shown (behind p number h) (items_told t (last_word [] lines) (drop i items)))
+          (lines_grown old new num.more num.grows num.veils num.unveiled [] lines inv.numbered) ∙ inv.lines p number over ruled all are));
     }
 
 pub returns : goal.returns
-returns c = λ p number ruled all are.
+returns g c = λ p number over ruled all are.
     let h = c.args.process.now in
-    told_all (world_left p).tree p.table h (behind p number h) c.loop-item.columns c.args.items.now c.loop-item.item-index
-    c.loop-item.lines.items _ (omega (arith, c.loop-item-test.false)) (c.loop-item.invariant.lines p number ruled all are)
+    told_all (world_left p).tree p.table h c.args.shown (behind p number h) c.loop-item.columns c.args.items.now c.loop-item.item-index
+    c.loop-item.lines.items _ (omega (arith, c.loop-item-test.false)) (c.loop-item.invariant.lines p number over ruled all are)
     ∙ lines_behind p number h _

@@ -10,13 +10,13 @@ use Rattle.pua_texts.proofs.object_lines.why_lines.Given as goal
 
 -- the lines so far, and those of the other items, are all lines
 abbrev pub invariant-loop-item : goal.invariant-loop-item
-invariant-loop-item l = record {
+invariant-loop-item g l = record {
   veils : l.columns.veils ≡ l.fn.columns.veils;
   unveiled : l.columns.unveiled ≡ l.fn.columns.unveiled;
   numbered : AreNumbered l.columns.resting l.lines.items;
-  lines : (p : ServedScript) (number : ℕ) → l.table ≡ p.table →
+  lines : (p : ServedScript) (number : ℕ) → g.T.FileTree.content l.tree ≡ (world_left p).tree → l.table ≡ p.table →
       AllByRecursion (IsToldIn (world_left p).tree l.process) l.items → AreColumnsOf p number l.process.veils l.fn.columns →
-      lines_text l.columns [] l.lines.items ++ told (world_left p).tree p.table l.process (behind p number l.process)
+      lines_text l.columns [] l.lines.items ++ told (world_left p).tree p.table l.process l.shown (behind p number l.process)
       (items_told (world_left p).tree (last_word [] l.lines.items) (drop l.item-index l.items))
-      ≡ told (world_left p).tree p.table l.process (behind p number l.process) (items_told (world_left p).tree [] l.items);
+      ≡ told (world_left p).tree p.table l.process l.shown (behind p number l.process) (items_told (world_left p).tree [] l.items);
 }

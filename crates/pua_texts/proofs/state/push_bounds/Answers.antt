@@ -11,6 +11,9 @@ pub returns-in_err-push_receives : goal.returns-in_err-push_receives
 returns-in_err-push_receives c =
     rw (err_from_is_err_and c.from_residual-in_err-push_receives.result c.from_residual-in_err-push_receives.ensures.1).1 tt
 
+pub returns-in_err-push_str : goal.returns-in_err-push_str
+returns-in_err-push_str c = rw (err_from_is_err_and c.from_residual-in_err-push_str.result c.from_residual-in_err-push_str.ensures.1).1 tt
+
 pub returns-in_err-push_opened : goal.returns-in_err-push_opened
 returns-in_err-push_opened c = rw (err_from_is_err_and c.from_residual-in_err-push_opened.result c.from_residual-in_err-push_opened.ensures.1).1 tt
 
@@ -20,12 +23,16 @@ returns c =
     let old = string_bytes c.args.text.now in
     let execs = string_bytes c.push_execs.new.text in
     let received = string_bytes c.push_receives.new.text in
+    let rooted = string_bytes c.push_str.new.self in
+    let root = c.args.root.now in
     let opened = string_bytes c.push_opened.new.text in
     let told = execs_told c.args.time in
     let receives = receives_told c.args.rules c.args.time h in
     let opening = openings_told c.args.rules c.args.time h in
     ok_text c.push_unveiled.result (string_bytes c.push_unveiled.new.text)
-    (text_more old (told ++ receives ++ opening) (unveiled_line h) opened _
-    (text_more old (told ++ receives) opening received opened
-    (text_more old told receives execs received c.in_ok-push_execs.ensures c.in_ok-push_receives.ensures) c.in_ok-push_opened.ensures) refl)
+    (text_more old (told ++ receives ++ root ++ opening) (unveiled_line h) opened _
+    (text_more old (told ++ receives ++ root) opening rooted opened
+    (text_more old (told ++ receives) root received rooted
+    (text_more old told receives execs received c.in_ok-push_execs.ensures c.in_ok-push_receives.ensures)
+    c.in_ok-push_str.ensures.bytes) c.in_ok-push_opened.ensures) refl)
     c.push_unveiled.ensures

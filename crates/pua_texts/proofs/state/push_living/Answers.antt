@@ -12,5 +12,5 @@ returns c =
     let alive = string_bytes c.push_line.new.text in
     let held = string_bytes c.push_held.new.text in
     ok_text c.push_bounds.result (string_bytes c.push_bounds.new.text)
-    (text_more old _ (bound_lines head.rules head.time h) held _ (text_more old (with_end (codes "process alive")) (held_lines head.rules h)
+    (text_more old _ (bound_lines head.rules head.time c.args.root.now h) held _ (text_more old (with_end (codes "process alive")) (held_lines head.rules h)
     alive held c.in_ok-push_line.ensures c.in_ok-push_held.ensures) refl) c.push_bounds.ensures

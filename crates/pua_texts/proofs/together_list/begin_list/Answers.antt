@@ -26,6 +26,6 @@ returns g c = if_ok c.new-2.result (λ list is table joint.
     some_listed c.args.rules table t named list c.of-head-2.result (string_bytes c.push_bounds.new.text) (string_bytes c.new-files.result)
     (map shown c.in_ok-veils.field-0.items) c.in_ok-lines.lines.items c.plain-2.result one is c.of-head-2.ensures c.new-files.ensures.bytes
     (c.in_ok-push_bounds.ensures
-    ∙ (λ j. c.in_ok-text.ensures j ++ bound_lines c.args.rules (Ever (lasting.execs j)) one))
+    ∙ (λ j. c.in_ok-text.ensures j ++ bound_lines c.args.rules (Ever (lasting.execs j)) [] one))
     c.in_ok-veils.ensures.state told (sym joint.is ∙ ap (option_map (λ (joint : Joined). joint.one.now)) c.in-Some.is))
     c.new-2.ensures

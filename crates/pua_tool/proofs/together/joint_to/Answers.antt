@@ -14,6 +14,11 @@ returns-in_err-one g c =
     let p = err_from_is_err_and c.from_residual.result c.from_residual.ensures.1 in
     rw (p.1, p.2) (λ live none. (λ other. absurd (other refl), refl))
 
+pub returns-in_err-both : goal.returns-in_err-both
+returns-in_err-both g c =
+    let p = err_from_is_err_and c.from_residual-in_err-both.result c.from_residual-in_err-both.ensures.1 in
+    rw (p.1, p.2) (λ live none. (λ other. absurd (other refl), refl))
+
 pub returns-in_err-lists : goal.returns-in_err-lists
 returns-in_err-lists g c =
     let p = err_from_is_err_and c.from_residual-in_err-lists.result c.from_residual-in_err-lists.ensures.1 in

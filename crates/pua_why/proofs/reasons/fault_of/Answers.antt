@@ -26,6 +26,13 @@ returns-in-Uses g c =
     (asker_for c.args.table.now c.args.process.now a (faults_of c.args.process.now)) a))
     ((λ i. actions.Uses (c.sets.ensures i)) ∙ sym c.in-Uses.is)
 
+pub returns-in-Chroot : goal.returns-in-Chroot
+returns-in-Chroot g c =
+    let t = g.T.FileTree.content c.args.tree.now in
+    c.chroot_fault-fault.ensures ∙ ap (λ a. refused_by (decide_by faults c.args.table.now t
+    (asker_for c.args.table.now c.args.process.now a (faults_of c.args.process.now)) a))
+    ((λ i. actions.Chroot (c.bytes-in-Chroot.ensures i)) ∙ sym c.in-Chroot.is)
+
 pub returns-in-Hold : goal.returns-in-Hold
 returns-in-Hold g c =
     let t = g.T.FileTree.content c.args.tree.now in

@@ -82,7 +82,7 @@ begin-requires g c κs =
     subst (λ (n : ℕ). IfSome after (λ r. AreLetters terms.letters n r.word.items)) (sym c.in_ok-terms.ensures.limit)
     (subst (λ (ls : List (List ℕ)). IfSome after (λ r. AreLetters ls c.args.limit r.word.items)) (sym items)
     checked.after) in
-    ((refl, tt), (sym same, (rows, word)))
+    ((refl, tt), (c.in_ok-terms.ensures.tree ∙ sym same, (rows, word)))
 
 pub returns-clause-reads : goal.returns-clause-reads
 returns-clause-reads g c =
@@ -94,30 +94,38 @@ one_look : (old asked : ℕ) → asked ≡ one_more old → asked ≤ old + 1
 one_look old asked is = omega (arith, is)
 
 within_beginning : (nodes part letters limit : ℕ)
-    → (suc (nodes * ((nodes + 1) + letters * (2 + 2 * (part + (nodes + 1))))) + (nodes + 2)) + 1
+    → (suc (nodes * ((nodes + 1) + letters * (2 + 2 * (part + (nodes + 1))))) + (nodes + 2)) + 2
     ≤ 33 * (nodes * (suc limit * (suc letters * (16 * (part + (nodes + 4))))))
     + 2 * (suc limit * (suc letters * (16 * (part + (nodes + 4)))))
 within_beginning nodes part letters limit = omega arith
 
-pairs_within : (t : Tree) (letters limit : ℕ) → pairs_cost t letters + 1 ≤ begin_cost t limit letters
+pairs_within : (t : Tree) (letters limit : ℕ) → pairs_cost t letters + 2 ≤ begin_cost t limit letters
 pairs_within t letters limit = within_beginning (length t.nodes) (part_cost t) letters limit
 
-asked_within : (old asked pairs most : ℕ) → asked ≤ old + 1 → pairs + 1 ≤ most → asked ≤ old + most
-asked_within old asked pairs most one within = omega arith
+asked_within : (old asked pairs most : ℕ) → asked ≤ old + 2 → pairs + 2 ≤ most → asked ≤ old + most
+asked_within old asked pairs most asked_by within = omega arith
 
-all_within : (old asked new pairs most : ℕ) → asked ≤ old + 1 → new ≤ asked + pairs → pairs + 1 ≤ most → new ≤ old + most
-all_within old asked new pairs most one more within = omega arith
+two_looks : (old asked more : ℕ) → asked ≡ one_more old → more ≤ asked + 1 → more ≤ old + 2
+two_looks old asked more is one = omega (arith, one_look old asked is, one)
 
 asked_once : (old asked limit many : ℕ) (t : Tree) → asked ≡ one_more old → asked ≤ old + begin_cost t limit many
 asked_once old asked limit many t is =
-    asked_within old asked (pairs_cost t many) (begin_cost t limit many) (one_look old asked is) (pairs_within t many limit)
+    asked_within old asked (pairs_cost t many) (begin_cost t limit many) (omega (arith, one_look old asked is)) (pairs_within t many limit)
 
-begun_within : (old asked new limit letters many : ℕ) (t seen : Tree) → asked ≡ one_more old → seen ≡ t → letters ≡ many
-    → new ≤ asked + pairs_cost seen letters
+asked_twice : (old asked more limit many : ℕ) (t : Tree) → asked ≡ one_more old → more ≤ asked + 1 → more ≤ old + begin_cost t limit many
+asked_twice old asked more limit many t is one =
+    asked_within old more (pairs_cost t many) (begin_cost t limit many) (two_looks old asked more is one) (pairs_within t many limit)
+
+all_within : (old more new pairs most : ℕ) → more ≤ old + 2 → new ≤ more + pairs → pairs + 2 ≤ most → new ≤ old + most
+all_within old more new pairs most two further within = omega arith
+
+begun_within : (old asked more new limit letters many : ℕ) (t seen : Tree) → asked ≡ one_more old → more ≤ asked + 1 → seen ≡ t
+    → letters ≡ many
+    → new ≤ more + pairs_cost seen letters
     → new ≤ old + begin_cost t limit many
-begun_within old asked new limit letters many t seen is same count more =
-    all_within old asked new (pairs_cost t many) (begin_cost t limit many) (one_look old asked is)
-    (subst (λ (u : Tree). new ≤ asked + pairs_cost u many) same (subst (λ (n : ℕ). new ≤ asked + pairs_cost seen n) count more))
+begun_within old asked more new limit letters many t seen is one same count further =
+    all_within old more new (pairs_cost t many) (begin_cost t limit many) (two_looks old asked more is one)
+    (subst (λ (u : Tree). new ≤ more + pairs_cost u many) same (subst (λ (n : ℕ). new ≤ more + pairs_cost seen n) count further))
     (pairs_within t many limit)
 
 pub returns-in_err-rows-clause-cost : goal.returns-in_err-rows-clause-cost
@@ -133,7 +141,7 @@ returns-in_err-letters-clause-cost g c =
 pub returns-in_err-terms-clause-cost : goal.returns-in_err-terms-clause-cost
 returns-in_err-terms-clause-cost g c =
     let t : Tree = g.P.Probe.tree c.args.probe.now in
-    asked_once _ _ c.args.limit (letter_count t (map (λ s. s.now) c.args.candidates.now)) t c.rows.ensures.count
+    asked_twice _ _ _ c.args.limit (letter_count t (map (λ s. s.now) c.args.candidates.now)) t c.rows.ensures.count c.new.ensures.cost
 
 pub returns-in_err-pairs-clause-cost : goal.returns-in_err-pairs-clause-cost
 returns-in_err-pairs-clause-cost g c =
@@ -144,8 +152,8 @@ returns-in_err-pairs-clause-cost g c =
     let count : length terms.letters ≡ letter_count t texts =
     ap length c.in_ok-terms.ensures.letters ∙ c.in_ok-letters.ensures.many
     ∙ ap (λ (u : Tree). letter_count u texts) c.in_ok-rows.ensures.tree in
-    begun_within _ _ _ c.args.limit (length terms.letters) (letter_count t texts) t terms.seen.tree c.in_ok-rows.ensures.count
-    same count c.begin.ensures.cost
+    begun_within _ _ _ _ c.args.limit (length terms.letters) (letter_count t texts) t terms.seen.tree c.in_ok-rows.ensures.count
+    c.in_ok-terms.ensures.cost same count c.begin.ensures.cost
 
 pub returns-clause-cost : goal.returns-clause-cost
 returns-clause-cost g c =
@@ -156,5 +164,5 @@ returns-clause-cost g c =
     let count : length terms.letters ≡ letter_count t texts =
     ap length c.in_ok-terms.ensures.letters ∙ c.in_ok-letters.ensures.many
     ∙ ap (λ (u : Tree). letter_count u texts) c.in_ok-rows.ensures.tree in
-    begun_within _ _ _ c.args.limit (length terms.letters) (letter_count t texts) t terms.seen.tree c.in_ok-rows.ensures.count
-    same count c.begin.ensures.cost
+    begun_within _ _ _ _ c.args.limit (length terms.letters) (letter_count t texts) t terms.seen.tree c.in_ok-rows.ensures.count
+    c.in_ok-terms.ensures.cost same count c.begin.ensures.cost

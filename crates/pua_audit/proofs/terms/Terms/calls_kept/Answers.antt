@@ -1,5 +1,6 @@
 use Rattle.pua_audit.proofs.Common.{◌≡◌, ◌≤◌, ◌+◌, ◌∙◌, ℕ, length, refl, sym, ap, subst, arith, IfOk, Result, Tree, Errno, Found, part_cost}
-use Rattle.pua_audit.proofs.Common.{FoundsFit, StandsAsNamed, follow, last, Kept, verdict_of, is_allowed, object_cost}
+use Rattle.pua_audit.proofs.Common.{FoundsFit, StandsAsNamed, follow, last, Kept, verdict_of, is_allowed, object_cost, seen_by, rooted}
+use Rattle.pua_audit.proofs.Common.{true, is_dir, RootedTree}
 use Rattle.std.specs.Prelude.{is_ok}
 use Rattle.pua_audit.proofs.Covers.{kept_above}
 use Rattle.pua_audit.proofs.Told.{kept_unlinked}
@@ -9,12 +10,24 @@ use Rattle.pua_audit.proofs.terms.Terms.calls_kept.Goals as goal
 pub returns-then-is_ok-clause-exact : goal.returns-then-is_ok-clause-exact
 returns-then-is_ok-clause-exact g c = λ covered followed links near call.
     let a = c.args.self.now in
-    let t = a.seen.tree in
-    let alike = kept_unlinked t c.args.dir c.args.part.now (follow t c.args.dir c.args.part.now) refl (sym links ∙
+    let t : Tree = a.seen.tree in
+    let seen : RootedTree = seen_by t a.process in
+    let alike = kept_unlinked seen c.args.dir c.args.part.now (follow seen c.args.dir c.args.part.now) refl (sym links ∙
     c.if-links-eq0.true) (ap is_ok (sym followed) ∙ sym c.is_ok.ensures.value ∙ c.if-is_ok.true) in
     near call ∙
     ap (λ (x : Result Found Errno). is_allowed (verdict_of t a.table a.process call x)) (followed ∙
     sym alike)
+
+pub last-kept-requires : goal.last-kept-requires
+last-kept-requires g c κs =
+    let t : Tree = c.args.self.now.seen.tree in
+    let living : is_dir t c.args.dir ≡ true = c.requires.living in (
+      (refl, tt),
+      (
+        (λ i. is_dir (c.requires.tree i) c.start_in.result.root) ∙ c.start_in.ensures.lives,
+        ((λ i. is_dir (c.requires.tree i) (c.start_in.ensures.dir i)) ∙ living, omega arith),
+      ),
+    )
 
 pub cover_of-cover-requires : goal.cover_of-cover-requires
 cover_of-cover-requires g c κs = (
@@ -31,9 +44,11 @@ returns-clause-exact g c = λ covered followed links near call.
     let t : Tree = a.seen.tree in
     let kept : Result Found Errno = c.last-kept.result in
     let named : IfOk kept (StandsAsNamed t) = subst (λ (u : Tree). IfOk kept (StandsAsNamed u)) c.requires.tree c.last-kept.ensures.named in
-    let is : kept ≡ last t c.args.dir 0 c.args.part.now Kept =
-    c.last-kept.ensures.exact ∙ ap (λ (u : Tree). last u c.args.dir 0 c.args.part.now Kept) c.requires.tree in
-    let left = c.cover_of-cover.ensures.exact named covered c.requires.living (kept_above t c.args.dir c.args.part.now kept is) in
+    let is : kept ≡ last (seen_by t a.process) c.args.dir 0 c.args.part.now Kept =
+    c.last-kept.ensures.exact
+    ∙ (λ i. last (rooted (c.requires.tree i) (c.start_in.ensures.root i)) (c.start_in.ensures.dir i) 0 c.args.part.now Kept) in
+    let left = c.cover_of-cover.ensures.exact named covered c.requires.living
+    (kept_above (seen_by t a.process) c.args.dir c.args.part.now kept is) in
     let fit : FoundsFit t kept = subst (λ (u : Tree). FoundsFit u kept) c.requires.tree c.last-kept.ensures.fits in
     c.calls_on.ensures.exact fit left call
     ∙ ap (λ (x : Result Found Errno). is_allowed (verdict_of t a.table a.process call x)) is

@@ -1,11 +1,23 @@
 use Rattle.pua_audit.proofs.Common.{◌≡◌, ◌∙◌, ℕ, List, Bool, not, ◌&&◌, ◌||◌, Option, refl, sym, ap, subst, arith, IfOk, IfSome}
 use Rattle.pua_audit.proofs.Common.{Result, Tree, part_cost, FoundsFit, StandsAsNamed, part_of, follow, last, Errno, Found, Followed, Kept}
 use Rattle.pua_audit.proofs.Common.{Part, last_of, has, keeps_link, cover_in, ProcessState, verdict_of, is_allowed, Call}
-use Rattle.pua_audit.proofs.Common.{judge_in, links_of, found_of, leads_to, allowed_kept, allowed_near, allowed_far, IsLetter}
+use Rattle.pua_audit.proofs.Common.{true, is_dir, judge_in, links_of, found_of, leads_to, allowed_kept, allowed_near, allowed_far, IsLetter}
+use Rattle.pua_audit.proofs.Common.{seen_by, rooted}
 use Rattle.pua_path.specs.Fits.{FoundFits}
 use Rattle.pua_audit.proofs.Covers.{covered_lead, founds_are, founds_of, named_above}
 use Rattle.pua_audit.proofs.Told.{letter_told, by_both, by_kept}
 use Rattle.pua_audit.proofs.terms.Terms.followed.Goals as goal
+
+pub follow-requires : goal.follow-requires
+follow-requires g c κs =
+    let t : Tree = c.args.self.now.seen.tree in
+    let living : is_dir t c.args.dir ≡ true = c.requires.living in (
+      (refl, tt),
+      (
+        (λ i. is_dir (c.requires.tree i) c.start_in.result.root) ∙ c.start_in.ensures.lives,
+        (λ i. is_dir (c.requires.tree i) (c.start_in.ensures.dir i)) ∙ living,
+      ),
+    )
 
 pub cover_of-cover-requires : goal.cover_of-cover-requires
 cover_of-cover-requires g c κs =
@@ -35,15 +47,16 @@ returns-clause-exact g c = λ covered.
     let h : ProcessState = a.process in
     let dir : ℕ = c.args.dir in
     let letter : List ℕ = c.args.letter.now in
-    let r : Result (Found × ℕ) Errno = follow t dir (part_of letter) in
+    let r : Result (Found × ℕ) Errno = follow (seen_by t h) dir (part_of letter) in
     let part : c.part-part.result ≡ part_of letter = c.part-part.ensures.part in
-    let followed : c.follow.result ≡ r = c.follow.ensures.exact ∙ ap (λ (u : Tree). follow u dir c.part-part.result) c.requires.tree ∙
-    ap (follow t dir) part in
+    let followed : c.follow.result ≡ r = c.follow.ensures.exact
+    ∙ (λ i. follow (rooted (c.requires.tree i) (c.start_in.ensures.root i)) (c.start_in.ensures.dir i) c.part-part.result)
+    ∙ ap (follow (seen_by t h) dir) part in
     let found : c.counted-followed.result.0 ≡ found_of r = c.counted-followed.ensures.found ∙ ap found_of followed in
     let links : c.counted-followed.result.1 ≡ links_of r = c.counted-followed.ensures.links ∙ ap links_of followed in
-    let followed_here : c.follow.result ≡ follow t dir c.part-part.result = c.follow.ensures.exact ∙
-    ap (λ (u : Tree). follow u dir c.part-part.result) c.requires.tree in
-    let found_here : c.counted-followed.result.0 ≡ found_of (follow t dir c.part-part.result) =
+    let followed_here : c.follow.result ≡ follow (seen_by t h) dir c.part-part.result = c.follow.ensures.exact
+    ∙ (λ i. follow (rooted (c.requires.tree i) (c.start_in.ensures.root i)) (c.start_in.ensures.dir i) c.part-part.result) in
+    let found_here : c.counted-followed.result.0 ≡ found_of (follow (seen_by t h) dir c.part-part.result) =
     c.counted-followed.ensures.found ∙ ap found_of followed_here in
     let named : IfOk c.counted-followed.result.0 (StandsAsNamed t) =
     subst (λ (f : Result Found Errno). IfOk f (StandsAsNamed t)) (sym c.counted-followed.ensures.found)
@@ -54,12 +67,12 @@ returns-clause-exact g c = λ covered.
     (founds_of t c.follow.result (subst (λ (u : Tree). IfOk c.follow.result (λ object. FoundFits u object.0)) c.requires.tree
     c.follow.ensures.fits)) in
     let left = c.cover_of-cover.ensures.exact named covered c.requires.living
-    (named_above t dir c.part-part.result c.counted-followed.result.0 found_here) in
+    (named_above (seen_by t h) dir c.part-part.result c.counted-followed.result.0 found_here) in
     let on = λ (call : Call). c.calls_on-near.ensures.exact fit left call ∙
     ap (λ (x : Result Found Errno). is_allowed (verdict_of t a.table h call x)) found in
     let on_kept = λ (call : Call). c.calls_kept-far.ensures.exact covered found_here
     (c.counted-followed.ensures.links ∙ ap links_of followed_here) (c.calls_on-near.ensures.exact fit left) call ∙
-    ap (λ (p : Part). is_allowed (verdict_of t a.table h call (last t dir 0 p Kept))) part in
+    ap (λ (p : Part). is_allowed (verdict_of t a.table h call (last (seen_by t h) dir 0 p Kept))) part in
     let near : (call : Call) → has c.union-all.result call ≡ allowed_near t a.table h dir letter r call =
     λ call. c.union-all.ensures call ∙ ap (λ b. b || has c.keeping.result call) (c.following.ensures call) ∙
     ap (λ b. (has c.calls_on-near.result call && not (keeps_link call)) || b) (c.keeping.ensures call)
@@ -83,9 +96,9 @@ returns-clause-covered g c = λ covered.
     subst (FoundsFit a.seen.tree) (sym c.counted-followed.ensures.found)
     (founds_of a.seen.tree c.follow.result (subst (λ (u : Tree). IfOk c.follow.result (λ found. FoundFits u found.0)) c.requires.tree
     c.follow.ensures.fits)) in
-    let followed_here : c.follow.result ≡ follow a.seen.tree c.args.dir c.part-part.result = c.follow.ensures.exact ∙
-    ap (λ (u : Tree). follow u c.args.dir c.part-part.result) c.requires.tree in
-    let found_here : c.counted-followed.result.0 ≡ found_of (follow a.seen.tree c.args.dir c.part-part.result) =
+    let followed_here : c.follow.result ≡ follow (seen_by a.seen.tree h) c.args.dir c.part-part.result = c.follow.ensures.exact
+    ∙ (λ i. follow (rooted (c.requires.tree i) (c.start_in.ensures.root i)) (c.start_in.ensures.dir i) c.part-part.result) in
+    let found_here : c.counted-followed.result.0 ≡ found_of (follow (seen_by a.seen.tree h) c.args.dir c.part-part.result) =
     c.counted-followed.ensures.found ∙ ap found_of followed_here in
     let named : IfOk c.counted-followed.result.0 (StandsAsNamed a.seen.tree) =
     subst (λ (f : Result Found Errno). IfOk f (StandsAsNamed a.seen.tree)) (sym c.counted-followed.ensures.found)
@@ -94,7 +107,7 @@ returns-clause-covered g c = λ covered.
     subst (λ (o : Option ℕ). IfSome o (λ to. c.cover_of-cover.result ≡ cover_in a.seen.tree h to)) (sym c.directory_of.ensures)
     (covered_lead a.seen.tree h a.tree c.counted-followed.result.0 c.cover_of-cover.result fit
     (c.cover_of-cover.ensures.exact named covered c.requires.living
-    (named_above a.seen.tree c.args.dir c.part-part.result c.counted-followed.result.0 found_here)))
+    (named_above (seen_by a.seen.tree h) c.args.dir c.part-part.result c.counted-followed.result.0 found_here)))
 
 pub returns-clause-cost : goal.returns-clause-cost
 returns-clause-cost g c = omega (

@@ -1,4 +1,4 @@
-use Rattle.pua_path.proofs.Common.{◌≡◌, ◌≤◌, ◌+◌, resolve_parts, way_of}
+use Rattle.pua_path.proofs.Common.{rooted, ◌≡◌, ◌≤◌, ◌+◌, resolve_parts, way_of}
 use Rattle.std.proofs.Common.{◌*◌}
 use Rattle.pua_path.specs.Walks.{CanGoOn, potential}
 use Rattle.pua_path.proofs.resolver.Resolving.finish.Given as goal
@@ -8,10 +8,10 @@ invariant-loop-piece g l =
     let t = g.P.Probe.tree l.fn.probe in
     record {
       tree : g.P.Probe.tree l.probe ≡ t;
-      ready : CanGoOn t l.self.here l.self.left l.self.rest;
+      ready : CanGoOn t l.self.root l.self.here l.self.left l.self.rest;
       left : l.self.left ≤ l.fn.self.left;
-      so_far : resolve_parts l.self.left t l.fn.mode l.self.here (way_of l.self.way) l.self.rest.parts ≡ resolve_parts l.fn.self.left t
-          l.fn.mode l.fn.self.here (way_of l.fn.self.way) l.fn.self.rest.parts;
+      so_far : resolve_parts l.self.left (rooted t l.self.root) l.fn.mode l.self.here (way_of l.self.way) l.self.rest.parts ≡ resolve_parts l.fn.self.left
+          (rooted t l.fn.self.root) l.fn.mode l.fn.self.here (way_of l.fn.self.way) l.fn.self.rest.parts;
       count : g.P.Probe.count l.probe + 3 * potential t l.self.left l.self.rest ≤ g.P.Probe.count l.fn.probe
           + 3 * potential t l.fn.self.left l.fn.self.rest;
     }

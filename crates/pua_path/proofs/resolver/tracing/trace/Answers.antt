@@ -27,11 +27,12 @@ loop-piece-init g c =
     record {
       tree = c.start_of.ensures.tree;
       ready = rw (c.new-walk.ensures) (c.in-Some.ensures.ready c.of_text.result c.of_text.ensures.depth);
-      so_far = sym (trace_begins t c.args.from text.ending text.bytes c.args.mode c.in-Some.start walk.left walk.here (way_of walk.way)
-          walk.rest.parts
+      so_far = sym (trace_begins t c.args.from text.ending text.bytes c.args.mode c.in-Some.start walk.left walk.root walk.here
+          (way_of walk.way) walk.rest.parts
           (after_links spots.items (walk_trace t c.args.mode walk))
           (record {
             all_links = ap (λ w. w.left) c.new-walk.ensures;
+            by_root = ap (λ w. w.root) c.new-walk.ensures;
             at_start = ap (λ w. w.here) c.new-walk.ensures;
             no_way = ap (λ w. way_of w.way) c.new-walk.ensures;
             all_parts = ap (λ w. w.rest.parts) c.new-walk.ensures ∙ c.of_text.ensures.parts;

@@ -9,7 +9,7 @@ invariant-loop-piece g l =
     let t = g.P.Probe.tree l.fn.probe in
     record {
       tree : g.P.Probe.tree l.probe ≡ t;
-      ready : CanGoOn t l.walk.here l.walk.left l.walk.rest;
+      ready : CanGoOn t l.walk.root l.walk.here l.walk.left l.walk.rest;
       so_far : as_path_trace (after_links l.links-inside.spots.items (walk_trace t l.fn.mode l.walk))
           ≡ trace_from t l.fn.from l.fn.text.ending l.fn.text.bytes l.fn.mode;
       room : vec_len l.links-inside.spots + l.walk.left ≤ vec_capacity l.links-inside.spots;

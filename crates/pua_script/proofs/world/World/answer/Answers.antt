@@ -1,4 +1,6 @@
-use Rattle.pua_script.proofs.Common.{sym, ◌∙◌, Fork}
+use Rattle.pua_script.proofs.Common.{sym, ◌∙◌, rules, Fork}
+use Rattle.std.specs.Prelude.{IsFalse}
+use Rattle.pua_script.specs.Worlds.{is_of_two}
 use Rattle.pua_script.specs.declared.request.Action.TheVariants.{Take}
 use Rattle.pua_script.proofs.Serving.{answered, answered_okay, at_these, on_these, world_kept, processes_kept, as_asked}
 use Rattle.pua_script.proofs.world.World.answer.Goals as goal
@@ -42,8 +44,9 @@ returns-in-Take-clause-unchanged g c = processes_kept c.take.result _ _ _ _ _ c.
 pub returns-in_default : goal.returns-in_default
 returns-in_default g c =
     let same = as_asked c.process-number.result c.action-action.result.now _ c.process-number.ensures.process c.action-action.ensures.action in
+    let alone : IsFalse (is_of_two c.action-action.result.now) = search rules in
     record {
-      served = answered c.serve.result _ _ _ _ _ _ c.self.view_is same _ _ c.serve.ensures.served;
-      memory = answered_okay c.serve.result _ _ _ _ _ _ c.self.view_is same c.serve.ensures.memory;
+      served = answered c.serve.result _ _ _ _ _ _ c.self.view_is same _ _ (c.serve.ensures.served alone);
+      memory = answered_okay c.serve.result _ _ _ _ _ _ c.self.view_is same (c.serve.ensures.memory alone);
       unchanged = world_kept c.serve.result _ _ _ _ _ _ c.self.view_is c.serve.ensures.unchanged;
     }

@@ -1,0 +1,16 @@
+-- What a list shows of a small tree.
+use Rattle.std.proofs.Common.{[], ◌∷◌, None}
+use Rattle.std.specs.Prelude.{codes}
+use Rattle.pua_tree.specs.Tree.{Tree, Node, empty_tree}
+use Rattle.pua_tree.specs.declared.node.Kind.TheVariants.{Dir}
+
+abbrev directory : Node
+directory = record { kind = Dir; target = None }
+
+-- a root with a directory below it
+abbrev pub root_tree : Tree
+root_tree = record empty_tree {
+  rows = ((0, codes "a"), 1) ∷ ((1, codes "b"), 2) ∷ [];
+  nodes = (0, directory) ∷ (1, directory) ∷ (2, directory) ∷ [];
+  next = 3;
+}
