@@ -108,6 +108,16 @@ sub lists {
     return;
 }
 
+# Tests the listing, below a root, of what a script can be about, which is written into this file.
+sub lists_script {
+    my ($root, $script, $what, $text, $lines, @reports) = @_;
+    open my $out, '>', $script or die;
+    print $out $text;
+    close $out;
+    lists("a script: $what", ['-r', $root, '-s', $script], $lines, @reports);
+    return;
+}
+
 # That the words are refused with this report, and nothing is printed.
 sub refuses {
     my ($what, $words, $wanted, $report) = @_;
@@ -412,13 +422,7 @@ SKIP: {
     symlink '/real', 'etc/to' or die;
     symlink '../etc/passwd', 'bin/last' or die;
     my $script = "$room/script";
-    my $try = sub {
-        my ($what, $text, $lines, @reports) = @_;
-        open my $out, '>', $script or die;
-        print $out $text;
-        close $out;
-        return lists("a script: $what", ['-r', $root, '-s', $script], $lines, @reports);
-    };
+    my $try = sub { return lists_script($root, $script, @_) };
     my $sees = sub {
         my ($process, $left, $why) = (@_, 'it never pledged');
         return "process $process has no veil, and may touch all by path ($why); names that are not listed: $left";
@@ -480,13 +484,7 @@ SKIP: {
     symlink '/in', 'jail/link' or die;
     symlink 'jail', 'to' or die;
     my $script = "$room/script";
-    my $try = sub {
-        my ($what, $text, $lines, @reports) = @_;
-        open my $out, '>', $script or die;
-        print $out $text;
-        close $out;
-        return lists("a script: $what", ['-r', $root, '-s', $script], $lines, @reports);
-    };
+    my $try = sub { return lists_script($root, $script, @_) };
     my @jail = ('1 dir 0 jail', '2 file 1 g', '3 dir 1 in', '4 dir 3 deep', '5 file 4 f', '6 link 1 link /in');
     $try->('it enters a root, from which links and `..` lead', "1 chroot /jail # its site\n1 chdir /\n1 stat /../link/deep/f\n1 stat ../g\n"
         . "1 fork 2\n2 stat /link\n1 pledge stdio,rpath -\n", \@jail);

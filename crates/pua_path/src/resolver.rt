@@ -435,7 +435,6 @@ fn lead_by_piece<'n, 't: 'n, P: Probe<'t>>(
     is_last: bool,
     mode: Last,
 ) -> Onward<'n>
-    requires root { IsTrue (is_dir (P.tree probe.old) from.root) }
     requires dir { IsTrue (is_dir (P.tree probe.old) from.dir) }
     ensures exact { let t = rooted (P.tree probe.old) from.root in
         let part = part_of piece.entry.bytes.now in
@@ -459,7 +458,6 @@ fn lead_by_part<'n, 't: 'n, P: Probe<'t>>(
     part: &'n Part,
     mode: Last,
 ) -> Onward<'n>
-    requires root { IsTrue (is_dir (P.tree probe.old) from.root) }
     requires dir { IsTrue (is_dir (P.tree probe.old) from.dir) }
     ensures exact { let t = rooted (P.tree probe.old) from.root in
         onward_seen result ≡ onward_by t mode from.dir part.now true }
@@ -543,7 +541,6 @@ fn end_at<'n>(
 
 /// The directory above a directory, by its root.
 fn above<'t, P: Probe<'t>>(probe: &mut P, from: Start) -> NodeId
-    requires root { IsTrue (is_dir (P.tree probe.old) from.root) }
     requires dir { IsTrue (is_dir (P.tree probe.old) from.dir) }
     ensures above { result ≡ above_in (rooted (P.tree probe.old) from.root) from.dir }
     ensures lives { IsTrue (is_dir (P.tree probe.old) result) }
