@@ -54,5 +54,5 @@ pub use Rattle.pua_ever.proofs.ExecCalls.{exec_or_other}
 -- rows of items and of their names, one after another
 pub use Rattle.pua_ever.proofs.Lined.{freed_name}
 pub use Rattle.pua_ever.proofs.Named.{own_name_is}
-pub use Rattle.pua_ever.proofs.RowsTell.{all_more, freed_on, freed_thing, last_row_more, row_word, same_word, told_more, near_at, told_at}
-pub use Rattle.pua_ever.proofs.RowsTell.{own_last, standing_there}
+pub use Rattle.pua_ever.proofs.RowsTell.{all_more, freed_on, freed_thing, last_row_more, made_on, row_word, same_word, stands_on, told_more, near_at}
+pub use Rattle.pua_ever.proofs.RowsTell.{own_last, standing_there, told_at}
