@@ -143,7 +143,7 @@ below_root t h root is = elim (whole_or_cut t h) [
 
 module _ (t later : Tree) (table : CallTable) (now last : ProcessState) (lines : List EverLine) where
   -- a whole list foresees wherever paths start
-  whole_foresees : ForeseesIn lines t table now later last → ForeseesShown All lines t table now later last
+  pub whole_foresees : ForeseesIn lines t table now later last → ForeseesShown All lines t table now later last
   whole_foresees seen = record {
     own = tt;
     open_files = λ number file there is. tt;

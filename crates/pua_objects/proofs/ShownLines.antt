@@ -66,8 +66,8 @@ encloses t h root = by (not (root_dir h == 0) && is_enclosed t h) refl
     by false e shown = cc
 
 -- what is shown is by the root of the process
-pub by_root : (t : Tree) (h : ProcessState) → IsByRoot h (shown_of t h)
-by_root t h = by (shown_of t h) refl
+pub shown_by_root : (t : Tree) (h : ProcessState) → IsByRoot h (shown_of t h)
+shown_by_root t h = by (shown_of t h) refl
   where
     by : (shown : Shown) → shown_of t h ≡ shown → IsByRoot h shown
     by All is = tt
