@@ -145,8 +145,7 @@ module _ (t later : Tree) (table : CallTable) (now last : ProcessState) (lines :
   -- a whole list foresees wherever paths start
   pub whole_foresees : ForeseesIn lines t table now later last → ForeseesShown All lines t table now later last
   whole_foresees seen = record {
-    own = tt;
-    open_files = λ number file there is. tt;
+    starts = record { own = tt; open_files = λ number file there is. tt };
     foresees = λ from anywhere call text e. seen from call text e;
   }
 
@@ -156,12 +155,14 @@ module _ (t later : Tree) (table : CallTable) (now last : ProcessState) (lines :
   cut_foresees root k seen =
       let placed = (enclosed_in later root last k).placed in
       record {
-        own = (placed.rooted, placed.dir);
-        open_files = λ number file there is. (
-          placed.rooted,
-          sym (ap (λ b. not b || stays_in later root file.node) is) ∙
-              all_among (λ held. is_held_inside later root held.1) last.files (number, file) placed.files (among_contained last.files (number, file) there),
-        );
+        starts = record {
+          own = (placed.rooted, placed.dir);
+          open_files = λ number file there is. (
+            placed.rooted,
+            sym (ap (λ b. not b || stays_in later root file.node) is) ∙
+                all_among (λ held. is_held_inside later root held.1) last.files (number, file) placed.files (among_contained last.files (number, file) there),
+          );
+        };
         foresees = λ from within call text e. seen from within.0 within.1 call text e;
       }
 

@@ -116,13 +116,17 @@ EverInside =
     HasKept after member (λ last. IsEnclosedIn after.tree root last
     × ForeseesInside root (only_inside w.tree root (ever w.tree (tmp_table table) now)) w.tree (tmp_table table) now after.tree last)
 
--- over a later tree: by what a list shows the paths of a process start there, and so do those from each directory that it has open; and
--- whatever path is spelled from wherever that is so, if a call is allowed on it to the process, the line of what it names has the call
-pub record ForeseesShown (shown : Shown) (lines : List EverLine) (t : Tree) (table : CallTable) (now : ProcessState) (later : Tree) (last : ProcessState) :
-    Type 0 where
+-- the paths of a process start in what a list shows, and so do those from each directory that it has open
+pub record PathsStartIn (shown : Shown) (later : Tree) (last : ProcessState) : Type 0 where
   pub own : StartsIn later shown (start last)
   pub open_files : (number : ℕ) (file : OpenFile) → Contains last.files (number, file) → IsTrue (is_directory file) →
       StartsIn later shown (record { root = root_dir last; dir = file.node })
+
+-- over a later tree: that is so, and whatever path is spelled from wherever it is, if a call is allowed on it to the process, the line of
+-- what it names has the call
+pub record ForeseesShown (shown : Shown) (lines : List EverLine) (t : Tree) (table : CallTable) (now : ProcessState) (later : Tree) (last : ProcessState) :
+    Type 0 where
+  pub starts : PathsStartIn shown later last
   pub foresees : (from : Start) → StartsIn later shown from → (call : Call) (text : List ℕ) →
       let named = resolution_of_text later from (ending_of call) text (last_of call) in
       verdict_of later table last call named ≡ Allowed → IsForeseenIn lines t now later call named
