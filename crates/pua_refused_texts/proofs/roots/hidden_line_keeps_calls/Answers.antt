@@ -8,6 +8,10 @@ pub unreachable-requires : goal.unreachable-requires
 unreachable-requires c =
     let state : c.set_root.new.self ≡ rooted = c.set_root.ensures.state ∙ rw (c.new-2.ensures, c.in-Ok.ensures.state) refl in
     let line = (c.shown_line-line.ensures _ _ root_tree c.new-allowed.ensures (rw (c.new-3.ensures, state) refl)
-    (record { fits = (refl, tt); tells = record { subject = refl; object = refl; cover = rw state refl }; veil = rw state refl;
-    inside = rw state refl })).calls Stat in
+    (record {
+      fits = (refl, tt);
+      tells = record { subject = refl; object = refl; cover = rw state refl };
+      veil = rw state refl;
+      inside = rw state refl;
+    })).calls Stat in
     false≢true (sym (c.contains.ensures ∙ line ∙ rw c.new-3.ensures refl) ∙ c.if-contains.true)

@@ -8,7 +8,11 @@ pub unreachable-requires : goal.unreachable-requires
 unreachable-requires c =
     let state : c.set_root.new.self ≡ rooted = c.set_root.ensures.state ∙ rw (c.new-2.ensures, c.in-Ok.ensures.state) refl in
     let line = (c.shown_line-line.ensures _ _ root_tree c.new-allowed.ensures (rw (c.new-4.ensures, state) refl)
-    (record { fits = rw c.new-3.ensures refl; tells = record { subject = refl; object = refl; cover = rw (c.new-3.ensures, state) refl };
-    veil = rw (c.new-3.ensures, state) refl; inside = rw (c.new-3.ensures, state) refl })).calls Mkdir in
+    (record {
+      fits = rw c.new-3.ensures refl;
+      tells = record { subject = refl; object = refl; cover = rw (c.new-3.ensures, state) refl };
+      veil = rw (c.new-3.ensures, state) refl;
+      inside = rw (c.new-3.ensures, state) refl;
+    })).calls Mkdir in
     false≢true (sym c.if-not-contains.true ∙ c.contains.ensures ∙ line
     ∙ rw (c.new-3.ensures, c.new-4.ensures, c.standard.ensures, state) refl)
