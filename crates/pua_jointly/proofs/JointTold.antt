@@ -1,5 +1,5 @@
 -- The calls under the covers that were found of a thing are those that can ever be allowed on it.
-use Rattle.pua_jointly.proofs.Common.{◌≡◌, ◌≢◌, ◌<◌, ◌∙◌, length, ◌||◌, ◌&&◌, ℕ, Bool, true, false, List, refl, sym, ap, subst, not, Option, Some, None, None≢Some}
+use Rattle.pua_jointly.proofs.Common.{◌≡◌, ◌≢◌, ◌<◌, ◌∙◌, ◌||◌, ◌&&◌, ℕ, Bool, true, false, List, refl, sym, ap, subst, not, Option, Some, None, None≢Some}
 use Rattle.pua_jointly.proofs.Common.{ProcessState, Cover, Tree, CallTable, Call, Object, At, Others, Whole, Slot, Way, Stands, Comes, same_Some}
 use Rattle.pua_jointly.proofs.Common.{NewDir, NewOthers, NewFile, NewLink, covered_verdict, is_allowed, empty_tree, false≢true, has, IsMissing}
 use Rattle.pua_jointly.proofs.Common.{is_dir, kind_at, keeps_link, list_any, look, object_of_kind, lasting_dir, removable_dir}

@@ -1,12 +1,12 @@
 -- Which words of the table of a crew can ever have a fact: of a number at which no directory stands none can, if it isn't watched.
-use Rattle.pua_jointly.proofs.Common.{◌≡◌, ◌<◌, ◌≤◌, ◌∙◌, ◌∷◌, ap, arith, Bool, CallTable, contained, false, false≢true, is_dir}
-use Rattle.pua_jointly.proofs.Common.{length, List, map, None, None≢Some, Option, option_map, ProcessState, refl, row_says, Some, sound_from}
-use Rattle.pua_jointly.proofs.Common.{Spot, subst, suc, sym, Tree, true, WellFormed, zero, ℕ}
+use Rattle.pua_jointly.proofs.Common.{◌≡◌, ◌<◌, ◌≤◌, ◌∙◌, ap, arith, Bool, CallTable, contained, false, false≢true, is_dir}
+use Rattle.pua_jointly.proofs.Common.{length, List, None, None≢Some, Option, option_map, ProcessState, refl, row_says, Some, sound_from}
+use Rattle.pua_jointly.proofs.Common.{subst, suc, sym, Tree, true, WellFormed, zero, ℕ}
 use Rattle.std.specs.Prelude.{⊤, ◌+◌, ◌-◌, ◌*◌, ◌/◌, ◌%◌, get_or, slice_get, IsTrue}
 use Rattle.std.specs.List.{Contains}
 use Rattle.std.proofs.lemmas.Nat.{div-mul-add, mod-mul-add}
 use Rattle.pua_jointly.specs.Closing.{Reached, reached, Step}
-use Rattle.pua_jointly.specs.Jointly.{Can, Fact, StandsIn, NotAbove, DirCover, WayIn, Made, Maker, Old, Row, is_standing}
+use Rattle.pua_jointly.specs.Jointly.{Fact, StandsIn, NotAbove, DirCover, WayIn, Made, Maker, Old, Row, is_standing}
 use Rattle.pua_jointly.specs.JointFacts.{Kept, Covers, Enters, Lands, Clear, LandsClear, Turns, Taken, Creates, Drops, Carries, Follows, Means}
 use Rattle.pua_jointly.specs.JointFacts.{WatchesEnough, turns_by, watches}
 use Rattle.pua_jointly.specs.JointSetup.{AreStanding, FollowsTold, IsWorkedOut, crew_told, dirs_of, guarded_told, layout_told, spots_told}
@@ -15,9 +15,8 @@ use Rattle.pua_jointly.specs.JointTable.{IsTold, columns, entities}
 use Rattle.pua_jointly.specs.declared.crew.Crew.{Crew}
 use Rattle.pua_jointly.specs.declared.crew.Watch.{Watch}
 use Rattle.pua_objects.proofs.ForCallers.{Among, among_contained, map_among}
-use Rattle.pua_jointly.proofs.JointFound.{sound}
 use Rattle.pua_jointly.proofs.JointPlaced.{column_fits, entity_fits, got_among}
-use Rattle.pua_jointly.proofs.JointPlaces.{Says, row_of_fact, said}
+use Rattle.pua_jointly.proofs.JointPlaces.{Says, said}
 use Rattle.pua_jointly.proofs.JointRows.{common_column, guarded_column}
 use Rattle.pua_jointly.proofs.JointTabled.{means_reached}
 use Rattle.pua_jointly.proofs.JointWatched.{watches_enough}

@@ -2,7 +2,7 @@ use Rattle.pua_jointly.proofs.Common.{◌≡◌, ◌<◌, ◌≤◌, ◌∙◌, 
 use Rattle.std.specs.Prelude.{◌+◌, ◌*◌, ◌^◌}
 use Rattle.std.proofs.lemmas.Bool.{cases_lt}
 use Rattle.std.proofs.lemmas.Grind.{common_steps}
-use Rattle.pua_jointly.specs.Closing.{AreReached, IsClosedAt, room}
+use Rattle.pua_jointly.specs.Closing.{IsClosedAt, room}
 use Rattle.pua_jointly.proofs.Gaining.{never_open, still_fewer, up_to}
 use Rattle.pua_jointly.proofs.closing.add_row.Goals as goal
 use Rattle.pua_jointly.proofs.closing.add_row.Goals.{else-add_word, then-add_word}

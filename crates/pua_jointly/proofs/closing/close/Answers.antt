@@ -1,4 +1,4 @@
-use Rattle.pua_jointly.proofs.Common.{◌∙◌, ap, sym}
+use Rattle.pua_jointly.proofs.Common.{◌∙◌, ap}
 use Rattle.std.specs.Prelude.{◌*◌}
 use Rattle.pua_jointly.proofs.Gaining.{none_known}
 use Rattle.pua_jointly.proofs.closing.close.Goals as goal

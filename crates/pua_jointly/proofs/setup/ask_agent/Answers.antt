@@ -1,12 +1,12 @@
-use Rattle.pua_jointly.proofs.Common.{◌≡◌, ◌∙◌, ◌&&◌, ◌||◌, ap, arith, Bool, Cover, Kind, length, list_any, New, NewDir, NewFile, NewLink, NewOthers}
-use Rattle.pua_jointly.proofs.Common.{CallTable, false, List, ProcessState, refl, Some, subst, sym, true, ℕ}
+use Rattle.pua_jointly.proofs.Common.{◌≡◌, ◌∙◌, ◌&&◌, ◌||◌, ap, arith, Bool, Kind, list_any, New, NewDir, NewFile, NewLink, NewOthers}
+use Rattle.pua_jointly.proofs.Common.{CallTable, ProcessState, refl, Some, subst, sym}
 use Rattle.std.specs.Prelude.{◌+◌}
 use Rattle.pua_tree.specs.declared.node.Kind.TheVariants as kinds
 use Rattle.pua_calls.specs.Promises.{fattr, holds}
 use Rattle.pua_policy.specs.States.{held_set}
 use Rattle.pua_ever.specs.Ever.{can_link, can_move, is_turned_by}
 use Rattle.pua_jointly.specs.JointFacts.{makes_under, turns_under}
-use Rattle.pua_jointly.specs.Jointly.{can_send, sends_to_set, sets_received}
+use Rattle.pua_jointly.specs.Jointly.{can_send, sends_to_set}
 use Rattle.pua_jointly.specs.JointWords.{AreCovers, carrying, making}
 use Rattle.pua_jointly.specs.declared.crew.Agent.{Agent}
 use Rattle.pua_jointly.proofs.setup.ask_agent.Goals as goal

@@ -1,12 +1,11 @@
-use Rattle.pua_jointly.proofs.Common.{◌≡◌, ◌<◌, ◌≤◌, ◌∙◌, ap, Bool, false, false≢true, inl, inr, is_some, length, List, None, Option, option_map, refl}
+use Rattle.pua_jointly.proofs.Common.{◌≡◌, ◌<◌, ◌≤◌, ◌∙◌, ap, false, false≢true, inl, inr, is_some, List, None, Option, option_map, refl}
 use Rattle.pua_jointly.proofs.Common.{ProcessState, Some, subst, sym, Tree, ℕ}
 use Rattle.std.specs.Prelude.{◌+◌, ◌*◌, slice_get}
 use Rattle.pua_jointly.specs.Closing.{Reached}
-use Rattle.pua_jointly.specs.JointSetup.{FollowsTold, RoundsState, crew_told, dirs_of, spots_told}
+use Rattle.pua_jointly.specs.JointSetup.{FollowsTold, RoundsState, crew_told, spots_told}
 use Rattle.pua_jointly.specs.JointShape.{entity_of}
-use Rattle.pua_jointly.specs.JointTable.{DropsOf, Makers, NameAt, entities}
+use Rattle.pua_jointly.specs.JointTable.{DropsOf, Makers, NameAt}
 use Rattle.pua_jointly.specs.declared.crew.Crew.{Crew}
-use Rattle.pua_jointly.specs.declared.shape.Row.{Row}
 use Rattle.pua_jointly.proofs.JointWidth.{IsOfAgents, IsOfName, no_dir, past_agents, past_common}
 use Rattle.pua_jointly.proofs.finding.RoundsSteps.width.Goals as goal
 use Rattle.pua_jointly.proofs.finding.RoundsSteps.width.Goals.{else-is_marked, then-is_marked}
