@@ -54,11 +54,6 @@ our @WRONG = (
         my ($right, $ever) = @_;
         return $ever->{model}->is_enclosed($ever->{process});
     }],
-    ['the name of the root is in it', 'EverModel::_lines_in', sub {
-        my ($right, $ever, $dir) = @_;
-        local $ever->{top} = $dir == $ever->{top} && $dir != 0 ? -1 : $ever->{top};
-        return $right->($ever, $dir);
-    }],
     ['a directory outside of the root leads to none above', 'Tree::_parent_in', sub {
         my ($right, $tree, $root, $dir) = @_;
         return $tree->_is_below($root, $dir) ? $right->($tree, $root, $dir) : $dir;
