@@ -53,7 +53,7 @@ for my $number (1 .. $WORLDS / $IN_ONE) {
     ok(!defined $fault, "worlds $number: answers, states and lists are those of the model") or diag($fault);
 }
 cmp_ok($count{$_}, '>=', $LEAST{$_}, $_) for sort keys %LEAST;
-for (@WrongRoots::WRONG) {
+for (@WrongRoots::WRONG, @WrongRoots::WRONG_FOR_EVER) {
     my ($name, $place, $wrong) = @$_;
     my $is_told = sub { my ($listing, $script, $told) = @{ $_[0] }; return told_by_model($listing, $script) eq $told };
     my $noticed = with_wrong($place, $wrong, sub { return first { !$is_told->($rooted[$_]) } 0 .. $#rooted });

@@ -49,14 +49,18 @@ our @WRONG = (
         $process->{files} = {} if $answer eq 'ok';
         return $answer;
     }],
+    ['a directory outside of the root leads to none above', 'Tree::_parent_in', sub {
+        my ($right, $tree, $root, $dir) = @_;
+        return $tree->_is_below($root, $dir) ? $right->($tree, $root, $dir) : $dir;
+    }],
+);
+
+# The same of lists for ever, which no kernel answers.
+our @WRONG_FOR_EVER = (
     ['no list for ever is cut', 'EverModel::_is_enclosed_for_ever', sub { return 0 }],
     ['a list for ever is cut of who holds id', 'EverModel::_is_enclosed_for_ever', sub {
         my ($right, $ever) = @_;
         return $ever->{model}->is_enclosed($ever->{process});
-    }],
-    ['a directory outside of the root leads to none above', 'Tree::_parent_in', sub {
-        my ($right, $tree, $root, $dir) = @_;
-        return $tree->_is_below($root, $dir) ? $right->($tree, $root, $dir) : $dir;
     }],
 );
 
