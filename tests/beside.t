@@ -37,10 +37,16 @@ my $SEED = @ARGV > 1 ? $ARGV[1] : 11;
 my @PLEDGES = (
     ('stdio,rpath,wpath,cpath,fattr,exec,proc -') x 3, 'rpath,wpath,cpath,exec,proc -', 'rpath,cpath,proc,error -',
     'wpath,cpath,proc -', 'rpath,wpath,fattr,proc -', 'rpath,cpath -', 'cpath -', 'rpath -', 'exec,rpath -',
+    ('rpath,sendfd -', 'rpath,cpath,sendfd,proc -', 'fattr,recvfd,exec,proc -', 'rpath,exec,sendfd,recvfd,fattr -') x 2,
     ('stdio,rpath,proc,exec stdio,rpath,wpath,cpath') x 3, 'rpath,proc,exec wpath,cpath,exec,proc',
     'rpath,wpath,cpath,exec,proc rpath,exec', 'exec,proc rpath,wpath,cpath,fattr', 'exec rpath,cpath',
     'rpath,cpath,exec,tmppath -', 'rpath,exec,tmppath rpath', 'rpath,fattr,exec,proc rpath',
 );
+
+# The veil and the pledge of each of three in every second world by OpenBSD's rules: what one opens or has open, it sends to
+# another one that sets its mode, and the third one starts it.
+my $sendings = 0;
+my @SENDING = ([ '/ r', 'rpath,sendfd -' ], [ '/ =', 'fattr,recvfd -' ], [ '/ x', 'exec -' ]);
 
 # What files each has open by OpenBSD's rules, as far as it doesn't close them.
 my @FDS = (3, 4);
@@ -55,7 +61,7 @@ my @RULES = qw(profile openbsd profile table);
 my @NEED_C = qw(rmdir unlink create mkdir symlink bind mknod create-rw);
 
 my $worlds = Worlds->new($SEED, { openings => 1 });
-my %counts = map { $_ => 0 } qw(lists answers opened more calls met execs bounded plays);
+my %counts = map { $_ => 0 } qw(lists answers opened more sent calls met execs bounded plays);
 
 for my $number (1 .. $WORLDS) {
     my $world = world($number);
@@ -67,9 +73,11 @@ for my $number (1 .. $WORLDS) {
     ok(!is_told($world, beyond_ever($world)), "$who they have what can be touched in $PLAYS futures");
     ok(!$world->{stray}, "$who no exec succeeds where none has one");
 }
+cmp_ok($counts{sent}, '>=', 1, 'a file becomes a program that one sends to another');
 note("$counts{lists} lists and $counts{answers} answers, of which $counts{opened} are by an opening alone, in ",
     "$counts{plays} futures within lists, of which $counts{met} calls of $counts{calls} were met; $counts{more} lines ",
-    "are by help alone; $counts{execs} futures ended by an exec, and $counts{bounded} execs were bounded");
+    "are by help alone; $counts{sent} worlds have lines by what is sent; $counts{execs} futures ended by an exec, and ",
+    "$counts{bounded} execs were bounded");
 done_testing();
 
 # A world with its lists: one in which, by the model, one to three processes live and can put no veil any more. In three
@@ -122,7 +130,10 @@ sub first_script {
         @files ? @FDS : ();
     my @lines = ("1 fork $WITNESS", @holds);
     push @lines, map { "1 fork $_" } grep { $_ != 1 } @members;
+    my $is_sending = $model->{openbsd} && @members == @SENDING && $sendings++ % 2 == 0;
     for my $member (@members) {
+        push @lines, map { "$member $_" } "unveil $SENDING[$member - 1][0]", 'unveil - -', "pledge $SENDING[$member - 1][1]" if $is_sending;
+        next if $is_sending;
         push @lines, map { $worlds->number(2) ? "$member close $_" : () } @files ? @FDS : ();
         push @lines, map { veil($member, @rows) } 0 .. 1 + $worlds->number(3);
         push @lines, "$member unveil - -" if $worlds->number(3);
@@ -190,6 +201,7 @@ sub not_headed {
 # The first list that is not the model's.
 sub not_modelled {
     my ($world) = @_;
+    $counts{sent}++ if has_sent($world);
     for my $member (@{ $world->{members} }) {
         my $found = JointModel::found($world->{model}, $member);
         my $fault = differs($world->{evers}{$member}, @{ $world->{found}{lines}{$member} })
@@ -197,6 +209,15 @@ sub not_modelled {
         return "process $member: $fault" if defined $fault;
     }
     return;
+}
+
+# Whether some list has more by what one sends to another.
+sub has_sent {
+    my ($world) = @_;
+    local $JointModel::SENDS = 0;
+    my @members = @{ $world->{members} };
+    my $kept = JointModel::found($world->{model}, @members);
+    return scalar grep { "@{ $kept->{lines}{$_} }" ne "@{ $world->{found}{lines}{$_} }" } @members;
 }
 
 # The first line of now that is not in the list of its process, with all its calls.

@@ -39,6 +39,7 @@ my %LEAST = (
     'chroot ENOSYS' => 30, 'by a promise' => 3, 'of a directory' => 80, 'of a program' => 25, 'of no name' => 10,
     'of several names' => 80, 'of no use' => 200, 'for ever' => 300, 'received' => 60, 'made a program' => 20,
     'made a program later' => 30, 'closed' => 30, 'open' => 40, 'removed' => 2, 'cut' => 30, 'rooted for ever' => 25,
+    'cut for ever' => 5, 'closed for now' => 1,
 );
 my %count = map { $_ => 0 } keys %LEAST;
 
@@ -52,7 +53,7 @@ for my $number (1 .. $WORLDS / $IN_ONE) {
     ok(!defined $fault, "worlds $number: answers, states and lists are those of the model") or diag($fault);
 }
 cmp_ok($count{$_}, '>=', $LEAST{$_}, $_) for sort keys %LEAST;
-for (@WrongRoots::WRONG) {
+for (@WrongRoots::WRONG, @WrongRoots::WRONG_FOR_EVER) {
     my ($name, $place, $wrong) = @$_;
     my $is_told = sub { my ($listing, $script, $told) = @{ $_[0] }; return told_by_model($listing, $script) eq $told };
     my $noticed = with_wrong($place, $wrong, sub { return first { !$is_told->($rooted[$_]) } 0 .. $#rooted });
@@ -93,21 +94,29 @@ sub fault_of {
     counted($files->{script}, $answers);
     my $lists = join '', map { $model->list($_) } $model->processes;
     counted_held($lists);
-    push @rooted, [ @$files{qw(listing script)}, $answers . $lists ] if $worlds->roots;
+    my %ever = map { $_ => ever($model, $_) } confined($model);
+    push @rooted, [ @$files{qw(listing script)}, join '', $answers, $lists, @ever{ confined($model) } ] if $worlds->roots;
     my $fault = otherwise($files, $answers . $lists, 'objects', '--process', 'all');
-    for my $process (grep { $model->state($_) =~ /^unveil (?:locked|given-up)$/m } $model->processes) {
+    for my $process (confined($model)) {
         last if defined $fault;
-        $fault = otherwise($files, $answers . ever($model, $process), 'objects', '--ever', '--process', $process);
+        counted_ever($model, $process, $ever{$process});
+        $fault = otherwise($files, $answers . $ever{$process}, 'objects', '--ever', '--process', $process);
     }
     return $fault;
 }
 
-# What a model tells of a listing and a script: the answers, and the list of each process.
+# The processes that can put no veil any more.
+sub confined {
+    my ($model) = @_;
+    return grep { $model->state($_) =~ /^unveil (?:locked|given-up)$/m } $model->processes;
+}
+
+# What a model tells of a listing and a script: the answers, the list of each process, and that for ever of each that has one.
 sub told_by_model {
     my ($listing, $script) = @_;
     my $model = Model->new($listing, { rules => 'openbsd' });
     my $answers = $model->run($script);
-    return join '', $answers, map { $model->list($_) } $model->processes;
+    return join '', $answers, (map { $model->list($_) } $model->processes), map { ever($model, $_) } confined($model);
 }
 
 # What is told otherwise than by the model; undef where nothing is.
@@ -133,13 +142,22 @@ sub ever {
     my $receives = is_held('recvfd', @holders) ? "receive open\n" : '';
     my @openings = openings_of(grep { is_held($_, @holders) } keys %OPENINGS);
     my $state = $model->state($process, { bounds => [ $execs, $receives ], openings => \@openings });
+    return join '', "ever $process\n", $state, map { "$_\n" } EverModel::lasting($model, $process);
+}
+
+# Counts the kinds of a list for ever.
+sub counted_ever {
+    my ($model, $process, $list) = @_;
+    my $of = $model->{processes}{$process};
     $count{'for ever'}++;
-    $count{'rooted for ever'}++ if $state =~ /^root /m;
-    $count{$execs}++ if $execs;
-    $count{received}++ if $receives;
+    $count{'rooted for ever'}++ if $list =~ /^root /m;
+    $count{received}++ if $list =~ /^receive open$/m;
+    my $is_closed = $of->{root} && $model->is_enclosed($of);
+    $count{ $of->{promises} && !$of->{promises}{id} ? 'cut for ever' : 'closed for now' }++ if $is_closed;
+    my $is_later = EverModel::given($model, $process);
     my @lines = EverModel::lasting($model, $process);
-    $count{ $given ? 'made a program later' : 'made a program' }++ if "@lines" ne join ' ', without_files($model, $process);
-    return "ever $process\n$state" . join '', map { "$_\n" } @lines;
+    $count{ $is_later ? 'made a program later' : 'made a program' }++ if "@lines" ne join ' ', without_files($model, $process);
+    return;
 }
 
 # The lines of the list for ever of a process were nothing open.

@@ -2186,7 +2186,7 @@ impl<'a> Ever<'a> {
         let moves = !process.on_dirs.contains_key(&dir) && self.can_move(now);
         let covers = if moves { self.for_dirs.clone() } else { vec![now] };
         let is_empty = tree.node(dir).rows.is_empty();
-        let is_removable = at.is_some() && self.ways.can_empty(dir) && (self.may_edit || is_empty);
+        let is_removable = dir != ROOT && self.ways.can_empty(dir) && (self.may_edit || is_empty);
         self.line("dir", &covers, Object::Dir((!is_removable).then_some("ENOTEMPTY")));
         if let Some((over, name)) = at {
             self.freed(over, name);
@@ -2245,8 +2245,15 @@ impl<'a> Ever<'a> {
         }
     }
 
+    /// What the process can ever touch: below its root alone, where it never comes out of that.
     fn listed(mut self) -> Vec<EverLine> {
-        self.dir(ROOT, None);
+        let Ways { tree, process } = self.ways;
+        let is_cut = self.held & ID == 0 && process.is_enclosed(tree);
+        let top = if is_cut { process.start.root } else { ROOT };
+        if top != ROOT {
+            self.path = place_path(tree, &(top, None));
+        }
+        self.dir(top, None);
         for (kind, makers, object) in NEW {
             self.made(kind, makers, object);
         }

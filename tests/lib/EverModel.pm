@@ -47,7 +47,15 @@ sub lines {
     $ever->{links} = $ever->_promises('old name of link') && $ever->_promises('new name of link');
     $ever->{renames} = $ever->_promises('old name of rename') && $ever->_promises('new name of rename');
     $ever->_find_covers;
-    return ($ever->_lines_in(0), map { $ever->_new_line($_) } @NEW);
+    $ever->{top} = $ever->_is_enclosed_for_ever ? $process->{root} : 0;
+    return ($ever->_lines_in($ever->{top}), map { $ever->_new_line($_) } @NEW);
+}
+
+# Whether a process never comes out of its root: it is enclosed, and has pledged without id, by which it could move the root.
+sub _is_enclosed_for_ever {
+    my ($ever) = @_;
+    my $process = $ever->{process};
+    return $process->{promises} && !$process->{promises}{id} && $ever->{model}->is_enclosed($process);
 }
 
 # A model by whose table whoever holds tmppath may make the calls that it opens; none of these has the set twice, nor beside
@@ -167,7 +175,7 @@ sub _joint {
     my $given = _union(map { lets($model, $_, 'exec') ? $_->{execpromises} : {} } @living);
     my $open  = grep { !$_->{locked} } @living;
     undef $given if $given && $open && grep { Model::_holds({ promises => $_ }, 'unveil') } $held, $given;
-    my %common = (locked => 1, promises => $held, execpromises => $given);
+    my %common = (root => 0, locked => 1, promises => $held, execpromises => $given);
     return { %{ $living[0] }, %common, files => { map { _numbered_files($_, $living[$_]) } 0 .. $#living } };
 }
 
@@ -346,7 +354,7 @@ sub _lines_in {
     my %names = (%$rows, map { $_->{dir} == $dir ? ($_->{name} => 1) : () } $ever->_veiled);
     return (
         $ever->_line('dir', $path, $ever->_is_gone($dir) ? 'gone' : 'dir', @covers),
-        $dir == 0 ? () : $ever->_freed(@{ $model->{above}{$dir} }),
+        $dir == $ever->{top} ? () : $ever->_freed(@{ $model->{above}{$dir} }),
         $ever->_line('other', $path, 'missing', @covers),
         map { $ever->_lines_at($dir, $_) } sort keys %names,
     );

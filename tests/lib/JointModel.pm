@@ -14,6 +14,9 @@ my @TURNS = qw(open-w open-rw create create-rw chmod fchmod);
 # What can be made, and the calls that make it.
 my %MAKES = (dir => ['mkdir'], file => [qw(create bind mknod create-rw)], link => ['symlink']);
 
+# Whether what is open is sent: else a test sees what that adds.
+our $SENDS = 1;
+
 # A name that nothing has, and no veil.
 my $FRESH = '';
 
@@ -368,20 +371,32 @@ sub _lines_at {
     return ($joint->_line($kind, $model->_path_in($dir, $name), %has), @name);
 }
 
-# Whether one of the crew can make a file a program, at any of its names or by what it holds open.
+# Whether one of the crew can make a file a program, at any of its names or by what it has open; or can send it to one that
+# sets its mode, by what it has open or opens.
 sub _turns {
     my ($joint, $node) = @_;
     my $model = $joint->{model};
+    my @senders = grep { $joint->_sends_to_set($_->{process}) } @{ $joint->{crew} };
     return 1 if grep { EverModel::is_turned_held($_->{process}, $node) } @{ $joint->{crew} };
+    return 1 if grep { $_->{node} == $node } map { values %{ $_->{process}{files} } } @senders;
     for my $source ($joint->_rows) {
         my ($dir, $name) = $source =~ m{\Arow ([0-9]+)/(.*)\z}s;
         next if $model->{rows}{$dir}{$name} != $node;
         for my $by (0 .. $#{ $joint->{crew} }) {
             my @covers = map { $joint->_covers_at($by, @$_) } $joint->_places($source);
-            return 1 if grep { $joint->{crew}[$by]->_is_allowed($_, 'file', @covers) } @TURNS;
+            my @calls = (@TURNS, (grep { $_ == $joint->{crew}[$by] } @senders) ? 'open-r' : ());
+            return 1 if grep { $joint->{crew}[$by]->_is_allowed($_, 'file', @covers) } @calls;
         }
     }
     return 0;
+}
+
+# Whether a process can send what it has open to one of the crew that sets its mode, where fchmod is a call.
+sub _sends_to_set {
+    my ($joint, $process) = @_;
+    return 0 if !$SENDS || !@{ $joint->{model}{needs}{fchmod}[0] } || !Model::_holds($process, 'sendfd');
+    my @crew = map { $_->{process} } @{ $joint->{crew} };
+    return scalar grep { Model::_holds($_, 'recvfd') && Model::_holds($_, 'fattr') } @crew;
 }
 
 # A name with a veil of its own at which nothing stands, or what stands there can be taken away.

@@ -548,7 +548,7 @@ sub _leads { return exists $_[0]{kind}{ $_[1] } }
 sub rooted {
     my ($model, $process) = @_;
     my $root = $process->{root};
-    return if $root == 0;
+    return if !$root;
     my $path = $model->{kind}{$root} ? $model->_path($root) : '-';
     return "root $path " . ($model->is_enclosed($process) ? 'closed' : 'open') . "\n";
 }

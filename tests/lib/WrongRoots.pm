@@ -55,6 +55,15 @@ our @WRONG = (
     }],
 );
 
+# The same of lists for ever, which no kernel answers.
+our @WRONG_FOR_EVER = (
+    ['no list for ever is cut', 'EverModel::_is_enclosed_for_ever', sub { return 0 }],
+    ['a list for ever is cut of who holds id', 'EverModel::_is_enclosed_for_ever', sub {
+        my ($right, $ever) = @_;
+        return $ever->{model}->is_enclosed($ever->{process});
+    }],
+);
+
 # What a function tells while a wrong model stands for the right one.
 sub with_wrong {
     my ($place, $wrong, $told) = @_;

@@ -16,8 +16,8 @@ use Rattle.pua_script.specs.Worlds.{state_left}
 use Rattle.pua_script.specs.declared.answer.Answer.{Answer}
 use Rattle.pua_script.proofs.ForCallers.{by_living, by_own_tree}
 use Rattle.pua_ever.specs.EnclosedForEver.{EnclosedStay, EnclosedThroughExecs, EnclosedWithExecs, FreesNone, IsEnclosedIn, KeepInside}
-use Rattle.pua_ever.specs.EnclosedForEver.{NoExecFrees, is_enclosed_for_ever, is_held_inside}
-use Rattle.pua_objects.specs.Roots.{stays_in}
+use Rattle.pua_ever.specs.EnclosedForEver.{NoExecFrees}
+use Rattle.pua_objects.specs.Roots.{is_enclosed_for_ever, is_held_inside, stays_in}
 use Rattle.pua_ever.specs.Laws.{MembersEdit}
 use Rattle.pua_ever.specs.Through.{GoesAlong, GoAlong, is_bounded}
 use Rattle.pua_ever.proofs.Enclosing.{Enclosed, Lacks, Placed, enclosed_parts, enclosed_whole, MovesBy, TiesBy, pass_too, stays_decided, turns_decided}

@@ -48,8 +48,7 @@ use Rattle.pua_script.specs.Worlds.{state_left}
 use Rattle.pua_script.specs.declared.request.Action.TheVariants.{Chroot}
 use Rattle.pua_script.proofs.ForCallers.{by_cutting, by_decision, by_making, by_moves, by_placing, by_tying, decisions_are_guarded}
 use Rattle.pua_script.proofs.ForCallers.{name_fits}
-use Rattle.pua_ever.specs.EnclosedForEver.{EnclosedBegins, is_enclosed_for_ever, is_held_inside}
-use Rattle.pua_objects.specs.Roots.{files_stay, stays_in}
+use Rattle.pua_objects.specs.Roots.{files_stay, is_enclosed, is_enclosed_for_ever, is_held_inside, stays_in}
 use Rattle.pua_ever.proofs.Holding.{may_holds}
 use Rattle.pua_ever.proofs.Inside.{Inside, text_inside}
 use Rattle.pua_ever.proofs.InsideTrees.{FromInside, Turns, turns_add, turns_cut, turns_none, turns_shift, turns_tie}
@@ -123,34 +122,21 @@ pub record Enclosed (t : Tree) (root : ℕ) (h : ProcessState) : Type 0 where
 
 pub enclosed_parts : (t : Tree) (h : ProcessState) → is_enclosed_for_ever t h ≡ true → Enclosed t (root_dir h) h
 enclosed_parts t h e =
-    let one = and_parts (is_dir t (root_dir h)) _ e in
-    let two = and_parts (stays_in t (root_dir h) (working_dir h)) _ one.1 in
-    let three = and_parts (list_all (λ held. is_held_inside t (root_dir h) held.1) h.files) (not (holds (held_set h) id)) two.1 in
+    let last = and_parts (is_enclosed t h) (not (holds (held_set h) id)) e in
+    let one = and_parts (is_dir t (root_dir h)) _ last.0 in
+    let two = and_parts (stays_in t (root_dir h) (working_dir h)) (files_stay t (root_dir h) h.files) one.1 in
     record {
       lives = one.0;
-      placed = record { rooted = refl; dir = two.0; files = three.0 };
-      lacks = not-true (holds (held_set h) id) three.1;
+      placed = record { rooted = refl; dir = two.0; files = two.1 };
+      lacks = not-true (holds (held_set h) id) last.1;
     }
 
 pub enclosed_whole : (t : Tree) (root : ℕ) (h : ProcessState) → Enclosed t root h → is_enclosed_for_ever t h ≡ true
-enclosed_whole t root h k = subst (λ r. (is_dir t r
-    && (stays_in t r (working_dir h) && (list_all (λ held. is_held_inside t r held.1) h.files && not (holds (held_set h) id)))) ≡ true)
-    (sym k.placed.rooted)
-    (and_from (is_dir t root) _ k.lives
-    (and_from (stays_in t root (working_dir h)) _ k.placed.dir
-    (and_from (list_all (λ held. is_held_inside t root held.1) h.files) _ k.placed.files (ap not k.lacks))))
-
--- who is enclosed now and lacks the promise is so
-pub enclosed_begins : EnclosedBegins
-enclosed_begins t h e lacks =
-    let one = and_parts (is_dir t (root_dir h)) _ e in
-    let two = and_parts (stays_in t (root_dir h) (working_dir h)) (files_stay t (root_dir h) h.files) one.1 in
-    and_from (is_dir t (root_dir h)) _ one.0
-    (and_from (stays_in t (root_dir h) (working_dir h)) _ two.0
-    (and_from (list_all (λ held. is_held_inside t (root_dir h) held.1) h.files) _
-    (pass_too (λ file. stays_in t (root_dir h) file.node) (is_held_inside t (root_dir h))
-    (λ file stays. or_right (not (is_directory file)) (stays_in t (root_dir h) file.node) stays) h.files two.1)
-    (ap not lacks)))
+enclosed_whole t root h k =
+    and_from (is_enclosed t h) _
+    (subst (λ r. (is_dir t r && (stays_in t r (working_dir h) && files_stay t r h.files)) ≡ true) (sym k.placed.rooted)
+    (and_from (is_dir t root) _ k.lives (and_from (stays_in t root (working_dir h)) _ k.placed.dir k.placed.files)))
+    (ap not k.lacks)
 
 -- who lacks a promise was pledged
 pub lacks_pledged : (h : ProcessState) → Lacks h → is_pledged h ≡ true

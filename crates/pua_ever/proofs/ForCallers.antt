@@ -16,6 +16,10 @@ pub use Rattle.pua_ever.proofs.ComingRows.{by_standing}
 pub use Rattle.pua_ever.proofs.RowsLast.{rows_by_both}
 -- the list that holds longest, by who holds both sets
 pub use Rattle.pua_ever.proofs.Chosen.{lasting_unbounded, lasting_alone, lasting_through, starts_none, starts_open}
+-- what is shown of it: cut or whole, and by who has the root of the tree whole
+pub use Rattle.pua_ever.proofs.ShownChosen.{shown_unbounded, shown_unstarted, shown_bounded, shown_starts_none, shown_starts_open}
+pub use Rattle.pua_ever.proofs.ShownChosen.{shown_starts_bounded, whole_lasting, whole_longest, whole_execs}
+pub use Rattle.pua_ever.proofs.ShownLasts.{ever_shown_after_read, none_shown_after_read, whole_foresees}
 -- what an item is about stands in its tree, what covers that now is among the covers under which it can come, and which others are
 pub use Rattle.pua_ever.proofs.Now.{StandsNow, items_stand, dir_cover, file_cover}
 pub use Rattle.pua_ever.proofs.Ending.{named_moved, named_linked}
@@ -54,5 +58,5 @@ pub use Rattle.pua_ever.proofs.ExecCalls.{exec_or_other}
 -- rows of items and of their names, one after another
 pub use Rattle.pua_ever.proofs.Lined.{freed_name}
 pub use Rattle.pua_ever.proofs.Named.{own_name_is}
-pub use Rattle.pua_ever.proofs.RowsTell.{all_more, freed_on, freed_thing, last_row_more, row_word, same_word, told_more, near_at, told_at}
-pub use Rattle.pua_ever.proofs.RowsTell.{own_last, standing_there}
+pub use Rattle.pua_ever.proofs.RowsTell.{all_more, freed_on, freed_thing, last_row_more, made_on, row_word, same_word, stands_on, told_more, near_at}
+pub use Rattle.pua_ever.proofs.RowsTell.{own_last, standing_there, told_at}

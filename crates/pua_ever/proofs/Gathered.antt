@@ -1,6 +1,6 @@
 -- What any of several processes has open so that it can be made a program, the one that stands for them has open so.
 use Rattle.pua_ever.proofs.Common.{◌≡◌, arith, ℕ, List, [], ◌∷◌, Bool, true, false, cond, refl, sym, ap, ◌∙◌, inl, inr, Option, Some, None, ◌&&◌, ◌||◌}
-use Rattle.pua_ever.proofs.Common.{◌==◌, ProcessState, false≢true, and_parts, and_from, eqb-true, eq-eqb, list_any, nat_cmp, or_left, or_right}
+use Rattle.pua_ever.proofs.Common.{◌==◌, ProcessState, false≢true, and_parts, and_from, eqb-true, list_any, nat_cmp, or_left, or_right}
 use Rattle.pua_ever.proofs.Common.{Among}
 use Rattle.std.proofs.lemmas.Map.Lookups.{exact_unsigned}
 use Rattle.std.specs.BTreeMap.{is_at}

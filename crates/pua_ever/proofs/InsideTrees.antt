@@ -72,6 +72,35 @@ module _ (t : Tree) (well : WellFormed t) where
       by zero way = absurd (other way)
       by (suc k) way = at k way.1 (is_below t d (above t d)) refl
 
+  -- a directory that stands in a row is at or below another, and isn't that, where the row's directory is at or below it
+  pub row_inside : (root : ℕ) (s : Spot) (x : ℕ) → look t s.0 s.1 ≡ Some x → is_dir t x ≡ true →
+      (is_within t x root && not (x == root)) ≡ is_within t s.0 root
+  row_inside root s x row is = by (x == root) refl
+    where
+      says : (is_dir t s.0 ≡ true) × (x ≢ 0)
+      says = ((row_says t (sound_from t well) s x row).0, (row_says t (sound_from t well) s x row).3)
+
+      above_is : above t x ≡ s.0
+      above_is = above_row t well root s x row is
+
+      none : (b : Bool) → (b && false) ≡ false
+      none true = refl
+      none false = refl
+
+      all : (b : Bool) → (b && true) ≡ b
+      all true = refl
+      all false = refl
+
+      by : (b : Bool) → (x == root) ≡ b → (is_within t x root && not (x == root)) ≡ is_within t s.0 root
+      by true e =
+          ap (λ b. is_within t x root && not b) e ∙ none (is_within t x root)
+          ∙ sym (not_within t s.0 root (ap (λ y. is_below t y s.0) (sym (eqb-true x root e)) ∙ ap (is_below t x) (sym above_is)
+          ∙ above_outside x is says.1))
+      by false e =
+          ap (λ b. is_within t x root && not b) e ∙ all (is_within t x root)
+          ∙ (λ i. is i && below_up t well root x e says.1 is i)
+          ∙ (λ i. sym says.0 i && is_below t root (above_is i))
+
 -- ---- one edit
 
 module _ (table : CallTable) (t : Tree) (h : ProcessState) (root : ℕ) (IsWay : Spot → ℕ → Type 0) where

@@ -50,4 +50,6 @@ pub mod Enclosing
 pub mod EnclosedAlong
 pub mod Homes
 pub mod ShownEver
+pub mod ShownNoExec
+pub mod ShownChosen
 pub mod ShownLasts

@@ -9,7 +9,7 @@ use Rattle.std.specs.List.{AllByRecursion}
 use Rattle.std.proofs.Common.{get_or, zero}
 use Rattle.std.proofs.lemmas.List.{length-take-le, take-append-le, take-take}
 use Rattle.pua_objects.proofs.ForCallers.{last_append}
-use Rattle.pua_objects.specs.ListItems.{AreNear, items_told, last_name, last_word, with_name, word_after}
+use Rattle.pua_objects.specs.ListItems.{AreNear, IsToldIn, items_told, last_name, last_word, with_name, word_after}
 use Rattle.pua_objects.specs.declared.kind.ObjectKind.TheVariants as kind
 use Rattle.pua_objects.specs.declared.list.ListItem.{ListItem}
 use Rattle.pua_policy.specs.declared.object.Object as seen
@@ -19,7 +19,7 @@ use Rattle.pua_objects.specs.declared.item.Subject.TheVariants as own_subject
 use Rattle.pua_ever.specs.Prospects.{own_given}
 use Rattle.pua_ever.specs.Ever.{Thing, ever_line, freed_at, is_new_allowed}
 use Rattle.pua_ever.specs.EverLines.{Left, Now, Freed, Coming, IsThing, line_with, lines_about, new_of}
-use Rattle.pua_ever.specs.EverList.{AreEverTold, AreRowsBut, AreRowsSoFar, IsAboutOn, IsFreedRow, IsRowAt, IsRowOn, IsStandsRow}
+use Rattle.pua_ever.specs.EverList.{AreEverTold, AreRowsBut, AreRowsSoFar, IsAboutOn, IsFreedRow, IsRowAt, IsRowOn, IsStandingOn, IsStandsRow}
 use Rattle.pua_ever.specs.EverList.{last_row_word, own_name, thing_by, thing_of, word_of_row}
 use Rattle.pua_ever.specs.declared.line.EverThing.TheVariants as told
 use Rattle.pua_ever.specs.declared.list.EverAbout.{EverAbout}
@@ -27,6 +27,9 @@ use Rattle.pua_ever.specs.declared.list.EverAbout.TheVariants as ever_about
 use Rattle.pua_ever.specs.declared.list.EverRow.{EverRow}
 use Rattle.pua_ever.specs.declared.made.Made.{Made}
 use Rattle.pua_ever.specs.declared.made.Made.TheVariants as made
+use Rattle.pua_ever.specs.ShownForEver.{is_inside}
+use Rattle.pua_tree.specs.Tree.{is_within}
+use Rattle.pua_policy.specs.States.{root_dir}
 use Rattle.pua_ever.proofs.Lined.{lines_cons, now_lines, made_lines, freed_name, freed_lines}
 
 pub last_row_more : (before : Word) (rows : List EverRow) (row : EverRow) →
@@ -183,11 +186,37 @@ module _ (t : Tree) (h : ProcessState) where
       subst (λ (spot : Spot). is_some (look t spot.0 spot.1) ≡ true) (same_Some (at, own) (dir, name) is) (ap is_some fits.1.1)
   standing_there _ dir name fits is = cc
 
-  pub freed_on : (subject : Subject) (item : ListItem) (row : EverRow) → SubjectFits t subject → IsFreedRow item (own_spot subject) row → IsRowOn t h row
-  freed_on subject item row fits own =
-      subst (λ (a : EverAbout). IsAboutOn t h (own_name row) a) (sym own.about)
-      (subst (λ (o : Option (List ℕ)). IfSome o (λ name. is_some (look t own.spot.0 name) ≡ true)) (sym own.name)
-      (standing_there subject own.spot.0 own.spot.1 fits own.is))
+  pub freed_on : (subject : Subject) (item : ListItem) (row : EverRow) → SubjectFits t subject → IsFreedRow item (own_spot subject) row →
+      ((spot : Spot) → own_spot subject ≡ Some spot → row.inside ≡ is_within t spot.0 (root_dir h)) → IsRowOn t h row
+  freed_on subject item row fits own marked = (
+    subst (λ (a : EverAbout). IsAboutOn t h (own_name row) a) (sym own.about)
+        (subst (λ (o : Option (List ℕ)). IfSome o (λ name. is_some (look t own.spot.0 name) ≡ true)) (sym own.name)
+        (standing_there subject own.spot.0 own.spot.1 fits own.is)),
+    λ about e.
+        marked own.spot own.is
+        ∙ ap (is_inside t (root_dir h)) (same_Some (Stands (At (Slot own.spot.0 own.spot.1 None))) about
+        (sym (λ i. thing_by t (own.name i) (own.about i)) ∙ e)),
+  )
+
+  -- what an item is about stands there, and is marked
+  pub stands_on : (item : ListItem) → IsToldIn t h item → (o : Option Subject) → o ≡ Some (subject_given t item.item.subject) →
+      IfSome o (IsStandingOn t h item.item.object item.item.cover)
+      × ((about : Thing) → option_map Stands o ≡ Some about → item.inside ≡ is_inside t (root_dir h) about)
+  stands_on item told o is = (
+    subst (λ (o : Option Subject). IfSome o (IsStandingOn t h item.item.object item.item.cover)) (sym is)
+        (record { fits = told.fits; object = told.tells.object; cover = told.tells.cover }),
+    λ about e.
+        told.inside ∙ ap (is_inside t (root_dir h)) (same_Some (Stands (subject_given t item.item.subject)) about
+        (sym (ap (option_map Stands) is) ∙ e)),
+  )
+
+  -- what can be made is made there
+  pub made_on : (row : EverRow) (m : Made) → row.about ≡ ever_about.Comes m → row.inside ≡ true → IsRowOn t h row
+  made_on row m about inside = (
+    subst (IsAboutOn t h (own_name row)) (sym about) tt,
+    λ thing e.
+        inside ∙ ap (is_inside t (root_dir h)) (same_Some (Comes (new_of m)) thing (sym (ap (thing_by t (own_name row)) about) ∙ e)),
+  )
 
 -- the name at which an item stands is the last of those that lead to it
 pub own_last : (s : given.Subject) (object : seen.Object) (spot : Spot) → own_given s object ≡ Some spot → Some spot.1 ≡ last_name s

@@ -1,5 +1,5 @@
 -- What is allowed later to processes that are enclosed for ever has a line now that is at or below their root.
-use Rattle.pua_ever.proofs.Common.{◌≡◌, ◌⊎◌, ◌≤◌, ◌<◌, ℕ, List, [], ◌∷◌, Bool, true, false, cond, refl, sym, ap, subst, ◌∙◌, inl, inr, arith, Some, None}
+use Rattle.pua_ever.proofs.Common.{◌≡◌, ◌⊎◌, ◌≤◌, ◌<◌, ℕ, List, [], ◌∷◌, Bool, true, false, refl, sym, ap, subst, ◌∙◌, inl, inr, arith, Some, None}
 use Rattle.pua_ever.proofs.Common.{Option, Result, Ok, Err, ◌==◌, option_eq, false≢true, and_parts, eq-eqb, eqb-true, not-true, same_Some}
 use Rattle.pua_ever.proofs.Common.{Some≢None, Tree, WellFormed, Spot, is_dir, look, node_at, kind_at, sound_from, row_says, same_dir}
 use Rattle.pua_ever.proofs.Common.{Found, Whole, Slot, Followed, resolutions_fit, named_within_text, CallTable, rule_of, Call, ProcessState, may_any}
@@ -15,15 +15,13 @@ use Rattle.pua_path.specs.declared.found.Start.{Start}
 use Rattle.pua_calls.specs.Calls.{ending_of, last_of}
 use Rattle.pua_calls.specs.TmpTable.{tmp_table}
 use Rattle.pua_calls.proofs.ForCallers.{tmp_table_needs_no_error}
-use Rattle.pua_policy.specs.States.{root_dir}
 use Rattle.pua_policy.specs.Verdict.{verdict}
 use Rattle.pua_policy.specs.declared.answer.Verdict.TheVariants.{Allowed}
 use Rattle.pua_policy.specs.declared.place.Place.TheVariants as place
 use Rattle.pua_script.specs.Family.{family, HasKept}
-use Rattle.pua_script.proofs.ForCallers.{at_all, begins}
 use Rattle.pua_objects.proofs.ForCallers.{failed}
-use Rattle.pua_ever.specs.EnclosedForEver.{EverInside, EverShown, ForeseesInside, IsEnclosedIn, KeepInside, NoExecFrees, is_enclosed_for_ever}
-use Rattle.pua_ever.specs.EnclosedForEver.{is_inside, only_inside, shown_ever}
+use Rattle.pua_ever.specs.EnclosedForEver.{EverInside, ForeseesInside, IsEnclosedIn, KeepInside, NoExecFrees}
+use Rattle.pua_ever.specs.ShownForEver.{is_inside, only_inside}
 use Rattle.pua_objects.specs.Roots.{stays_in}
 use Rattle.pua_ever.specs.Ever.{Thing, named_covers}
 use Rattle.pua_ever.specs.Laws.{IsForeseenIn, IsLineOf, MembersEdit, NoExecLoosens, of_dir, of_name, of_new_dir, of_new_file, of_new_link, of_new_others}
@@ -31,14 +29,13 @@ use Rattle.pua_ever.specs.Laws.{of_others, of_row}
 use Rattle.pua_ever.proofs.Along.{stays_along}
 use Rattle.pua_ever.proofs.Complete.{all_within}
 use Rattle.pua_ever.proofs.Covers.{below_next, given_or_new}
-use Rattle.pua_ever.proofs.Enclosing.{Enclosed, enclosed_parts}
-use Rattle.pua_ever.proofs.EnclosedAlong.{AreIn, enclosed_again, enclosed_along, enclosed_in, none_frees, one_request, own_turns}
+use Rattle.pua_ever.proofs.Enclosing.{Enclosed}
+use Rattle.pua_ever.proofs.EnclosedAlong.{AreIn, enclosed_again, enclosed_along, enclosed_in, one_request, own_turns}
 use Rattle.pua_ever.proofs.Ending.{Listed, hit, home_of, named_linked, named_moved, parts_of, row_has, slot_of, slot_then}
-use Rattle.pua_ever.proofs.Execs.{members_along, members_still, none_loosens}
+use Rattle.pua_ever.proofs.Execs.{members_along, members_still}
 use Rattle.pua_ever.proofs.Homes.{CanLeave, Home, Homes, homes_first, homes_then, inner_first, moves_from_home, row_given, ties_from_home}
 use Rattle.pua_ever.proofs.Inside.{dir_found, text_inside}
 use Rattle.pua_ever.proofs.InsideTrees.{keep_both, keep_none}
-use Rattle.pua_ever.proofs.KindsKept.{alone_are}
 use Rattle.pua_ever.proofs.Origins.{Stays, at_first, file_under}
 use Rattle.pua_ever.proofs.Unedited.{unedited_along}
 
@@ -187,7 +184,7 @@ module _ (table : CallTable) (sound : NoCallNeedsError table) (needs : EditsNeed
   abbrev HomesNow : Tree → Type 0
   HomesNow u = Homes tmp t0 now well0 stand root u
 
-  homes_one : (w : World) (ask : Asked) (members : List ℕ) → Members w members now false → AreIn table root w members → WellFormed w.tree →
+  pub homes_one : (w : World) (ask : Asked) (members : List ℕ) → Members w members now false → AreIn table root w members → WellFormed w.tree →
       WellFormed (apply table w ask).1.tree → (is_member members ask.process ≡ true) ⊎ ((apply table w ask).1.tree ≡ w.tree) →
       Stays tmp t0 now well0 stand w.tree → KeepInside root t0 w.tree → HomesNow w.tree → HomesNow (apply table w ask).1.tree
   homes_one w ask members are in_root well well_then edit k kept homes = by edit
@@ -263,23 +260,3 @@ ever_inside table sound needs w asks root members now acts enclosed stand trees 
     inside_within table sound needs w asks root members now (all_within w members now acts)
     (λ m there. let one = enclosed m there in (one.0, one.1, enclosed_in w.tree root one.0 one.2))
     stand trees none frees edits member belongs
-
--- the list that is shown is cut
-shown_is : (t : Tree) (table : CallTable) (h : ProcessState) → is_enclosed_for_ever t h ≡ true →
-    shown_ever t table h ≡ only_inside t (root_dir h) (ever t table h)
-shown_is t table h is = ap (λ b. cond b (only_inside t (root_dir h) (ever t table h)) (ever t table h)) is
-
-pub ever_shown : EverShown
-ever_shown table sound needs w asks process now here confined enclosed stand trees none edits member belongs =
-    let are = at_all w (process ∷ []) now (begins table now w process here confined) in
-    let in_root = alone_are (Enclosed w.tree (root_dir now)) w process now here (enclosed_parts w.tree now enclosed) in
-    let seen = inside_within table sound needs w asks (root_dir now) (process ∷ []) now are in_root stand trees
-    (none_loosens table now asks w (process ∷ []) none) (none_frees table asks w (process ∷ []) none) edits member belongs in (
-      seen.0,
-      seen.1,
-      (
-        seen.2.0,
-        subst (λ lines. ForeseesInside (root_dir now) lines w.tree (tmp_table table) now (world_after table w asks).tree seen.0)
-            (sym (shown_is w.tree (tmp_table table) now enclosed)) seen.2.1,
-      ),
-    )

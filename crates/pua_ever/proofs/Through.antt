@@ -376,12 +376,15 @@ pub starts_through_execs : StartsThroughExecs
 starts_through_execs table sound needs w asks members now given bounded are stand trees edits member belongs =
     starts_all table sound needs now given bounded w asks stand trees members are edits member belongs
 
--- where no line has exec the list is that of the process itself
-pub no_line : (t : Tree) (table : CallTable) (h : ProcessState) → has_exec (ever t table h) ≡ false → NoLineHasExec t table h
-no_line t table h none line listed has =
-    false≢true (sym none ∙ any_among (λ l. list_any is_exec_call l.calls) (ever t table h) line
-    (among_contained (ever t table h) line listed)
+-- where no line has exec none has the call
+pub none_has : (lines : List EverLine) → has_exec lines ≡ false → (line : EverLine) → Contains lines line → Contains line.calls call.Exec → ⊥
+none_has lines none line listed has =
+    false≢true (sym none ∙ any_among (λ l. list_any is_exec_call l.calls) lines line (among_contained lines line listed)
     (any_among is_exec_call line.calls call.Exec (among_contained line.calls call.Exec has) refl))
+
+-- so of the list of a process itself
+pub no_line : (t : Tree) (table : CallTable) (h : ProcessState) → has_exec (ever t table h) ≡ false → NoLineHasExec t table h
+no_line t table h none = none_has (ever t table h) none
 
 pub ever_lasts : EverLasts
 ever_lasts table sound needs w asks process now given here bound stand trees edits member belongs =

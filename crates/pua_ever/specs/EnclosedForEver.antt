@@ -1,8 +1,7 @@
--- A process whose paths can never leave its root, nor those of what it forks: what their requests leave of the tree, and the
--- list of all that they can ever touch, cut at the root.
-use Rattle.std.specs.Prelude.{◌≡◌, ◌≢◌, ◌⊎◌, ◌≤◌, ⊤, ℕ, Bool, true, not, ◌&&◌, ◌||◌, if◌then◌else◌, List, [], ◌∷◌, filter, Option, Some, None}
-use Rattle.std.specs.Prelude.{Ok, IsTrue, IsFalse}
-use Rattle.std.specs.List.{list_all}
+-- A process whose paths can never leave its root, nor those of what it forks: what their requests leave of the tree, and that the list of
+-- all that they can ever touch may be cut at the root.
+use Rattle.std.specs.Prelude.{◌≡◌, ◌≢◌, ◌⊎◌, ◌≤◌, ⊤, ℕ, Bool, not, ◌&&◌, List, [], ◌∷◌, Some, Ok, IsTrue, IsFalse}
+use Rattle.std.specs.List.{Contains}
 use Rattle.pua_tree.specs.Listing.{listing}
 use Rattle.pua_tree.specs.Tree.{Tree, Spot, is_dir, is_within, look}
 use Rattle.pua_path.specs.Resolution.{resolution_of_text}
@@ -10,7 +9,7 @@ use Rattle.pua_path.specs.declared.found.Start.{Start}
 use Rattle.pua_calls.specs.Promises.{holds, id}
 use Rattle.pua_calls.specs.Calls.{CallTable, ending_of, last_of}
 use Rattle.pua_calls.specs.TmpTable.{tmp_table}
-use Rattle.pua_policy.specs.States.{ProcessState, held_set, is_directory, root_dir, working_dir}
+use Rattle.pua_policy.specs.States.{ProcessState, held_set, is_directory, root_dir, start}
 use Rattle.pua_calls.specs.declared.call.Call.{Call}
 use Rattle.pua_calls.specs.declared.rules.Rules.{Rules}
 use Rattle.pua_policy.specs.Verdict.{verdict_of}
@@ -24,59 +23,20 @@ use Rattle.pua_script.specs.Family.{family, family_then, is_done, is_exec, is_me
 use Rattle.pua_script.specs.Laws.{IsConfined}
 use Rattle.pua_script.specs.Tightening.{NoCallNeedsError}
 use Rattle.pua_script.specs.Confinement.{TreesAlong}
-use Rattle.pua_objects.specs.Roots.{dir_of, is_enclosed, stays_in}
-use Rattle.pua_ever.specs.Ever.{Comes, EverLine, Stands, Thing, ever}
+use Rattle.pua_objects.specs.Laws.{StartsIn}
+use Rattle.pua_objects.specs.Roots.{is_enclosed_for_ever, shown_for_ever, stays_in}
+use Rattle.pua_objects.specs.declared.roots.Shown.{Shown}
+use Rattle.pua_ever.specs.Ever.{EverLine, ever}
 use Rattle.pua_ever.specs.Laws.{ActsWithin, EditsNeedC, IsForeseenIn, MembersEdit, NoExecLoosens, VeilsStand}
-use Rattle.pua_ever.specs.Through.{GoAlong, bound_of, ever_lasting, ever_through, execs_of, has_exec, is_bounded}
+use Rattle.pua_ever.specs.ShownForEver.{execs_shown, only_inside, shown_ever, shown_lasting, shown_longest}
+use Rattle.pua_ever.specs.Through.{GoAlong, bound_of, ever_through, has_exec, is_bounded}
 use Rattle.pua_ever.specs.declared.lasting_list.ExecBound.TheVariants.{Open}
 
--- a descriptor leads nowhere else: its file is no directory, or a directory that stays in the root
-abbrev pub is_held_inside : Tree → ℕ → OpenFile → Bool
-is_held_inside t root file = not (is_directory file) || stays_in t root file.node
-
--- the root lives, the working directory and each directory that a descriptor stands for stay in it, and the promise isn't held by which the
--- root could be changed. Who never pledged holds it; and who pledged can take no directory from another process
-abbrev pub is_enclosed_for_ever : Tree → ProcessState → Bool
-is_enclosed_for_ever t h =
-    is_dir t (root_dir h)
-    && (stays_in t (root_dir h) (working_dir h)
-    && (list_all (λ held. is_held_inside t (root_dir h) held.1) h.files && not (holds (held_set h) id)))
-
--- and what it starts is so too, if it holds these promises
+-- what it starts is so too, if it holds these promises
 abbrev pub is_enclosed_through : Tree → ProcessState → ℕ → Bool
 is_enclosed_through t h given = is_enclosed_for_ever t h && not (holds given id)
 
--- what a line is about is at or below the root; what can be made is made there
-abbrev pub is_inside : Tree → ℕ → Thing → Bool
-is_inside t root (Stands subject) = is_within t (dir_of subject) root
-is_inside t root (Comes new) = true
-
-abbrev pub only_inside : Tree → ℕ → List EverLine → List EverLine
-only_inside t root lines = filter (λ line. is_inside t root line.thing) lines
-
--- all that can ever be touched, cut at the root of a process that is enclosed for ever
-abbrev pub shown_ever : Tree → CallTable → ProcessState → List EverLine
-shown_ever t table h = if is_enclosed_for_ever t h then only_inside t (root_dir h) (ever t table h) else ever t table h
-
--- where something can be started, it doesn't hold that promise either
-abbrev pub starts_lack : Tree → CallTable → ProcessState → Bool
-starts_lack t table h = by (bound_of table h)
-  where
-    by : Option ℕ → Bool
-    by None = true
-    by (Some given) = not (has_exec (ever t table h)) || not (holds given id)
-
--- the list that holds longest, cut
-abbrev pub shown_lasting : Tree → CallTable → ProcessState → List EverLine
-shown_lasting t table h =
-    if is_enclosed_for_ever t h && starts_lack t table h then only_inside t (root_dir h) (ever_lasting t table h)
-    else ever_lasting t table h
-
 -- The laws.
-
--- who is enclosed now, and lacks that promise, is so for ever
-abbrev pub EnclosedBegins : Type 0
-EnclosedBegins = (t : Tree) (h : ProcessState) → IsTrue (is_enclosed t h) → IsFalse (holds (held_set h) id) → IsTrue (is_enclosed_for_ever t h)
 
 -- what is left of a tree by requests of those whose paths stay in a root: rows whose directory is outside of it stay; a directory of
 -- then is at or below it as it was, or was made there; what stands in a row at or below it stood in one before, or was made; and no
@@ -156,17 +116,40 @@ EverInside =
     HasKept after member (λ last. IsEnclosedIn after.tree root last
     × ForeseesInside root (only_inside w.tree root (ever w.tree (tmp_table table) now)) w.tree (tmp_table table) now after.tree last)
 
--- so of a process that can put no veil any more, and what it forks from now on
+-- the paths of a process start in what a list shows, and so do those from each directory that it has open
+pub record PathsStartIn (shown : Shown) (later : Tree) (last : ProcessState) : Type 0 where
+  pub own : StartsIn later shown (start last)
+  pub open_files : (number : ℕ) (file : OpenFile) → Contains last.files (number, file) → IsTrue (is_directory file) →
+      StartsIn later shown (record { root = root_dir last; dir = file.node })
+
+-- over a later tree: that is so, and whatever path is spelled from wherever it is, if a call is allowed on it to the process, the line of
+-- what it names has the call
+pub record ForeseesShown (shown : Shown) (lines : List EverLine) (t : Tree) (table : CallTable) (now : ProcessState) (later : Tree) (last : ProcessState) :
+    Type 0 where
+  pub starts : PathsStartIn shown later last
+  pub foresees : (from : Start) → StartsIn later shown from → (call : Call) (text : List ℕ) →
+      let named = resolution_of_text later from (ending_of call) text (last_of call) in
+      verdict_of later table last call named ≡ Allowed → IsForeseenIn lines t now later call named
+
+-- so of a process that can put no veil any more, and what it forks from now on: of the list that is cut where the process is enclosed for
+-- ever, and whole where it isn't
 abbrev pub EverShown : Type 0
 EverShown =
     (table : CallTable) → NoCallNeedsError table → EditsNeedC table →
     (w : World) (asks : List Asked) (process : ℕ) (now : ProcessState) →
-    kept_at w process ≡ Some now → IsConfined now → IsTrue (is_enclosed_for_ever w.tree now) → VeilsStand w.tree now →
+    kept_at w process ≡ Some now → IsConfined now → VeilsStand w.tree now →
     TreesAlong table w asks → IsTrue (none_done is_exec table w asks (process ∷ [])) → MembersEdit table w asks (process ∷ []) →
     (member : ℕ) → IsTrue (is_member (family table w asks (process ∷ [])) member) →
     let after = world_after table w asks in
-    HasKept after member (λ last. IsEnclosedIn after.tree (root_dir now) last
-    × ForeseesInside (root_dir now) (shown_ever w.tree (tmp_table table) now) w.tree (tmp_table table) now after.tree last)
+    HasKept after member (ForeseesShown (shown_for_ever w.tree now) (shown_ever w.tree (tmp_table table) now) w.tree (tmp_table table) now after.tree)
+
+-- no line that is shown has `exec`: then no exec of a member can be answered ok, whatever others ask for that leaves the tree as it is
+abbrev pub WithoutShownExec : Type 0
+WithoutShownExec =
+    (table : CallTable) → NoCallNeedsError table → EditsNeedC table →
+    (w : World) (asks : List Asked) (process : ℕ) (now : ProcessState) →
+    kept_at w process ≡ Some now → IsConfined now → VeilsStand w.tree now → TreesAlong table w asks → MembersEdit table w asks (process ∷ []) →
+    IsFalse (has_exec (shown_ever w.tree (tmp_table table) now)) → IsTrue (none_done is_exec table w asks (process ∷ []))
 
 -- through execs: of processes that go along with one, and act within what it holds and what it hands down, neither of which is that promise
 abbrev pub InsideThroughExecs : Type 0
@@ -181,19 +164,18 @@ InsideThroughExecs =
     HasKept after member (λ last. IsEnclosedIn after.tree root last
     × ForeseesInside root (only_inside w.tree root (ever_through w.tree (tmp_table table) now given)) w.tree (tmp_table table) now after.tree last)
 
--- the list that holds longest, as long as it doesn't say `exec open`, or no exec of theirs is answered ok
+-- so of the list that holds longest, as long as it doesn't say `exec open`, or no exec of theirs is answered ok
 abbrev pub EverShownLasts : Type 0
 EverShownLasts =
     (table : CallTable) → NoCallNeedsError table → EditsNeedC table →
     (w : World) (asks : List Asked) (process : ℕ) (now : ProcessState) →
-    kept_at w process ≡ Some now → IsConfined now → IsTrue (is_enclosed_for_ever w.tree now) →
-    IsTrue (starts_lack w.tree (tmp_table table) now) → VeilsStand w.tree now → TreesAlong table w asks →
-    (execs_of w.tree (tmp_table table) now ≢ Open) ⊎ IsTrue (none_done is_exec table w asks (process ∷ [])) →
+    kept_at w process ≡ Some now → IsConfined now → VeilsStand w.tree now → TreesAlong table w asks →
+    (execs_shown w.tree (tmp_table table) now ≢ Open) ⊎ IsTrue (none_done is_exec table w asks (process ∷ [])) →
     MembersEdit table w asks (process ∷ []) →
     (member : ℕ) → IsTrue (is_member (family table w asks (process ∷ [])) member) →
     let after = world_after table w asks in
-    HasKept after member (λ last. IsEnclosedIn after.tree (root_dir now) last
-    × ForeseesInside (root_dir now) (shown_lasting w.tree (tmp_table table) now) w.tree (tmp_table table) now after.tree last)
+    HasKept after member (ForeseesShown (shown_longest w.tree (tmp_table table) now) (shown_lasting w.tree (tmp_table table) now)
+    w.tree (tmp_table table) now after.tree)
 
 -- a listing and a script as a command reads them by any rules, and behind them any list of requests in bytes
 abbrev pub EverShownAfterRead : Type 0
@@ -203,11 +185,10 @@ EverShownAfterRead =
     listing tree_bytes ≡ Ok t → script_by rules script_bytes ≡ Ok before → IsTrue (are_in_bytes asks) →
     let w = world_after table (new_world t) before in
     (process : ℕ) (now : ProcessState) →
-    kept_at w process ≡ Some now → IsConfined now → IsTrue (is_enclosed_for_ever w.tree now) →
-    IsTrue (starts_lack w.tree (tmp_table table) now) →
-    (execs_of w.tree (tmp_table table) now ≢ Open) ⊎ IsTrue (none_done is_exec table w asks (process ∷ [])) →
+    kept_at w process ≡ Some now → IsConfined now →
+    (execs_shown w.tree (tmp_table table) now ≢ Open) ⊎ IsTrue (none_done is_exec table w asks (process ∷ [])) →
     MembersEdit table w asks (process ∷ []) →
     (member : ℕ) → IsTrue (is_member (family table w asks (process ∷ [])) member) →
     let after = world_after table w asks in
-    HasKept after member (λ last. IsEnclosedIn after.tree (root_dir now) last
-    × ForeseesInside (root_dir now) (shown_lasting w.tree (tmp_table table) now) w.tree (tmp_table table) now after.tree last)
+    HasKept after member (ForeseesShown (shown_longest w.tree (tmp_table table) now) (shown_lasting w.tree (tmp_table table) now)
+    w.tree (tmp_table table) now after.tree)

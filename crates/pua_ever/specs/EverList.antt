@@ -1,6 +1,6 @@
 -- The rows of a list for ever as a vector: each says how many names of the row before lead to it.
-use Rattle.std.specs.Prelude.{◌≡◌, ⊤, ℕ, true, List, [], ◌∷◌, ◌++◌, filter, flat_map, map, take, Option, Some, None, IfSome, is_some, option_map}
-use Rattle.pua_tree.specs.Tree.{Tree, Spot, look}
+use Rattle.std.specs.Prelude.{◌≡◌, ⊤, ℕ, Bool, true, List, [], ◌∷◌, ◌++◌, filter, flat_map, map, take, Option, Some, None, IfSome, is_some, option_map}
+use Rattle.pua_tree.specs.Tree.{Tree, Spot, is_within, look}
 use Rattle.pua_path.specs.declared.found.Found.TheVariants.{Slot, Whole}
 use Rattle.pua_path.specs.declared.found.Way.TheVariants.{Named, Top}
 use Rattle.pua_policy.specs.declared.answer.Cover.{Cover}
@@ -8,15 +8,16 @@ use Rattle.pua_policy.specs.declared.object.Object.{Object}
 use Rattle.pua_calls.specs.Calls.{CallTable}
 use Rattle.pua_calls.specs.CallSets.{has}
 use Rattle.pua_calls.specs.declared.call.Call.{Call}
-use Rattle.pua_policy.specs.States.{ProcessState}
+use Rattle.pua_policy.specs.States.{ProcessState, root_dir}
 use Rattle.pua_audit.specs.Reach.{Word}
 use Rattle.pua_objects.specs.Items.{SubjectFits, cover_on, object_on, subject_given}
 use Rattle.pua_objects.specs.ListItems.{items_told, last_name, last_word, with_name}
 use Rattle.pua_objects.specs.Objects.{At, Others, Subject}
 use Rattle.pua_objects.specs.declared.kind.ObjectKind.TheVariants as kind
 use Rattle.pua_objects.specs.declared.list.ListItem.{ListItem}
-use Rattle.pua_ever.specs.Ever.{Thing, EverLine, Stands, Comes, has_ever_calls, is_ever_allowed}
+use Rattle.pua_ever.specs.Ever.{Thing, EverLine, Stands, Comes, has_ever_calls, is_ever_allowed, own_spot}
 use Rattle.pua_ever.specs.EverLines.{IsThing, both_of, ever_lines_of, line_with, made_left, new_of}
+use Rattle.pua_ever.specs.ShownForEver.{is_inside}
 use Rattle.pua_ever.specs.declared.line.EverThing.TheVariants as told
 use Rattle.pua_ever.specs.declared.list.EverAbout.{EverAbout}
 use Rattle.pua_ever.specs.declared.list.EverAbout.TheVariants as ever_about
@@ -53,11 +54,11 @@ own_name row = option_map (λ name. name.now) row.name
 abbrev pub thing_of : Tree → EverRow → Option Thing
 thing_of t row = thing_by t (own_name row) row.about
 
--- what rows are about, with their names
-abbrev pub about_of : EverRow → Option (List ℕ) × EverAbout
-about_of row = (own_name row, row.about)
+-- what rows are about, with their names and marks
+abbrev pub about_of : EverRow → Option (List ℕ) × EverAbout × Bool
+about_of row = (own_name row, row.about, row.inside)
 
-abbrev pub abouts : List EverRow → List (Option (List ℕ) × EverAbout)
+abbrev pub abouts : List EverRow → List (Option (List ℕ) × EverAbout × Bool)
 abouts rows = map about_of rows
 
 -- rows tell these lines but for the rest: one each, but for those without calls
@@ -81,8 +82,17 @@ IsAboutOn t h name (ever_about.Stands at object cover) = IfSome (subject_at t na
 IsAboutOn t h name (ever_about.Freed dir) = IfSome name (λ own. is_some (look t dir own) ≡ true)
 IsAboutOn t h name (ever_about.Comes made) = ⊤
 
+-- a row says whether what it is about is at or below a root
+abbrev pub IsMarked : Tree → ℕ → EverRow → Type 0
+IsMarked t root row = (about : Thing) → thing_of t row ≡ Some about → row.inside ≡ is_inside t root about
+
+-- and it says so of the root of the process
 abbrev pub IsRowOn : Tree → ProcessState → EverRow → Type 0
-IsRowOn t h row = IsAboutOn t h (own_name row) row.about
+IsRowOn t h row = IsAboutOn t h (own_name row) row.about × IsMarked t (root_dir h) row
+
+-- whether the name at which an item stands is in a directory at or below the root
+abbrev pub IsOwnInside : Tree → ProcessState → ListItem → Bool → Type 0
+IsOwnInside t h item inside = (spot : Spot) → own_spot (subject_given t item.item.subject) ≡ Some spot → inside ≡ is_within t spot.0 (root_dir h)
 
 -- the calls of a row are those that can ever be allowed on what an item is about
 pub record IsStandsRow (t : Tree) (table : CallTable) (h : ProcessState) (item : ListItem) (row : EverRow) : Type 0 where

@@ -11,13 +11,13 @@ use Rattle.pua_ever.specs.Ever.{ever, ever_line_text}
 use Rattle.pua_ever.specs.Through.{ever_lasting, execs_of}
 use Rattle.pua_ever.specs.declared.lasting_list.ExecBound.TheVariants as told
 
-abbrev directory : Node
+abbrev pub directory : Node
 directory = record { kind = Dir; target = None }
 
-abbrev file : Node
+abbrev pub file : Node
 file = record { kind = File; target = None }
 
-abbrev program : Node
+abbrev pub program : Node
 program = record { kind = Prog; target = None }
 
 -- `/in` has c, `/out` has rc, and the program `/p` the letters

@@ -82,7 +82,8 @@ gather_all files (h ∷ more) = gather_all (gather files h.files) more
 abbrev pub files_together : ProcessState → List ProcessState → List (ℕ × OpenFile)
 files_together first more = gather_all (gather [] first.files) more
 
--- the one that holds and hands down all of it, with the veils of the first; it can put none, as none of them can
+-- the one that holds and hands down all of it, with the veils of the first; it can put none, as none of them can. Its root is that of the
+-- tree: of a list of several the whole is shown
 abbrev pub process_by : ProcessState → List (ℕ × OpenFile) → Joint → ProcessState
 process_by first files joint =
     let held = bit_or (held_set first) joint.held in
@@ -91,6 +92,7 @@ process_by first files joint =
       execpromises = confined_part joint.locked held joint.given;
       locked = true;
       files = files;
+      start = record first.start { root = 0 };
     }
 
 abbrev pub joined : CallTable → ProcessState → List ProcessState → ProcessState

@@ -9,7 +9,7 @@ use crate::gathering::open_together;
 use crate::lasting::is_promised;
 use pua_calls::{Call, CallTable, Promises, Rules};
 use pua_policy::Process;
-use pua_tree::OutOfMemory;
+use pua_tree::{NodeId, OutOfMemory};
 use std::alloc::Global;
 
 /// Some processes as one: whether all of them are locked, what any of them holds, and what any of
@@ -26,6 +26,7 @@ struct Joint {
 /// that can start a program. It hands nothing down where one of these has no execpromises, or a
 /// program could put veils. What any of them has open it has open: one file of each node, with the
 /// letters of all, under the number of the node, since the descriptors of several may be the same.
+/// Its root is that of the tree, so that its list is of the whole tree.
 /// That the processes live, have the same veils and can put no more is for the caller to see to.
 /// The only error is that a growth was refused.
 pub fn join(
@@ -43,6 +44,7 @@ pub fn join(
     let given = confined_part(joint.locked, one.held(), joint.given);
     // It hands nothing down so far, so nothing refuses this.
     let _given = one.pledge(Rules::Standard, None, given);
+    one.set_root(NodeId::ROOT);
     one.lock();
     Ok(one)
 }

@@ -2,7 +2,7 @@
 
 ghost use Rattle.pua_ever.specs.ComingExamples.{ComingRows};
 ghost use Rattle.pua_ever.specs.EnclosedExamples.{EnclosedRows};
-ghost use Rattle.pua_ever.specs.EnclosedForEver.{EnclosedBegins, EnclosedStay};
+ghost use Rattle.pua_ever.specs.EnclosedForEver.{EnclosedStay, WithoutShownExec};
 ghost use Rattle.pua_ever.specs.EnclosedForEver.{EnclosedThroughExecs, EnclosedWithExecs};
 ghost use Rattle.pua_ever.specs.EnclosedForEver.{EverInside, EverShown, EverShownAfterRead};
 ghost use Rattle.pua_ever.specs.EnclosedForEver.{EverShownLasts, InsideThroughExecs};
@@ -130,14 +130,15 @@ pub fn together_examples()
 /// below it was there, or was made there. So it is of several processes with one root, and through
 /// execs, where all that is started is bounded and lacks that promise. Each call that is then
 /// allowed to one of them, on a path that it can spell, has its line in the list of the beginning,
-/// cut at the root, and so after a listing and a script as a command reads them.
+/// cut at the root where they are so, and so after a listing and a script as a command reads them.
+/// Where no line of that list has an exec, none can succeed.
 pub fn enclosed_law()
-    ensures begins { EnclosedBegins }
     ensures stay { EnclosedStay }
     ensures many { EnclosedWithExecs }
     ensures through { EnclosedThroughExecs }
     ensures inside { EverInside }
     ensures shown { EverShown }
+    ensures exec { WithoutShownExec }
     ensures inside_through { InsideThroughExecs }
     ensures lasts { EverShownLasts }
     ensures after_read { EverShownAfterRead }

@@ -19,7 +19,8 @@ ghost use Rattle.pua_ever.specs.Ever.{Comes, Stands, can_make, ever, is_new_allo
 ghost use Rattle.pua_ever.specs.Ever.{own_spot};
 ghost use Rattle.pua_ever.specs.EverLines.{IsThing, new_of};
 ghost use Rattle.pua_ever.specs.EverList.{AreEverTold, AreRowsBut, AreRowsSoFar, IsFreedRow};
-ghost use Rattle.pua_ever.specs.EverList.{IsRowAt, IsRowOn, IsStandsRow, subject_at, thing_of};
+ghost use Rattle.pua_ever.specs.EverList.{IsOwnInside, IsRowAt, IsRowOn, IsStandsRow, subject_at};
+ghost use Rattle.pua_ever.specs.EverList.{thing_of};
 ghost use Rattle.pua_ever.specs.Laws.{EditsNeedC};
 ghost use Rattle.pua_ever.specs.Prospects.{AreOnFreed, IsProspects, own_given};
 ghost use Rattle.pua_ever.specs.Refusals.{refusal as refusal_of, refusal_in};
@@ -47,6 +48,8 @@ pub struct EverRow<'t> {
     pub about: EverAbout,
     /// What the line says that it is, and its calls.
     pub line: EverLine,
+    /// Whether it is about something at or below the root of the process, or about what can be made.
+    pub inside: bool,
 }
 
 /// What a line of the list for ever is about. A name that it speaks of is that of its row.
@@ -221,6 +224,7 @@ fn stands_row<'t, T: FileTree>(
             thing: EverThing::Stands(kind_of(own)),
             calls: prospects.calls_on(tree, process, table, own),
         },
+        inside: item.inside,
     }
 }
 
@@ -251,6 +255,8 @@ fn freed_row<'t>(
         IsProspects t table.now process.now prospects.now → IsToldIn t process.now item.now →
         AreOnFreed t table.now process.now (own_spot
         (subject_given t item.now.item.subject)) row.line.calls) }
+    ensures inside { IfSome result (λ row. (t : Tree) → WellFormed t →
+        IsToldIn t process.now item.now → IsOwnInside t process.now item.now row.inside) }
 {
     let Some(own) = own_name(&item.item) else {
         return None;
@@ -264,13 +270,26 @@ fn freed_row<'t>(
             thing: EverThing::Stands(ObjectKind::Missing),
             calls,
         },
+        inside: own_inside(process, item),
     })
+}
+
+/// Whether the name at which an item stands, if it has one, is in a directory at or below the root of
+/// the process: whether the item is, and is not the root.
+pub fn own_inside(process: &Process, item: &ListItem<'_>) -> bool
+    ensures { (t : Tree) → WellFormed t → IsToldIn t process.now item.now →
+        IsOwnInside t process.now item.now result }
+{
+    match item.item.subject {
+        Subject::Dir(id, _, _) => item.inside && id != process.start().root,
+        _ => item.inside,
+    }
 }
 
 /// The row of what can be made.
 fn made_row<'t>(prospects: &Prospects, made: Made) -> EverRow<'t>
     ensures at { (result.depth ≡ 0) × (result.name ≡ None) }
-    ensures about { result.about ≡ EverAbout.Comes made }
+    ensures about { (result.about ≡ EverAbout.Comes made) × (result.inside ≡ true) }
     ensures thing { (t : Tree) → IsThing t (Comes (new_of made)) result.line.thing }
     ensures calls { (t : Tree) (table : Table) (h : ProcessState) →
         IsProspects t table h prospects.now → (call : AnyCall) → has result.line.calls call
@@ -285,6 +304,7 @@ fn made_row<'t>(prospects: &Prospects, made: Made) -> EverRow<'t>
             thing: EverThing::Comes(made.kind()),
             calls: prospects.calls_on_made(made),
         },
+        inside: true,
     }
 }
 

@@ -16,11 +16,24 @@ use std::collections::BTreeSet;
 
 /// The numbers of the nodes that a process holds open so that it can write them or set their modes.
 /// The only error is that a growth was refused.
-pub fn turned_nodes(alloc: Global, process: &Process) -> Result<BTreeSet<u32>, OutOfMemory>
+pub(crate) fn turned_nodes(alloc: Global, process: &Process) -> Result<BTreeSet<u32>, OutOfMemory>
     ensures { IfOk result (IsTurnedSet process.now) }
 {
+    turned_by(alloc, process, process.held().contains(Promises::FATTR))
+}
+
+/// The numbers of the nodes that a process holds open so that they can be made programs, by whether
+/// the modes of all that it holds open can be set: else of those alone that it can write. The only
+/// error is that a growth was refused.
+pub fn turned_by(
+    alloc: Global,
+    process: &Process,
+    sets_modes: bool,
+) -> Result<BTreeSet<u32>, OutOfMemory>
+    ensures { IfOk result (λ nodes. (node : ℕ) → contains nat_cmp nodes node
+        ≡ list_any (is_turned_by sets_modes node) process.now.files) }
+{
     let files = process.files(alloc)?;
-    let sets_modes = process.held().contains(Promises::FATTR);
     match turned_among(alloc, &files, sets_modes) {
         Ok(nodes) => Ok(nodes),
         Err(AllocError) => Err(OutOfMemory),

@@ -26,9 +26,11 @@ use Rattle.pua_ever.specs.Through.{EverLasts, ever_lasting}
 use Rattle.pua_ever.proofs.ForCallers.{beside_one}
 use Rattle.pua_how.specs.Targets.{IsGiven, is_listed, is_of}
 use Rattle.pua_how.specs.declared.target.Target.{Target}
-use Rattle.pua_how.specs.Laws.{NeverComes, NeverComesThrough, WaysAreListed}
+use Rattle.pua_ever.specs.EnclosedForEver.{EverShownLasts}
+use Rattle.pua_ever.specs.ShownForEver.{shown_lasting}
+use Rattle.pua_how.specs.Laws.{NeverComes, NeverComesShown, NeverComesThrough, WaysAreListed}
 use Rattle.pua_how.proofs.LineOfTarget.{line_about, listed_by, same_veils_same}
-use Rattle.pua_how.proofs.Lived.{LivesThing, lasting_lives, listed_lives}
+use Rattle.pua_how.proofs.Lived.{LivesThing, lasting_lives, listed_lives, shown_lives}
 use Rattle.pua_ever.specs.Ever.{EverLine, ever}
 use Rattle.pua_path.specs.declared.found.Start.{Start}
 use Rattle.pua_script.specs.declared.request.Action.TheVariants.{Chroot}
@@ -39,19 +41,30 @@ same_ok a b e = cc
 same_some : {A : Type 0} (a b : A) → Some a ≡ Some b → a ≡ b
 same_some a b e = cc
 
--- what no line has is not allowed where each call that is allowed has its line
-pub unforeseen : (lines : List EverLine) (t u : Tree) (table : CallTable) (now last : ProcessState) → WellFormed t →
-    ((line : EverLine) → Contains lines line → LivesThing t line.thing) → ForeseesIn lines t table now u last →
-    (asked : Target) (call : Call) → IsGiven t asked → is_listed lines asked call ≡ false →
-    (from : Start) (text : List ℕ) (object : Found) → resolution_of_text u from (ending_of call) text (last_of call) ≡ Ok object →
+-- what no line has is not allowed on a path on which what is allowed has its line
+pub unforeseen_by : (lines : List EverLine) (t u : Tree) (table : CallTable) (now last : ProcessState) → WellFormed t →
+    ((line : EverLine) → Contains lines line → LivesThing t line.thing) →
+    (asked : Target) (call : Call) → IsGiven t asked → is_listed lines asked call ≡ false → (from : Start) (text : List ℕ) →
+    (let named = resolution_of_text u from (ending_of call) text (last_of call) in
+    verdict_of u table last call named ≡ Allowed → IsForeseenIn lines t now u call named) →
+    (object : Found) → resolution_of_text u from (ending_of call) text (last_of call) ≡ Ok object →
     is_of u now asked object ≡ true → verdict u table last call object ≡ Allowed → ⊥
-unforeseen lines t u table now last well live foresees asked call given unlisted from text object named same allowed =
+unforeseen_by lines t u table now last well live asked call given unlisted from text foresees object named same allowed =
     let foreseen : IsForeseenIn lines t now u call (resolution_of_text u from (ending_of call) text (last_of call)) =
-    foresees from call text (ap (verdict_of u table last call) named ∙ allowed) in
+    foresees (ap (verdict_of u table last call) named ∙ allowed) in
     let is : foreseen.object ≡ object = same_ok foreseen.object object (sym foreseen.names ∙ named) in
     false≢true (sym unlisted ∙ listed_by lines asked call foreseen.line foreseen.listed
     (line_about t u now well asked given foreseen.line.thing (live foreseen.line foreseen.listed)
     foreseen.object foreseen.about (ap (is_of u now asked) is ∙ same)) foreseen.allows)
+
+-- nor on any where all have
+unforeseen : (lines : List EverLine) (t u : Tree) (table : CallTable) (now last : ProcessState) → WellFormed t →
+    ((line : EverLine) → Contains lines line → LivesThing t line.thing) → ForeseesIn lines t table now u last →
+    (asked : Target) (call : Call) → IsGiven t asked → is_listed lines asked call ≡ false →
+    (from : Start) (text : List ℕ) (object : Found) → resolution_of_text u from (ending_of call) text (last_of call) ≡ Ok object →
+    is_of u now asked object ≡ true → verdict u table last call object ≡ Allowed → ⊥
+unforeseen lines t u table now last well live foresees asked call given unlisted from text =
+    unforeseen_by lines t u table now last well live asked call given unlisted from text (foresees from call text)
 
 pub never_comes : NeverComes
 never_comes table sound needs w asks process now here confined stand trees none edit asked call given unlisted member belongs =
@@ -73,6 +86,20 @@ never_comes_through lasts table sound needs w asks process now bound here bounde
       last.1,
       unforeseen (ever_lasting w.tree tmp now) w.tree (world_after table w asks).tree tmp now last.0 well
           (lasting_lives w.tree tmp now well) last.2 asked call given unlisted,
+    )
+
+pub never_comes_shown : EverShownLasts → NeverComesShown
+never_comes_shown lasts table sound needs w asks process now here confined stand trees held edit asked call given unlisted member belongs =
+    let tmp = tmp_table table in
+    let last = lasts table sound needs w asks process now here confined stand trees held edit member belongs in
+    let well = first_tree table w asks trees in (
+      last.0,
+      last.1,
+      (
+        last.2.starts,
+        λ from within text. unforeseen_by (shown_lasting w.tree tmp now) w.tree (world_after table w asks).tree tmp now last.0 well
+            (shown_lives w.tree tmp now well) asked call given unlisted from text (last.2.foresees from within call text),
+      ),
     )
 
 -- requests of one process alone are of its family, and do what it does

@@ -8,8 +8,9 @@ use Rattle.pua_policy.specs.States.{ProcessState}
 use Rattle.pua_audit.specs.Reach.{Word}
 use Rattle.pua_objects.specs.Objects.{Subject, At, Others}
 use Rattle.pua_ever.specs.Ever.{Thing, Stands, Comes, EverLine, ever}
+use Rattle.pua_ever.specs.ShownForEver.{shown_lasting}
 use Rattle.pua_ever.specs.Through.{ever_lasting}
-use Rattle.pua_how.proofs.NamesLeadToThing.{IsPlaced, lasting_placed, listed_placed}
+use Rattle.pua_how.proofs.NamesLeadToThing.{IsPlaced, lasting_placed, listed_placed, shown_placed}
 
 module _ (t : Tree) where
   -- a directory lives, and so does that of further names
@@ -35,3 +36,7 @@ module _ (t : Tree) where
 pub lasting_lives : (t : Tree) (table : CallTable) (h : ProcessState) → WellFormed t → (line : EverLine) →
     Contains (ever_lasting t table h) line → LivesThing t line.thing
 lasting_lives t table h well line listed = placed_lives t h line.word line.thing (lasting_placed t table h well line listed)
+
+pub shown_lives : (t : Tree) (table : CallTable) (h : ProcessState) → WellFormed t → (line : EverLine) →
+    Contains (shown_lasting t table h) line → LivesThing t line.thing
+shown_lives t table h well line listed = placed_lives t h line.word line.thing (shown_placed t table h well line listed)

@@ -19,11 +19,13 @@ use Rattle.pua_objects.specs.declared.kind.ObjectKind.TheVariants as kind
 use Rattle.pua_ever.specs.Ever.{Thing, Stands, Comes, New, NewDir, NewOthers, NewFile, NewLink, new_word}
 use Rattle.pua_how.specs.PathQuestion.{question_by, directory_at_name, is_of_kind, own_name, targets_at, targets_by, targets_in, targets_new}
 use Rattle.pua_how.specs.PathQuestion.{targets_of, thing_word}
+use Rattle.pua_ever.specs.ShownForEver.{shown_lasting}
+use Rattle.pua_ever.specs.Through.{ever_lasting}
 use Rattle.pua_how.specs.Laws.{LinesMeanTheirOwn}
 use Rattle.pua_how.specs.Targets.{target_about}
 use Rattle.pua_how.specs.declared.target.Target.{Target}
 use Rattle.pua_how.specs.declared.target.Target.TheVariants as target
-use Rattle.pua_how.proofs.NamesLeadToThing.{IsDirBy, IsPlaced, lasting_placed, spot_by, spot_in}
+use Rattle.pua_how.proofs.NamesLeadToThing.{IsDirBy, IsPlaced, lasting_placed, shown_placed, spot_by, spot_in}
 
 -- ---- kinds
 
@@ -187,6 +189,10 @@ module _ (t : Tree) (h : ProcessState) where
       (meant_at kind.Missing word dir name (target.Name dir name) placed.0 (own_alone dir name placed.1))
   meant word (Comes new) placed one told last = new_meant last new one told
 
-pub lines_mean_their_own : LinesMeanTheirOwn
-lines_mean_their_own t table h well line listed one told last =
+pub lasting_mean_their_own : LinesMeanTheirOwn ever_lasting
+lasting_mean_their_own t table h well line listed one told last =
     meant t h line.word line.thing (lasting_placed t table h well line listed) one told last
+
+pub shown_mean_their_own : LinesMeanTheirOwn shown_lasting
+shown_mean_their_own t table h well line listed one told last =
+    meant t h line.word line.thing (shown_placed t table h well line listed) one told last

@@ -24,7 +24,12 @@ use Rattle.pua_objects.specs.Objects.{Subject, At, Others, Item, entries, items,
 use Rattle.pua_objects.proofs.ForCallers.{Among, among_contained, among_either, contained, filter_among, flat_among, map_among}
 use Rattle.pua_ever.specs.Ever.{Thing, Stands, Comes, EverLine, all_new, ever, ever_line, freed_at, has_ever_calls, names_to_free}
 use Rattle.pua_ever.specs.Ever.{is_free, may_edit, new_line, own_spot, subjects_of}
+use Rattle.pua_objects.specs.Roots.{shown_for_ever}
+use Rattle.pua_objects.specs.declared.roots.Shown.{Shown}
+use Rattle.pua_objects.specs.declared.roots.Shown.TheVariants.{All, Below}
+use Rattle.pua_ever.specs.ShownForEver.{is_inside, lines_shown, shown_ever, shown_lasting}
 use Rattle.pua_ever.specs.Through.{bound_of, ever_lasting, ever_through, has_exec, is_promised_by_one, let_through}
+use Rattle.pua_ever.proofs.ForCallers.{shown_bounded, shown_unbounded, shown_unstarted}
 use Rattle.pua_ever.proofs.ForCallers.{lasting_alone, lasting_through, lasting_unbounded}
 use Rattle.pua_how.specs.PathQuestion.{directory_at_name}
 
@@ -277,3 +282,29 @@ lasting_placed t table h well line = by (bound_of table h) refl
     by : (o : Option ℕ) → bound_of table h ≡ o → Placed (ever_lasting t table h)
     by None is = subst Placed (sym (lasting_unbounded t table h is)) (listed_placed t h well table line)
     by (Some given) is = started given is (has_exec (ever t table h)) refl
+
+-- and of what is shown of it
+pub shown_placed : (t : Tree) (table : CallTable) (h : ProcessState) → WellFormed t → (line : EverLine) →
+    Contains (shown_lasting t table h) line → IsPlaced t h line.word line.thing
+shown_placed t table h well line = by (bound_of table h) refl (has_exec (shown_ever t table h)) refl
+  where
+    Placed : List EverLine → Type 0
+    Placed lines = Contains lines line → IsPlaced t h line.word line.thing
+
+    -- what is shown of a list is in it
+    cut : (shown : Shown) (lines : List EverLine) → Placed lines → Placed (lines_shown t shown lines)
+    cut All lines placed there = placed there
+    cut (Below root) lines placed there =
+        placed (contained lines line (filter_among (λ (line : EverLine). is_inside t root line.thing) lines line
+        (among_contained (lines_shown t (Below root) lines) line there)).0)
+
+    own : Placed (shown_ever t table h)
+    own = cut (shown_for_ever t h) (ever t table h) (listed_placed t h well table line)
+
+    by : (o : Option ℕ) → bound_of table h ≡ o → (b : Bool) → has_exec (shown_ever t table h) ≡ b → Placed (shown_lasting t table h)
+    by None is b has = subst Placed (sym (shown_unbounded t table h is)) own
+    by (Some given) is true has =
+        subst Placed (sym (shown_bounded t table h given is has))
+        (cut (shown_for_ever t (with_both h given)) (ever_through t table h given)
+        (through_placed t h well table given (listed_placed t (with_both h given) well table) line))
+    by (Some given) is false has = subst Placed (sym (shown_unstarted t table h has)) own

@@ -23,6 +23,7 @@ use Rattle.pua_script.specs.declared.request.Action.TheVariants.{OnPath, Link}
 use Rattle.pua_objects.specs.declared.kind.ObjectKind.TheVariants as kind
 use Rattle.pua_objects.specs.Objects as objects
 use Rattle.pua_ever.specs.Ever.{Stands, Comes, NewLink}
+use Rattle.pua_ever.specs.ShownForEver.{shown_lasting}
 use Rattle.pua_ever.specs.Through.{ever_lasting}
 use Rattle.pua_how.specs.PathQuestion.{Standing, Making, path_question, targets_of}
 use Rattle.pua_how.specs.Targets.{is_listed, is_of, target_about}
@@ -256,6 +257,10 @@ step_rows = record {
   no_step = refl;
 }
 
+-- the root is `/run`, and this the working directory
+abbrev pub run_rooted : ℕ → ProcessState
+run_rooted dir = record pid_now { start = record { root = 3; dir = dir } }
+
 -- lines of the list for ever about it that have a call: by OpenBSD's rules the file can come to be written, by a further name, and
 -- by the standard ones it can't; a name with a veil can come to be free; tmppath lets a file go. And what lines are about
 pub record ListedRows : Type 0 where
@@ -264,6 +269,10 @@ pub record ListedRows : Type 0 where
   pub of_the_name : is_listed (ever_lasting pid_tree standard_table pid_now) (target.Name 3 (codes "pid")) call.Create ≡ true
   pub of_no_name : is_listed (ever_lasting pid_tree standard_table pid_now) (target.Others 3) call.Create ≡ false
   pub by_tmppath : is_listed (ever_lasting tmp_tree (tmp_table openbsd_table) tmp_now) (target.Node 2) call.Unlink ≡ true
+  -- where `/run` is the root of who lacks `id`, nothing outside of it ever comes, and what is inside does
+  pub below_root : is_listed (shown_lasting pid_tree openbsd_table (run_rooted 3)) (target.Node 4) call.OpenWrite ≡ true
+  pub outside_root : is_listed (shown_lasting pid_tree openbsd_table (run_rooted 3)) (target.Node 2) call.OpenRead ≡ false
+  pub open_root : is_listed (shown_lasting pid_tree openbsd_table (run_rooted 0)) (target.Node 2) call.OpenRead ≡ true
   pub what_stands : target_about 4 (Stands (objects.At (Slot 3 (codes "pid") (Some 4)))) ≡ target.Node 4
   pub what_is_freed : target_about 4 (Stands (objects.At (Slot 3 (codes "pid") None))) ≡ target.Name 3 (codes "pid")
   pub what_comes : target_about 4 (Comes NewLink) ≡ target.NewLink 4
@@ -275,6 +284,9 @@ listed_rows = record {
   of_the_name = refl;
   of_no_name = refl;
   by_tmppath = refl;
+  below_root = refl;
+  outside_root = refl;
+  open_root = refl;
   what_stands = refl;
   what_is_freed = refl;
   what_comes = refl;

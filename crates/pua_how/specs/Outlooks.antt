@@ -8,7 +8,7 @@ use Rattle.pua_calls.specs.CallSets.{has}
 use Rattle.pua_calls.specs.declared.call.Call.{Call}
 use Rattle.pua_policy.specs.States.{ProcessState}
 use Rattle.pua_ever.specs.EverList.{thing_of}
-use Rattle.pua_ever.specs.Through.{ever_lasting, execs_of}
+use Rattle.pua_ever.specs.ShownForEver.{execs_shown, shown_lasting}
 use Rattle.pua_ever.specs.declared.list.EverRow.{EverRow}
 use Rattle.pua_how.specs.Steps.{is_some_by}
 use Rattle.pua_how.specs.Targets.{is_about, is_listed}
@@ -32,7 +32,7 @@ same_target (target.NewFile one) (target.NewFile other) = true
 same_target (target.NewLink one) (target.NewLink other) = true
 same_target _ _ = false
 
--- what the list that holds longest has of some things
+-- what is shown of the list that holds longest has of some things
 pub record IsOutlook (t : Tree) (table : CallTable) (h : ProcessState) (things : List Target) (call : Call) (found : Outlook) : Type 0 where
-  pub listed : found.listed ≡ list_any (λ asked. is_listed (ever_lasting t table h) asked call) things
-  pub execs : found.execs ≡ execs_of t table h
+  pub listed : found.listed ≡ list_any (λ asked. is_listed (shown_lasting t table h) asked call) things
+  pub execs : found.execs ≡ execs_shown t table h

@@ -28,7 +28,7 @@ pub struct Outlook {
 /// Whether a line of the list for ever that holds longest has a call on one of these things. Where
 /// none has, the call is never allowed there to the process and to what it forks by their own
 /// doing, as long as no exec of theirs succeeds, or through every exec where all that they start is
-/// bounded.
+/// bounded; on paths that they can spell, where they can never leave their root.
 pub fn find_outlook<T: FileTree>(
     tree: &T,
     list: &LastingList<'_>,

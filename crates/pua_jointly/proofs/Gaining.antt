@@ -9,7 +9,10 @@ use Rattle.std.proofs.lemmas.List.{get_or-set_same, get_or-set_other, length-set
 use Rattle.std.proofs.lemmas.List.Sums.{sum_by-set}
 use Rattle.std.proofs.lemmas.Nat.{le_or_l}
 use Rattle.std.proofs.lemmas.Nat.Bits.{bit_at_or, bit_at-lt, bit_at-zero}
-use Rattle.pua_jointly.specs.Closing.{has_bit, knows, Step, Reached, reached, AreReached, room}
+use Rattle.std.proofs.Math.Nat.{div-lt_iff_lt-mul, mod-lt, mul-zero}
+use Rattle.std.proofs.lemmas.Nat.{div-add-mod'}
+use Rattle.std.specs.Prelude.{◌*◌, ◌/◌, ◌%◌}
+use Rattle.pua_jointly.specs.Closing.{has_bit, knows, Step, Reached, reached, AreReached, IsClosedAt, room}
 
 -- a bit of either is one of both
 one_of : (x y : ℕ) → x < 2 → y < 2 → (max x y == 1) ≡ ((x == 1) || (y == 1))
@@ -79,17 +82,29 @@ module _ (follows : Step) (told : List ℕ) (at word : ℕ) (low : at < length t
       ≡ sum_by (λ w. 4294967295 - w) told + (4294967295 - now) = sum_by-set (λ w. 4294967295 - w) told at now 0 low in
       omega (arith, sums, more, other, small)
 
--- all words up to this one have what follows
-pub closed_to : (follows : Step) (told : List ℕ) (at : ℕ) → ((bit : ℕ) → follows told at bit → knows told at bit) →
-    ((a : ℕ) → a < at → (bit : ℕ) → follows told a bit → knows told a bit) → (a : ℕ) → a < at + 1 → (bit : ℕ) → follows told a bit →
-    knows told a bit
-closed_to follows told at here below a high = by (a == at) refl
+-- what is so of a number and of all below it is so of all up to it
+pub up_to : (P : ℕ → Type 0) (k : ℕ) → P k → ((a : ℕ) → a < k → P a) → (a : ℕ) → a < k + 1 → P a
+up_to P k here below a high = by (a == k) refl
   where
-    by : (b : Bool) → (a == at) ≡ b → (bit : ℕ) → follows told a bit → knows told a bit
-    by true e = subst (λ n. (bit : ℕ) → follows told n bit → knows told n bit) (sym (eqb-true a at e)) here
+    by : (b : Bool) → (a == k) ≡ b → P a
+    by true e = subst P (sym (eqb-true a k e)) here
     by false e =
-        let other : a ≢ at = λ is. false≢true (sym e ∙ eq-eqb a at is) in
+        let other : a ≢ k = λ is. false≢true (sym e ∙ eq-eqb a k is) in
         below a (omega (arith, high, other))
+
+-- a word at which nothing can come has what follows
+pub never_open : (follows : Step) (told : List ℕ) (at : ℕ) → AreReached follows told →
+    ((count bit : ℕ) → Reached follows count at bit → ⊥) → at < length told → IsClosedAt follows told at
+never_open follows told at all never low bit new = absurd (never (length told) bit (reached told refl all low new))
+
+-- all words of all rows are all words
+pub each_word : (rows columns at : ℕ) → at < rows * columns → (at / columns < rows) × (at % columns < columns) × (at / columns * columns + at % columns ≡ at)
+each_word rows zero at low = absurd (omega (arith, subst (λ n. at < n) (mul-zero rows) low))
+each_word rows (suc columns) at low = (
+  (div-lt_iff_lt-mul {k = suc columns} {x = at} {y = rows} (omega arith)).1 low,
+  mod-lt at (omega arith),
+  div-add-mod' at (suc columns),
+)
 
 pub still_fewer : (changed : Bool) (first told new : List ℕ) → (changed ≡ true → room told < room first) →
     (changed ≡ false → told ≡ first) → room new < room told → room new < room first

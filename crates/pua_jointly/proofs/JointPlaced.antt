@@ -226,7 +226,7 @@ module _ (t : Tree) (table : CallTable) (crew : List ProcessState) (watched : �
   EntityFits Makers = ⊤
   EntityFits (NameAt s) = Among spots s
 
-  abbrev ColumnFits : Column → Type 0
+  abbrev pub ColumnFits : Column → Type 0
   ColumnFits (ByAgent a) = Among crew a
   ColumnFits Common = ⊤
   ColumnFits (Watching y) = Among guarded y
@@ -247,7 +247,7 @@ module _ (t : Tree) (table : CallTable) (crew : List ProcessState) (watched : �
     ]
   ]
 
-  column_fits : (c : Column) → Among cs c → ColumnFits c
+  pub column_fits : (c : Column) → Among cs c → ColumnFits c
   column_fits c a = elim (among_either (map ByAgent crew) (Common ∷ map Watching guarded) c a) [
     | inl b ↦ of_map ColumnFits ByAgent crew (λ m in_crew. in_crew) c b
     | inr (inl b) ↦ subst ColumnFits b tt

@@ -32,11 +32,11 @@ new_is (suc (suc (suc zero))) new e = ap new_bit (same_Some NewLink new e)
 new_is (suc (suc (suc (suc i)))) new e = absurd (None≢Some new e)
 
 -- the row of a fact, and its word and bit there
-abbrev seat_row : Seat → Entity
+abbrev pub seat_row : Seat → Entity
 seat_row (Old d) = DirAt d
 seat_row (Made m) = MadeBy m
 
-abbrev row_of_fact : Kept → Entity
+abbrev pub row_of_fact : Kept → Entity
 row_of_fact (Covers a d k) = seat_row d
 row_of_fact (Enters a d) = seat_row d
 row_of_fact (Lands b a k) = LandingOf b
@@ -49,10 +49,10 @@ row_of_fact (Drops b a k) = DropsOf b
 row_of_fact (Carries (Row spot) a) = NameAt spot
 row_of_fact (Carries (Maker new m) a) = MadeBy m
 
-abbrev IsWatchedAt : ℕ → Column → ℕ → Type 0
+abbrev pub IsWatchedAt : ℕ → Column → ℕ → Type 0
 IsWatchedAt y c bit = (c ≡ Watching y) × (bit ≡ 0)
 
-abbrev IsIn : Kept → Column → ℕ → Type 0
+abbrev pub IsIn : Kept → Column → ℕ → Type 0
 IsIn (Covers a d k) c bit = (c ≡ ByAgent a) × (bit ≡ cover_bit k)
 IsIn (Enters a d) c bit = (c ≡ ByAgent a) × (bit ≡ 18)
 IsIn (Lands b a k) c bit = (c ≡ ByAgent a) × (bit ≡ cover_bit k)
@@ -65,7 +65,7 @@ IsIn (Drops b a k) c bit = (c ≡ ByAgent a) × (bit ≡ cover_bit k)
 IsIn (Carries (Row spot) a) c bit = (c ≡ ByAgent a) × (bit ≡ 0)
 IsIn (Carries (Maker new m) a) c bit = (c ≡ ByAgent a) × (bit ≡ 19 + new_bit new)
 
-abbrev Says : Entity → Column → ℕ → Kept → Type 0
+abbrev pub Says : Entity → Column → ℕ → Kept → Type 0
 Says e c bit x = (row_of_fact x ≡ e) × IsIn x c bit
 
 enters_or_turns : (d : ℕ) (a : ProcessState) (bit j : ℕ) (x : Kept) → bit ≡ 18 + j →
@@ -226,14 +226,14 @@ module _ (crew : List ProcessState) (guarded : List ℕ) where
         by_agent a i j bit other (19 + new_bit new) c e at_i at_j one two
 
 -- what a bit of the table says stands at a row and a column
-record Said (es : List Entity) (cs : List Column) (at bit : ℕ) (x : Kept) : Type 0 where
-  entity : Entity
-  column : Column
-  in_rows : slice_get es (at / length cs) ≡ Some entity
-  in_columns : slice_get cs (at % length cs) ≡ Some column
-  in_word : Says entity column bit x
+pub record Said (es : List Entity) (cs : List Column) (at bit : ℕ) (x : Kept) : Type 0 where
+  pub entity : Entity
+  pub column : Column
+  pub in_rows : slice_get es (at / length cs) ≡ Some entity
+  pub in_columns : slice_get cs (at % length cs) ≡ Some column
+  pub in_word : Says entity column bit x
 
-said : (es : List Entity) (cs : List Column) (at bit : ℕ) (x : Kept) → table_says es cs at bit ≡ Some x → Said es cs at bit x
+pub said : (es : List Entity) (cs : List Column) (at bit : ℕ) (x : Kept) → table_says es cs at bit ≡ Some x → Said es cs at bit x
 said es cs at bit x says = by (slice_get es (at / length cs)) (slice_get cs (at % length cs)) refl refl says
   where
     by : (e : Option Entity) (c : Option Column) → slice_get es (at / length cs) ≡ e → slice_get cs (at % length cs) ≡ c →

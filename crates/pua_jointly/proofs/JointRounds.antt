@@ -208,7 +208,7 @@ module _ (t : Tree) (well : WellFormed t) (table : CallTable) (crew : List Proce
     mark_fits mark among = marks.only mark (contained c₀.marks.items mark among)
 
     -- by a process, and what is asked of it
-    module _ (i : ℕ) (a : ProcessState) (agent : Agent) (by : slice_get crew i ≡ Some a) (is : IsAgent table dirs (length crew) i a agent) where
+    module _ (i : ℕ) (a : ProcessState) (agent : Agent) (by : slice_get crew i ≡ Some a) (is : IsAgent table dirs crew i a agent) where
       among : Contains crew a
       among = contained crew a (got_among crew i a by)
 
@@ -399,7 +399,7 @@ module _ (t : Tree) (well : WellFormed t) (table : CallTable) (crew : List Proce
         let is : parent t d ≡ Some seat = ap (λ b. if b then Some (above t d) else None) lives ∙ ap Some over in
         and_from (not (d == 0)) _ (eq_not d 0 other) (ap (λ p. code.is_parent p seat) is ∙ eq-eqb seat seat refl)
 
-    module _ (i : ℕ) (a : ProcessState) (agent : Agent) (by : slice_get crew i ≡ Some a) (is : IsAgent table dirs (length crew) i a agent) where
+    module _ (i : ℕ) (a : ProcessState) (agent : Agent) (by : slice_get crew i ≡ Some a) (is : IsAgent table dirs crew i a agent) where
       turned_means : (seat : ℕ) (p : Seat) → Seated seat p → (w : Watch) → Among c₀.watches.items w →
           code.is_turned t c told agent seat w ≡ true → Now (Enters a p)
       turned_means seat p at w in_watches e =
@@ -523,7 +523,7 @@ module _ (t : Tree) (well : WellFormed t) (table : CallTable) (crew : List Proce
         words.seat_of t table crew watched dirs spots guarded fits seat
         (numbers_among (dirs + n) seat (subst (λ (xs : List ℕ). Among xs seat) seats_are among))
 
-    module _ (i : ℕ) (a : ProcessState) (agent : Agent) (by : slice_get crew i ≡ Some a) (is : IsAgent table dirs (length crew) i a agent) where
+    module _ (i : ℕ) (a : ProcessState) (agent : Agent) (by : slice_get crew i ≡ Some a) (is : IsAgent table dirs crew i a agent) where
       turn_means : (d : ℕ) → code.can_turn c told agent d ≡ true → Now (Turns a d)
       turn_means d e =
           let one = and_parts (code.gives_c (perms_kept agent.process.now (place.Dir d))) _ e in
@@ -601,7 +601,7 @@ module _ (t : Tree) (well : WellFormed t) (table : CallTable) (crew : List Proce
       carry_covers r kind e =
           subst (λ (o : Option Kind). AreCovers (carrying agent kind) (λ k. can_move table a k || can_link table a o k)) (sym e) (is.carries kind)
 
-      module _ (j : ℕ) (b : ProcessState) (other : Agent) (from : slice_get crew j ≡ Some b) (is_b : IsAgent table dirs (length crew) j b other) where
+      module _ (j : ℕ) (b : ProcessState) (other : Agent) (from : slice_get crew j ≡ Some b) (is_b : IsAgent table dirs crew j b other) where
         finds_same : (kind : Kind) → code.finds c told agent kind other
             ≡ meets (word_at told many (dirs + (n + (n + j))) i) (carrying agent kind)
         finds_same kind = λ z. meets (word_at told many (is_b.drops z) (is.place z)) (carrying agent kind)
@@ -705,7 +705,7 @@ module _ (t : Tree) (well : WellFormed t) (table : CallTable) (crew : List Proce
         row_has now = row_rule (Row s) refl now
 
       -- of what a process makes
-      module _ (j : ℕ) (m : ProcessState) (maker : Agent) (from : slice_get crew j ≡ Some m) (is_m : IsAgent table dirs (length crew) j m maker)
+      module _ (j : ℕ) (m : ProcessState) (maker : Agent) (from : slice_get crew j ≡ Some m) (is_m : IsAgent table dirs crew j m maker)
           (new : New) where
         new_said : (k : ℕ) (b : ProcessState) → slice_get crew k ≡ Some b →
             says crew dirs spots guarded ((dirs + j) * many + k) (19 + new_bit new) (Carries (Maker new m) b)
@@ -738,7 +738,7 @@ module _ (t : Tree) (well : WellFormed t) (table : CallTable) (crew : List Proce
             (on_has (Maker new m) (new_kind new) refl (dirs + j) (19 + new_bit new) new_said b k carrier carries drops can)
 
       -- where another one puts what is no directory
-      module _ (j : ℕ) (b : ProcessState) (other : Agent) (from : slice_get crew j ≡ Some b) (is_b : IsAgent table dirs (length crew) j b other)
+      module _ (j : ℕ) (b : ProcessState) (other : Agent) (from : slice_get crew j ≡ Some b) (is_b : IsAgent table dirs crew j b other)
           (k : Cover) (small : cover_bit k < 18) where
         abbrev k_bit : ℕ
         k_bit = cover_bit k
@@ -829,7 +829,7 @@ module _ (t : Tree) (well : WellFormed t) (table : CallTable) (crew : List Proce
           ≡ asked_word agent.named agent.process.now told many s.0 s.1 agent.place
       word_is agent = λ z. asked_word agent.named agent.process.now told many (is_entry.dir z) (is_entry.name z) agent.place
 
-      take_means : (i : ℕ) (a : ProcessState) (agent : Agent) → slice_get crew i ≡ Some a → IsAgent table dirs (length crew) i a agent →
+      take_means : (i : ℕ) (a : ProcessState) (agent : Agent) → slice_get crew i ≡ Some a → IsAgent table dirs crew i a agent →
           agent.may_take ≡ true → (folder : Bool) → is_dir t entry.node ≡ folder → meets (covers_by agent folder) with_c ≡ true →
           Now (Taken s.0 s.1)
       take_means i a agent by is may true lives e =
@@ -849,7 +849,7 @@ module _ (t : Tree) (well : WellFormed t) (table : CallTable) (crew : List Proce
           take_means g.at one.0 found.0 one.1 one.2 both.0 (is_dir_kind (Some entry.kind)) (sym kind_is) both.1
 
       take_has : (b : ProcessState) → Contains crew b → IsTrue (may_take table b) →
-          ((i : ℕ) (agent : Agent) → slice_get crew i ≡ Some b → IsAgent table dirs (length crew) i b agent →
+          ((i : ℕ) (agent : Agent) → slice_get crew i ≡ Some b → IsAgent table dirs crew i b agent →
           meets (covers_by agent (is_dir_kind (Some entry.kind))) with_c ≡ true) → list_any (code.takes_at c told entry) c₀.agents.items ≡ true
       take_has b from may each =
           let g = among_got crew b (among_contained crew b from) in
@@ -1045,7 +1045,7 @@ module _ (t : Tree) (well : WellFormed t) (table : CallTable) (crew : List Proce
         clear_dir_has now = clear_rule (Old d) refl now
 
       -- of what a process makes, and of where one puts directories
-      module _ (i : ℕ) (m : ProcessState) (maker : Agent) (by : slice_get crew i ≡ Some m) (is : IsAgent table dirs (length crew) i m maker) where
+      module _ (i : ℕ) (m : ProcessState) (maker : Agent) (by : slice_get crew i ≡ Some m) (is : IsAgent table dirs crew i m maker) where
         abbrev moves_in : ℕ
         moves_in = moved_word told many c₀.agents.items (dirs + i) w_column
 
@@ -1103,7 +1103,7 @@ module _ (t : Tree) (well : WellFormed t) (table : CallTable) (crew : List Proce
             (λ p. Clear w_dir p) (λ b. LandsClear b w_dir) fam i m by p enters clear
 
     -- the covers of a process
-    module _ (i : ℕ) (a : ProcessState) (agent : Agent) (by : slice_get crew i ≡ Some a) (is : IsAgent table dirs (length crew) i a agent)
+    module _ (i : ℕ) (a : ProcessState) (agent : Agent) (by : slice_get crew i ≡ Some a) (is : IsAgent table dirs crew i a agent)
         (k : Cover) (small : cover_bit k < 18) where
       abbrev cover_fam : IsFamily i (cover_bit k) (λ p. Covers a p k) (λ b. Lands b a k)
       cover_fam = words.cover_family t table crew watched dirs spots guarded fits each_agent each_name each_watched told i a k by small
@@ -1127,7 +1127,7 @@ module _ (t : Tree) (well : WellFormed t) (table : CallTable) (crew : List Proce
             (code.come_word c told d i) (come_means i (cover_bit k) (λ p. Covers a p k) (λ b. Lands b a k) cover_fam d low)
             (come_has i (cover_bit k) (λ p. Covers a p k) (λ b. Lands b a k) cover_fam d low) now
 
-      module _ (j : ℕ) (m : ProcessState) (maker : Agent) (from : slice_get crew j ≡ Some m) (is_m : IsAgent table dirs (length crew) j m maker) where
+      module _ (j : ℕ) (m : ProcessState) (maker : Agent) (from : slice_get crew j ≡ Some m) (is_m : IsAgent table dirs crew j m maker) where
         abbrev new_moved : ℕ
         new_moved = moved_word told many c₀.agents.items (dirs + j) i
 
@@ -1197,7 +1197,7 @@ module _ (t : Tree) (well : WellFormed t) (table : CallTable) (crew : List Proce
     abbrev Says : Entity → Column → ℕ → Type 0
     Says e col w = WordSays (word e col) Now w
 
-    module _ (i : ℕ) (a : ProcessState) (agent : Agent) (by : slice_get crew i ≡ Some a) (is : IsAgent table dirs (length crew) i a agent) where
+    module _ (i : ℕ) (a : ProcessState) (agent : Agent) (by : slice_get crew i ≡ Some a) (is : IsAgent table dirs crew i a agent) where
       abbrev way_flags : ℕ → ℕ
       way_flags d = bit_or (flag (code.can_enter t c told agent d) 18) (flag (code.can_turn c told agent d) 19)
 
@@ -1242,7 +1242,7 @@ module _ (t : Tree) (well : WellFormed t) (table : CallTable) (crew : List Proce
           one_says (Carries (Row s) a) Now (code.can_carry_row c told agent entry) (row_means i a agent by is e_at s entry got is_entry)
           (row_has i a agent by is e_at s entry got is_entry)
 
-      module _ (j : ℕ) (m : ProcessState) (maker : Agent) (from : slice_get crew j ≡ Some m) (is_m : IsAgent table dirs (length crew) j m maker) where
+      module _ (j : ℕ) (m : ProcessState) (maker : Agent) (from : slice_get crew j ≡ Some m) (is_m : IsAgent table dirs crew j m maker) where
         abbrev entered : Bool
         entered = code.can_enter t c told agent (dirs + j)
 
@@ -1323,7 +1323,7 @@ module _ (t : Tree) (well : WellFormed t) (table : CallTable) (crew : List Proce
     row_made at i m in_rows is =
         let r = row_at crew dirs spots at (MadeBy m) in_rows in r.1 ∙ ap (λ p. dirs + p) (each_agent r.0 i m r.2 is)
 
-    module _ (i : ℕ) (a : ProcessState) (agent : Agent) (by : slice_get crew i ≡ Some a) (is : IsAgent table dirs (length crew) i a agent)
+    module _ (i : ℕ) (a : ProcessState) (agent : Agent) (by : slice_get crew i ≡ Some a) (is : IsAgent table dirs crew i a agent)
         (at : ℕ) (e : Entity) (in_rows : InRows at e) where
       by_made : (j : ℕ) (o : Option ProcessState) → slice_get crew j ≡ o → option_map MadeBy o ≡ Some e →
           Says e (ByAgent a) (code.made_by_word t c told at agent (slice_get c₀.agents.items j))

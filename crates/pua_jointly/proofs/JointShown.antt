@@ -98,10 +98,10 @@ module _ (t : Tree) (table : CallTable) (c : Crew) (out : IsWorkedOut t table c)
   abbrev many : ℕ
   many = length (columns crew (guarded_told c))
 
-  pub is_agent : IsAgent table (dirs_of c) (length crew) i a of
+  pub is_agent : IsAgent table (dirs_of c) crew i a of
   is_agent =
       let one = is.agents.only i of got in
-      subst (λ b. IsAgent table (dirs_of c) (length crew) i b of) (sym one.2.process ∙ process) one.2
+      subst (λ b. IsAgent table (dirs_of c) crew i b of) (sym one.2.process ∙ process) one.2
 
   in_crew : slice_get crew i ≡ Some a
   in_crew = let one = is.agents.only i of got in one.1 ∙ ap Some (sym one.2.process ∙ process)
@@ -178,7 +178,7 @@ module _ (t : Tree) (table : CallTable) (c : Crew) (out : IsWorkedOut t table c)
       follows_known (Drops b a k) (from, among) (drop_new b p other k puts.cover puts puts.over puts.has over)
 
   -- the row of where a process puts what is no directory
-  module _ (j : ℕ) (b : ProcessState) (by : Agent) (from : slice_get crew j ≡ Some b) (is_by : IsAgent table (dirs_of c) (length crew) j b by) where
+  module _ (j : ℕ) (b : ProcessState) (by : Agent) (from : slice_get crew j ≡ Some b) (is_by : IsAgent table (dirs_of c) crew j b by) where
     drops_row : ℕ
     drops_row = dirs_of c + (length crew + (length crew + j))
 

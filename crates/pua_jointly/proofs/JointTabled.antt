@@ -10,7 +10,7 @@ use Rattle.pua_jointly.proofs.JointWatched.{watches_enough}
 
 module _ (t : Tree) (well : WellFormed t) (table : CallTable) (crew : List ProcessState) (watched : ℕ → Bool)
     (enough : WatchesEnough t table crew watched) (kept_at : Layout) where
-  means_reached : (count : ℕ) {at bit : ℕ} → Reached (FollowsAt t table crew watched kept_at) count at bit → (x : Kept) →
+  pub means_reached : (count : ℕ) {at bit : ℕ} → Reached (FollowsAt t table crew watched kept_at) count at bit → (x : Kept) →
       kept_at at bit ≡ Some x → Means t table crew x
   means_reached count (reached told full all within new) x says =
       subst (Means t table crew) (same_Some _ _ (sym new.says ∙ says))

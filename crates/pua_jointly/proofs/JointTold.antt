@@ -1,5 +1,5 @@
 -- The calls under the covers that were found of a thing are those that can ever be allowed on it.
-use Rattle.pua_jointly.proofs.Common.{◌≡◌, ◌≢◌, ◌<◌, ◌∙◌, length, ◌||◌, ◌&&◌, ℕ, Bool, true, false, List, refl, sym, ap, subst, not, Option, Some, None, None≢Some}
+use Rattle.pua_jointly.proofs.Common.{◌≡◌, ◌≢◌, ◌<◌, ◌∙◌, ◌||◌, ◌&&◌, ℕ, Bool, true, false, List, refl, sym, ap, subst, not, Option, Some, None, None≢Some}
 use Rattle.pua_jointly.proofs.Common.{ProcessState, Cover, Tree, CallTable, Call, Object, At, Others, Whole, Slot, Way, Stands, Comes, same_Some}
 use Rattle.pua_jointly.proofs.Common.{NewDir, NewOthers, NewFile, NewLink, covered_verdict, is_allowed, empty_tree, false≢true, has, IsMissing}
 use Rattle.pua_jointly.proofs.Common.{is_dir, kind_at, keeps_link, list_any, look, object_of_kind, lasting_dir, removable_dir}
@@ -17,12 +17,13 @@ use Rattle.std.specs.Ordering.{nat_cmp}
 use Rattle.pua_tree.specs.declared.node.Kind.TheVariants as kinds
 use Rattle.pua_policy.specs.Verdict.{IsFile, IsLink, IsProg, FoundFits}
 use Rattle.pua_jointly.specs.Closing.{has_bit}
-use Rattle.pua_ever.specs.Ever.{Thing, is_exec_call, is_some_file, is_turned_held, turning_calls}
+use Rattle.pua_ever.specs.Ever.{Thing, is_exec_call, is_some_file}
 use Rattle.pua_jointly.specs.JointCalls.{AreAllowedOf, AreCallsOf, AreFreeCalls, AreUnder, IsOf}
 use Rattle.pua_jointly.specs.JointCovers.{AreCallsByCover, allows_under, numbered}
 use Rattle.pua_jointly.specs.JointFound.{AreFacts, entry_word, made_words, new_covers, turned_by, turns_in}
 use Rattle.pua_jointly.specs.JointPlace.{cover_bit}
-use Rattle.pua_jointly.specs.Jointly.{CanTurn, IsJointlyAllowed, IsTurned, IsTurnedByCall, Shows, is_link_thing}
+use Rattle.pua_jointly.specs.Jointly.{CanTurn, IsJointlyAllowed, IsTurned, IsTurnedByCall, Shows, is_link_thing, is_turned_open}
+use Rattle.pua_jointly.specs.Jointly.{sends_to_set, turning_by}
 use Rattle.pua_jointly.specs.Jointly.{shows_dir, shows_emptied, shows_others, shows_row, shows_new_dir, shows_new_others, shows_new_file}
 use Rattle.pua_jointly.specs.Jointly.{shows_new_link, free_none}
 use Rattle.pua_jointly.specs.JointRounds.{is_taken, stays_in}
@@ -427,7 +428,7 @@ module _ (t : Tree) (table : CallTable) (crew : List ProcessState) (facts : Fact
   file_is kinds.Prog e = absurd (false≢true e)
   file_is kinds.Link e = absurd (false≢true e)
 
-  agent_by : (b : Agent) (at : ℕ) → slice_get k.agents.items at ≡ Some b → IsAgent table (dirs_of k) (length ones) at b.process.now b
+  agent_by : (b : Agent) (at : ℕ) → slice_get k.agents.items at ≡ Some b → IsAgent table (dirs_of k) ones at b.process.now b
   agent_by b at got = show.is_agent t table k are.worked words are.full are.closed are.has at b.process.now b got refl
 
   module _ (b : Agent) (agent_at : ℕ) (agent_got : slice_get k.agents.items agent_at ≡ Some b) (e_at : ℕ) (entry : Entry)
@@ -476,6 +477,10 @@ module _ (t : Tree) (table : CallTable) (crew : List ProcessState) (facts : Fact
           allowed = ap (λ o. is_allowed (covered_verdict empty_tree table h call can.cover o)) (sym (s.2 ∙ ap object_of_kind kind_is)) ∙ can.allowed;
         })
 
+  -- whether a process can send what it has open to one of them that sets its mode
+  abbrev sends : ProcessState → Bool
+  sends h = sends_to_set table ones h
+
   pub turned_means : list_any (turns_in k words node) k.entries.items ≡ true → IsTurned t table ones node
   turned_means e =
       let found = any_found (turns_in k words node) k.entries.items e in
@@ -499,7 +504,7 @@ module _ (t : Tree) (table : CallTable) (crew : List ProcessState) (facts : Fact
       -- a call under a cover that makes one, or the file is open
       how : (b : Agent) (agent_at : ℕ) → slice_get k.agents.items agent_at ≡ Some b → (e_at : ℕ) (entry : Entry) →
           slice_get k.entries.items e_at ≡ Some entry → entry.kind ≡ kinds.File → turned_by k words entry b ≡ true →
-          IsTurnedByCall t table ones b.process.now (entry.dir, entry.name.now) entry.node ⊎ (is_turned_held b.process.now entry.node ≡ true)
+          IsTurnedByCall t table ones b.process.now (entry.dir, entry.name.now) entry.node ⊎ (is_turned_open (sends b.process.now) b.process.now entry.node ≡ true)
       how b agent_at agent_got e_at entry got file is =
           elim (either_true (meets (entry_word k words b entry) b.turning) (contains nat_cmp b.turned entry.node) is) [
             | inl under ↦ inl (called under)
@@ -514,13 +519,14 @@ module _ (t : Tree) (table : CallTable) (crew : List ProcessState) (facts : Fact
               let bit = meets_some word b.turning mask.small under in
               let cover = cover_of bit.0 (mask.only bit.0 bit.2) in
               let small : cover_bit cover.0 < 18 = subst (λ n. n < 18) (sym cover.1) (mask.only bit.0 bit.2) in
-              let one = any_found (λ call. is_allowed (covered_verdict empty_tree table b.process.now call cover.0 IsFile)) turning_calls
+              let one = any_found (λ call. is_allowed (covered_verdict empty_tree table b.process.now call cover.0 IsFile))
+              (turning_by (sends b.process.now))
               (sym (mask.all cover.0 small) ∙ ap (λ n. bit_at b.turning n == 1) cover.1 ∙ bit.2) in
               let there = under_has table b.process.now word IsFile one.0
               (record { cover = cover.0; small = small; has = ap (λ n. bit_at word n == 1) cover.1 ∙ bit.1; allowed = one.2 }) in
               record {
                 call = one.0;
-                turns = contained turning_calls one.0 one.1;
+                turns = contained (turning_by (sends b.process.now)) one.0 one.1;
                 allowed = turn_means b agent_at agent_got e_at entry got file one.0 there;
               }
 
@@ -565,13 +571,16 @@ module _ (t : Tree) (table : CallTable) (crew : List ProcessState) (facts : Fact
           under one = under_means table b.process.now (entry_word k words b entry) IsFile one.call
               (turn_has b agent_at agent_got e_at entry got file one.call (allowed one))
 
-          how : IsTurnedByCall t table ones is.agent is.row node ⊎ (is_turned_held is.agent node ≡ true) → turned_by k words entry b ≡ true
+          how : IsTurnedByCall t table ones is.agent is.row node ⊎ (is_turned_open (sends is.agent) is.agent node ≡ true) →
+              turned_by k words entry b ≡ true
           how (inl one) =
               or_left (meets (entry_word k words b entry) b.turning) _
               (meets_by (entry_word k words b entry) b.turning (cover_bit (under one).cover) (under one).has
               ((agent_by b agent_at agent_got).turning.all (under one).cover (under one).small
-              ∙ any_among (λ call. is_allowed (covered_verdict empty_tree table b.process.now call (under one).cover IsFile)) turning_calls one.call
-              (among_contained turning_calls one.call one.turns) (under one).allowed))
+              ∙ any_among (λ call. is_allowed (covered_verdict empty_tree table b.process.now call (under one).cover IsFile))
+              (turning_by (sends b.process.now)) one.call
+              (among_contained (turning_by (sends b.process.now)) one.call
+              (subst (λ h. Contains (turning_by (sends h)) one.call) (sym same) one.turns)) (under one).allowed))
           how (inr held) =
               or_right (meets (entry_word k words b entry) b.turning) _
-              ((agent_by b agent_at agent_got).turned entry.node ∙ (λ z. is_turned_held (same z) (here z)) ∙ held)
+              ((agent_by b agent_at agent_got).turned entry.node ∙ (λ z. is_turned_open (sends (same z)) (same z) (here z)) ∙ held)

@@ -5,8 +5,8 @@ use Rattle.std.specs.List.{Contains}
 use Rattle.pua_tree.specs.declared.node.Kind.TheVariants as kinds
 use Rattle.pua_policy.specs.States.{new_process}
 use Rattle.pua_policy.specs.Verdict.{Is, IsFile}
-use Rattle.pua_ever.specs.Ever.{Thing, is_turned_held, turning_calls}
-use Rattle.pua_jointly.specs.Jointly.{CanTurn, IsJointlyAllowed, IsJointlyStarted}
+use Rattle.pua_ever.specs.Ever.{Thing}
+use Rattle.pua_jointly.specs.Jointly.{CanTurn, IsJointlyAllowed, IsJointlyStarted, is_turned_open, sends_to_set, turning_by}
 use Rattle.pua_jointly.specs.JointStarts.{JointHeldListed, JointStartsListed}
 use Rattle.pua_ever.specs.Laws.{IsLineOf, of_row, of_new_file, of_new_link}
 use Rattle.pua_ever.proofs.ForCallers.{below_next}
@@ -24,7 +24,7 @@ file_kind (Some kinds.Link) e = absurd (false≢true (sym (ap is_file e)))
 file_kind None e = absurd (false≢true (sym (ap is_file e)))
 
 module _ (t : Tree) (well : WellFormed t) (table : CallTable) (crew : List ProcessState) (mid later : Tree) (b a : ProcessState)
-    (among : Contains crew b) (turning : Call) (turns : Contains turning_calls turning) where
+    (among : Contains crew b) (turning : Call) (turns : Contains (turning_by (sends_to_set table crew b)) turning) where
   old : (dir : ℕ) (name : List ℕ) (node : ℕ) → look t dir name ≡ Some node → node < t.next
   old dir name node e = below_next t new_process well node (row_says t (sound_from t well) (dir, name) node e).2
 
@@ -48,7 +48,7 @@ module _ (t : Tree) (well : WellFormed t) (table : CallTable) (crew : List Proce
       absurd (false≢true (sym (ap is_file (shown t table crew a started.shows).2)))
 
 held_open : (t : Tree) (table : CallTable) (crew : List ProcessState) (later : Tree) (b a : ProcessState) → Contains crew b → (node : ℕ) →
-    is_turned_held b node ≡ true → (thing : Thing) (into : ℕ) (word : List ℕ) → IsLineOf t later a thing (Slot into word (Some node)) →
+    is_turned_open (sends_to_set table crew b) b node ≡ true → (thing : Thing) (into : ℕ) (word : List ℕ) → IsLineOf t later a thing (Slot into word (Some node)) →
     IsJointlyStarted t table crew a thing → CanTurn t table crew thing
 held_open t table crew later b a among node held thing into word (of_row row found there) started = record {
   agent = b;

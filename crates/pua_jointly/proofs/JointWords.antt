@@ -283,14 +283,14 @@ module _ (t : Tree) (table : CallTable) (crew : List ProcessState) (watched : �
 
     -- a process can move a directory where some cover of its word is one under which it can
     pub moves_means : (seat i : ℕ) (p : Seat) (b : ProcessState) (agent : Agent) → Seated seat p → slice_get crew i ≡ Some b →
-        IsAgent table dirs (length crew) i b agent → moves_at told many seat agent ≡ true → Moved b p
+        IsAgent table dirs crew i b agent → moves_at told many seat agent ≡ true → Moved b p
     moves_means seat i p b agent at by is e =
         let c = some_cover_means agent.moving (can_move table b) is.moving seat i p b at by
         (ap (λ x. meets (word_at told many seat x) agent.moving) (sym is.place) ∙ e) in
         record { among = contained crew b (got_among crew i b by); cover = c.0; covers = c.1; can = c.2 }
 
     pub moves_has : (seat i : ℕ) (p : Seat) (b : ProcessState) (agent : Agent) → Seated seat p → slice_get crew i ≡ Some b →
-        IsAgent table dirs (length crew) i b agent → Moved b p → moves_at told many seat agent ≡ true
+        IsAgent table dirs crew i b agent → Moved b p → moves_at told many seat agent ≡ true
     moves_has seat i p b agent at by is m =
         ap (λ x. meets (word_at told many seat x) agent.moving) is.place
         ∙ some_cover_has agent.moving (can_move table b) is.moving seat i p b at by m.cover m.covers m.can
@@ -351,7 +351,7 @@ module _ (t : Tree) (table : CallTable) (crew : List ProcessState) (watched : �
             ∙ has ((dirs + (length crew + i)) * many + j) bit (L b) (fam.landing_said i b by) is)
 
         -- of what it makes: where it is made
-        module _ (maker : Agent) (is : IsAgent table dirs (length crew) i b maker) where
+        module _ (maker : Agent) (is : IsAgent table dirs crew i b maker) where
           abbrev pub makers : ℕ
           makers = dirs + (length crew + (length crew + (length crew + 0)))
 

@@ -134,7 +134,7 @@ module _ (t : Tree) (well : WellFormed t) (table : CallTable) (c : Crew) (all : 
     (veils_low : (veil : Place × ℕ) → Among all veil → dir_of_place veil.0 ≤ c.shape.last)
     (many : c.shape.agents ≡ length (crew_told c)) (sized : IsSize c.shape (length t.rows) (length c.watches.items) size)
     (columns_are : c.columns ≡ size.columns) (makers_are : c.makers ≡ size.makers)
-    (agents : Each (λ i agent. IsAgent table (dirs_of c) c.shape.agents i agent.process.now agent) c.agents.items)
+    (agents : Each (λ i agent. IsAgent table (dirs_of c) (crew_told c) i agent.process.now agent) c.agents.items)
     (rows_are : spots_told c ≡ map (λ row. row.0) t.rows) (rows_once : Once (spots_told c))
     (entries : Each (IsEntryAt t (size.makers + 1)) c.entries.items)
     (marks : AreMarksOf t c.entries.items all c.marks.items)
@@ -256,10 +256,8 @@ module _ (t : Tree) (well : WellFormed t) (table : CallTable) (c : Crew) (all : 
       )
 
   is_agent : (i : ℕ) (a : ProcessState) (agent : Agent) → slice_get c.agents.items i ≡ Some agent → agent.process.now ≡ a →
-      IsAgent table (dirs_of c) n i a agent
-  is_agent i a agent is gives =
-      subst (λ b. IsAgent table (dirs_of c) n i b agent) gives
-      (subst (λ k. IsAgent table (dirs_of c) k i agent.process.now agent) many (agents i agent is))
+      IsAgent table (dirs_of c) crew i a agent
+  is_agent i a agent is gives = subst (λ b. IsAgent table (dirs_of c) crew i b agent) gives (agents i agent is)
 
   are_agents : AreAgents table crew (dirs_of c) c.agents.items
   are_agents = record {

@@ -23,6 +23,7 @@ pub mod JointFlags
 pub mod JointRounds
 pub mod JointSorted
 pub mod JointSteps
+pub mod JointWidth
 pub mod JointMembers
 pub mod JointWorked
 pub mod JointGathered

@@ -15,9 +15,12 @@ knows told at bit = has_bit (get_or told at 0) bit
 abbrev pub Step : Type 1
 Step = List ℕ → ℕ → ℕ → Type 0
 
--- no more facts follow from it
+-- no more facts follow from it: of one word, and of all
+abbrev pub IsClosedAt : Step → List ℕ → ℕ → Type 0
+IsClosedAt follows told at = (bit : ℕ) → follows told at bit → knows told at bit
+
 abbrev pub IsClosed : Step → List ℕ → Type 0
-IsClosed follows told = (at : ℕ) → at < length told → (bit : ℕ) → follows told at bit → knows told at bit
+IsClosed follows told = (at : ℕ) → at < length told → IsClosedAt follows told at
 
 -- a fact follows from facts that follow
 pub data Reached (follows : Step) (count : ℕ) : ℕ → ℕ → Type 0 where

@@ -37,7 +37,7 @@ abbrev pub does : CallTable → ProcessState → Doing → Cover → Bool
 does table h Moving k = can_move table h k
 does table h (Carrying kind) k = can_move table h k || can_link table h (Some kind) k
 does table h (Making made) k = makes_under table h (new_of made) k
-does table h Turning k = turns_under table h k
+does table h (Turning sends) k = turns_under table h sends k
 
 -- the calls that are allowed to a process under a cover, by what they are on
 abbrev pub calls_on : Allowed → seen.Object → ℕ

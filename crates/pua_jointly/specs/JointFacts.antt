@@ -13,9 +13,9 @@ use Rattle.pua_policy.specs.declared.answer.Cover.TheVariants.{All, Nothing, Onl
 use Rattle.pua_policy.specs.declared.place.Place.{Place}
 use Rattle.pua_policy.specs.declared.place.Place.TheVariants as place
 use Rattle.pua_script.specs.Confinement.{has_c}
-use Rattle.pua_ever.specs.Ever.{New, NewDir, is_made_by, can_move, can_link, turning_calls}
+use Rattle.pua_ever.specs.Ever.{New, NewDir, is_made_by, can_move, can_link}
 use Rattle.pua_jointly.specs.Jointly.{Seat, Old, Made, Source, Row, Maker, Fact, StandsIn, NotAbove, DirCover, NameCover, Free, WayIn, Writes}
-use Rattle.pua_jointly.specs.Jointly.{Makes, StandsAt, may_take, is_standing, own_veil, name_veil, kind_of_source, Can}
+use Rattle.pua_jointly.specs.Jointly.{Makes, StandsAt, may_take, is_standing, own_veil, name_veil, kind_of_source, Can, turning_by}
 
 pub data Kept : Type 0 where
   -- a cover that can come over a directory by the veils of a process, and a directory into which it can come to put another
@@ -60,9 +60,9 @@ pub record CanCarry (t : Tree) (table : CallTable) (crew : List ProcessState) (r
 abbrev pub makes_under : CallTable → ProcessState → New → Cover → Bool
 makes_under table a new k = is_made_by (λ maker. is_allowed (covered_verdict empty_tree table a maker k IsMissing)) new
 
--- and one by which a file can come to be a program
-abbrev pub turns_under : CallTable → ProcessState → Cover → Bool
-turns_under table a k = list_any (λ call. is_allowed (covered_verdict empty_tree table a call k IsFile)) turning_calls
+-- and one by which a file can come to be a program, by whether it can send what it has open
+abbrev pub turns_under : CallTable → ProcessState → Bool → Cover → Bool
+turns_under table a sends k = list_any (λ call. is_allowed (covered_verdict empty_tree table a call k IsFile)) (turning_by sends)
 
 -- what is kept, as facts
 abbrev pub Means : Tree → CallTable → List ProcessState → Kept → Type 0

@@ -1,5 +1,5 @@
 -- What has to be worked out of a crew and a tree before facts are found.
-use Rattle.std.specs.Prelude.{◌≡◌, ◌<◌, ◌+◌, ◌*◌, map, suc, ℕ, Bool, List, length, Option, Some, None, slice_get, IsTrue}
+use Rattle.std.specs.Prelude.{◌≡◌, ◌<◌, ◌+◌, ◌*◌, map, suc, ℕ, Bool, List, length, Option, Some, None, false, get_or, slice_get, IsTrue}
 use Rattle.std.specs.List.{Contains}
 use Rattle.pua_tree.specs.Tree.{Tree, WellFormed, Spot, is_dir, kind_at, look}
 use Rattle.pua_calls.specs.Calls.{CallTable}
@@ -104,6 +104,10 @@ IsWorkedOut t table c =
 
 abbrev pub FollowsTold : Tree → CallTable → Crew → List ℕ → ℕ → ℕ → Type 0
 FollowsTold t table c told at bit = FollowsAt t table (crew_told c) (watches t (crew_told c)) (layout_told c) told at bit
+
+-- which numbers below a count are those of directories
+abbrev pub AreStanding : Tree → ℕ → List Bool → Type 0
+AreStanding t count standing = (n : ℕ) → n < count → get_or standing n false ≡ is_dir t n
 
 -- what contracts see of the steps by which its table is filled
 pub record RoundsState : Type 0 where

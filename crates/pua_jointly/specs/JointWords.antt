@@ -3,7 +3,9 @@ use Rattle.std.specs.Prelude.{◌≡◌, ◌<◌, ◌+◌, ◌*◌, ◌^◌, ◌
 use Rattle.std.specs.Prelude.{if◌then◌else◌}
 use Rattle.std.specs.Int.{bit_at}
 use Rattle.std.specs.Int.Bits.{bit_and, bit_or}
+use Rattle.std.specs.BTreeSet.{BTreeSet, contains}
 use Rattle.std.specs.List.{fold, list_any}
+use Rattle.std.specs.Ordering.{nat_cmp}
 use Rattle.pua_tree.specs.declared.node.Kind.{Kind}
 use Rattle.pua_tree.specs.declared.node.Kind.TheVariants as kind
 use Rattle.pua_calls.specs.Calls.{CallTable}
@@ -13,8 +15,7 @@ use Rattle.pua_policy.specs.declared.place.Place.{Place}
 use Rattle.pua_policy.specs.declared.place.Place.TheVariants as place
 use Rattle.pua_jointly.specs.Closing.{has_bit}
 use Rattle.pua_ever.specs.Ever.{New, NewDir, NewOthers, NewFile, NewLink, can_move, can_link}
-use Rattle.pua_ever.specs.Prospects.{IsTurnedSet}
-use Rattle.pua_jointly.specs.Jointly.{may_take}
+use Rattle.pua_jointly.specs.Jointly.{is_turned_open, may_take, sends_to_set}
 use Rattle.pua_jointly.specs.JointCovers.{AreCallsByCover}
 use Rattle.pua_jointly.specs.JointFacts.{makes_under, turns_under}
 use Rattle.pua_jointly.specs.JointPlace.{cover_bit}
@@ -66,28 +67,32 @@ is_name (place.Dir dir) = false
 abbrev pub has_named : ProcessState → Bool
 has_named h = list_any (λ (veil : Place × ℕ). is_name veil.0) (veils h)
 
+-- the nodes that a process has open so that programs can be made of them, by whether it can send what it has open
+abbrev pub IsOpenSet : Bool → ProcessState → BTreeSet ℕ → Type 0
+IsOpenSet sends b nodes = (node : ℕ) → contains nat_cmp nodes node ≡ is_turned_open sends b node
+
 -- what is asked of a process of the crew, by its place: itself, the rows of where it can put directories and other things, the
--- covers under which it can do something, and what it holds open so that it can make programs of it
-pub record IsAgent (table : CallTable) (dirs many i : ℕ) (b : ProcessState) (agent : Agent) : Type 0 where
+-- covers under which it can do something, and what it has open so that programs can be made of it
+pub record IsAgent (table : CallTable) (dirs : ℕ) (crew : List ProcessState) (i : ℕ) (b : ProcessState) (agent : Agent) : Type 0 where
   pub process : agent.process.now ≡ b
   pub place : agent.place ≡ i
-  pub landing : agent.landing ≡ dirs + (many + i)
-  pub drops : agent.drops ≡ dirs + (many + (many + i))
+  pub landing : agent.landing ≡ dirs + (length crew + i)
+  pub drops : agent.drops ≡ dirs + (length crew + (length crew + i))
   pub moving : AreCovers agent.moving (can_move table b)
   pub carries : (kind : Kind) → AreCovers (carrying agent kind) (λ k. can_move table b k || can_link table b (Some kind) k)
   pub makes : (new : New) → AreCovers (making agent new) (makes_under table b new)
   pub takes : agent.may_take ≡ may_take table b
   pub named : agent.named ≡ has_named b
-  pub turning : AreCovers agent.turning (turns_under table b)
-  pub turned : IsTurnedSet b agent.turned
+  pub turning : AreCovers agent.turning (turns_under table b (sends_to_set table crew b))
+  pub turned : IsOpenSet (sends_to_set table crew b) b agent.turned
   pub calls : AreCallsByCover table b agent.calls.items
 
 -- of each process, by its place
 pub record AreAgents (table : CallTable) (crew : List ProcessState) (dirs : ℕ) (agents : List Agent) : Type 0 where
   pub each : (i : ℕ) (b : ProcessState) → slice_get crew i ≡ Some b →
-      (agent : Agent) × (slice_get agents i ≡ Some agent) × IsAgent table dirs (length crew) i b agent
+      (agent : Agent) × (slice_get agents i ≡ Some agent) × IsAgent table dirs crew i b agent
   pub only : (i : ℕ) (agent : Agent) → slice_get agents i ≡ Some agent →
-      (b : ProcessState) × (slice_get crew i ≡ Some b) × IsAgent table dirs (length crew) i b agent
+      (b : ProcessState) × (slice_get crew i ≡ Some b) × IsAgent table dirs crew i b agent
 
 -- a process can move a directory
 abbrev pub moves_at : List ℕ → ℕ → ℕ → Agent → Bool

@@ -1,9 +1,9 @@
 -- What several processes with veils and promises of their own can ever touch, all of them together: the least facts of what can come
 -- to stand where, and under which covers. The **crew** is the list of these processes, and of what they start. What covers a directory,
 -- or a name in it, is asked of each of them by itself: what one may move, another may read where it comes.
-use Rattle.std.specs.Prelude.{true, false, ◌≡◌, ◌≢◌, ◌⊎◌, ⊤, ◌||◌, not, ℕ, Bool, if◌then◌else◌, List, [], ◌∷◌, ◌++◌, map, filter, flat_map}
+use Rattle.std.specs.Prelude.{true, false, ◌≡◌, ◌≢◌, ◌⊎◌, ⊤, ◌&&◌, ◌||◌, not, ℕ, Bool, if◌then◌else◌, List, [], ◌∷◌, ◌++◌, map, filter, flat_map}
 use Rattle.std.specs.Prelude.{is_some, Option, Some, None, Result, Ok, IsTrue, IsFalse}
-use Rattle.std.specs.List.{AllByRecursion, Contains}
+use Rattle.std.specs.List.{AllByRecursion, Contains, list_any}
 use Rattle.pua_tree.specs.Tree.{Tree, Spot, is_dir, look, kind_at, empty_tree}
 use Rattle.pua_tree.specs.declared.node.Kind.{Kind}
 use Rattle.pua_tree.specs.declared.node.Kind.TheVariants as kind
@@ -14,13 +14,14 @@ use Rattle.pua_path.specs.declared.found.Way.{Way}
 use Rattle.pua_path.specs.declared.found.Found.{Found}
 use Rattle.pua_path.specs.declared.found.Found.TheVariants.{Whole, Slot}
 use Rattle.pua_audit.specs.Reach.{Word}
-use Rattle.pua_calls.specs.Calls.{calls, CallTable, rule_of, ending_of, last_of}
+use Rattle.pua_calls.specs.Calls.{calls, CallTable, rule_of, ending_of, is_known, last_of}
 use Rattle.pua_calls.specs.CallSets.{keeps_link}
+use Rattle.pua_calls.specs.Promises.{fattr, holds, recvfd, sendfd}
 use Rattle.pua_calls.specs.TmpTable.{tmp_table}
 use Rattle.pua_calls.specs.declared.call.Call.{Call}
 use Rattle.pua_calls.specs.declared.call.Call.TheVariants as call
 use Rattle.pua_calls.specs.declared.rules.Rules.{Rules}
-use Rattle.pua_policy.specs.States.{ProcessState, has_veil, is_ended, may_any, perms_kept, veils}
+use Rattle.pua_policy.specs.States.{ProcessState, has_veil, held_set, is_ended, may_any, perms_kept, veils}
 use Rattle.pua_policy.specs.Verdict.{Object, cover, IsFile, IsProg, IsLink, IsMissing, object_of_kind, covered_verdict, is_allowed}
 use Rattle.pua_policy.specs.Verdict.{verdict_of}
 use Rattle.pua_policy.specs.declared.answer.Cover.{Cover}
@@ -37,7 +38,7 @@ use Rattle.pua_script.specs.Tightening.{NoCallNeedsError, Tightens}
 use Rattle.pua_script.specs.Confinement.{TreesAlong, has_c}
 use Rattle.pua_objects.specs.Objects.{At, Others, Item, Subject, items}
 use Rattle.pua_ever.specs.Ever.{EverLine, all_new, has_ever_calls, own_spot, New, NewDir, NewOthers, NewFile, NewLink, Thing, Stands, Comes}
-use Rattle.pua_ever.specs.Ever.{new_kind, is_made_by, is_yes, can_move, can_link, is_exec_call, is_turned_held, lasting_dir, removable_dir, turning_calls}
+use Rattle.pua_ever.specs.Ever.{new_kind, is_made_by, is_yes, can_move, can_link, is_exec_call, is_turned_by, lasting_dir, removable_dir, turning_calls}
 use Rattle.pua_ever.specs.Through.{is_bounded, GoAlong}
 use Rattle.pua_ever.specs.Laws.{ForeseesIn, EditsNeedC, VeilsStand, ActsWithin, NoExecLoosens, IsLineOf}
 use Rattle.pua_path.specs.declared.found.Start.{Start}
@@ -200,10 +201,30 @@ pub record IsJointlyStarted (t : Tree) (table : CallTable) (crew : List ProcessS
   pub shows : Shows t table crew a thing cover IsFile
   pub allowed : IsTrue (is_allowed (covered_verdict empty_tree table a call.Exec cover IsProg))
 
--- a call by which a file can come to be a program can ever be allowed to a process at a name of the file
+-- what a process has open it can send to another one, which sets its mode; no veil is asked for that, and no letter
+abbrev pub sets_received : ProcessState → Bool
+sets_received h = holds (held_set h) recvfd && holds (held_set h) fattr
+
+-- so it can where fchmod is a call by the table
+abbrev pub can_send : CallTable → ProcessState → Bool
+can_send table h = is_known table call.Fchmod && holds (held_set h) sendfd
+
+-- and one of the crew is such another
+abbrev pub sends_to_set : CallTable → List ProcessState → ProcessState → Bool
+sends_to_set table crew h = can_send table h && list_any sets_received crew
+
+-- the calls by which a file can come to be a program: who can send what it has open so may also open it to read it
+abbrev pub turning_by : Bool → List Call
+turning_by sends = if sends then call.OpenRead ∷ turning_calls else turning_calls
+
+-- and what is open so that it can
+abbrev pub is_turned_open : Bool → ProcessState → ℕ → Bool
+is_turned_open sends h node = list_any (is_turned_by (holds (held_set h) fattr || sends) node) h.files
+
+-- such a call can ever be allowed to a process at a name of the file
 pub record IsTurnedByCall (t : Tree) (table : CallTable) (crew : List ProcessState) (agent : ProcessState) (row : Spot) (node : ℕ) : Type 0 where
   pub call : Call
-  pub turns : Contains turning_calls call
+  pub turns : Contains (turning_by (sends_to_set table crew agent)) call
   pub allowed : IsJointlyAllowed t table crew agent (Stands (At (Slot row.0 row.1 (Some node)))) call
 
 -- a file that stands can come to be a program: by such a call to some process of the crew, or by what that holds open
@@ -213,7 +234,7 @@ pub record IsTurned (t : Tree) (table : CallTable) (crew : List ProcessState) (n
   pub row : Spot
   pub at : look t row.0 row.1 ≡ Some node
   pub file : kind_at t node ≡ Some kind.File
-  pub by : IsTurnedByCall t table crew agent row node ⊎ IsTrue (is_turned_held agent node)
+  pub by : IsTurnedByCall t table crew agent row node ⊎ IsTrue (is_turned_open (sends_to_set table crew agent) agent node)
 
 -- a file that is made is made with any mode
 abbrev pub CanTurn : Tree → CallTable → List ProcessState → Thing → Type 0

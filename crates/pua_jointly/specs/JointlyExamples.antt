@@ -2,7 +2,7 @@
 use Rattle.std.specs.Prelude.{◌≡◌, ◌+◌, ℕ, true, false, List, [], ◌∷◌, Some, None, codes}
 use Rattle.pua_path.specs.declared.found.Found.TheVariants.{Slot, Whole}
 use Rattle.pua_path.specs.declared.found.Way.TheVariants.{Named}
-use Rattle.pua_calls.specs.Promises.{rpath, wpath, cpath, fattr, exec, unix, reading, writing, executing, creating}
+use Rattle.pua_calls.specs.Promises.{rpath, wpath, cpath, fattr, exec, recvfd, sendfd, unix, reading, writing, executing, creating}
 use Rattle.pua_calls.specs.Calls.{openbsd_table, standard_table}
 use Rattle.pua_calls.specs.declared.call.Call.TheVariants as call
 use Rattle.pua_tree.specs.declared.node.Kind.TheVariants.{File}
@@ -14,7 +14,7 @@ use Rattle.pua_ever.specs.ThroughExamples.{started_tree}
 use Rattle.pua_ever.specs.declared.lasting_list.ExecBound.TheVariants.{Bounded, Never, Open}
 use Rattle.pua_jointly.specs.JointRefusals.{first_refusal}
 use Rattle.pua_jointly.specs.JointPrograms.{agents_by, started_of, worst}
-use Rattle.pua_jointly.specs.Jointly.{IsJointlyAllowed, IsJointlyListed, as_started}
+use Rattle.pua_jointly.specs.Jointly.{IsJointlyAllowed, IsJointlyListed, as_started, sends_to_set}
 use Rattle.pua_ever.specs.declared.refusal.EverRefusal.TheVariants.{CanUnveil}
 
 -- who moves from /in to /out and reads nothing, and who reads in /out and sees nothing else
@@ -53,6 +53,22 @@ opener promise = record new_process {
 abbrev pub opened : List ProcessState
 opened = mover ∷ opener fattr ∷ runner ∷ []
 
+-- who sets the mode of what it is sent, and sees nothing; who reads in /in and sends what it has open; and who executes there
+abbrev pub setter : ProcessState
+setter = record new_process { promises = Some (recvfd + fattr); veils = (place.Slot 0 (codes "p"), 0) ∷ []; locked = true }
+
+abbrev pub sender : ProcessState
+sender = record new_process { promises = Some (rpath + sendfd); veils = (place.Dir 1, reading) ∷ []; locked = true }
+
+abbrev pub executer : ProcessState
+executer = record runner { veils = (place.Dir 1, executing) ∷ [] }
+
+abbrev pub sending : List ProcessState
+sending = opener sendfd ∷ setter ∷ executer ∷ []
+
+abbrev pub opening : List ProcessState
+opening = sender ∷ setter ∷ executer ∷ []
+
 -- who may take /p away, and who binds a socket there once it is gone: it holds no promise to take a name away
 abbrev pub remover : ProcessState
 remover = record new_process { promises = Some cpath; veils = (place.Slot 0 (codes "p"), creating) ∷ []; locked = true }
@@ -86,6 +102,13 @@ pub record JointlyRows : Type 0 where
   pub held : IsJointlyListed started_tree standard_table opened runner file_in call.Exec
   pub held_by_fattr : is_turned_held (opener fattr) 3 ≡ true
   pub held_by_another : is_turned_held (opener rpath) 3 ≡ false
+  -- or what another one has open, or opens, and sends to one that sets its mode
+  pub sent : IsJointlyListed started_tree openbsd_table sending executer file_in call.Exec
+  pub opened_and_sent : IsJointlyListed started_tree openbsd_table opening executer file_in call.Exec
+  pub unsent : sends_to_set openbsd_table (setter ∷ []) (opener rpath) ≡ false
+  pub unreceived : sends_to_set openbsd_table (opener fattr ∷ []) (opener sendfd) ≡ false
+  pub unset : sends_to_set openbsd_table (opener recvfd ∷ []) (opener sendfd) ≡ false
+  pub unknown : sends_to_set standard_table (setter ∷ []) (opener sendfd) ≡ false
   -- one uses a name that another one frees, and alone could not
   pub freed : IsJointlyAllowed started_tree openbsd_table (remover ∷ binder ∷ []) binder (Stands (At (Slot 0 (codes "p") None))) call.Bind
   -- one reads what another put at a name that it has a veil on, which the first hasn't

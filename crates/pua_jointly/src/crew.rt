@@ -49,9 +49,10 @@ pub(crate) struct Agent<'t> {
     pub(crate) making_files: u32,
     /// Those under which it can make a link.
     pub(crate) making_links: u32,
-    /// Those under which it can make a file a program.
+    /// Those under which it can make a file a program, or open it to send it to one that does.
     pub(crate) turning: u32,
-    /// The numbers of the nodes that it holds open so that it can make programs of them.
+    /// The numbers of the nodes that it holds open so that it, or one to whom it sends them, can make
+    /// programs of them.
     pub(crate) turned: BTreeSet<u32>,
     /// The calls that are allowed to it under each cover.
     pub(crate) calls: Vec<Allowed>,

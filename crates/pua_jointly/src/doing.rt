@@ -1,7 +1,11 @@
 //! Covers as bits, and what a process can do under each of them.
 
-ghost use Rattle.std.specs.Prelude.{◌≡◌, ◌<◌, ◌==◌, if◌then◌else◌, IfOk};
+ghost use Rattle.std.specs.Prelude.{◌≡◌, ◌<◌, ◌==◌, ◌&&◌, ◌||◌, if◌then◌else◌, IfOk};
 ghost use Rattle.std.specs.Int.{bit_at};
+ghost use Rattle.std.specs.List.{list_any};
+ghost use Rattle.pua_calls.specs.CallSets.{has as has_call};
+ghost use Rattle.pua_calls.specs.declared.call.Call.TheVariants.{OpenRead};
+ghost use Rattle.pua_ever.specs.Ever.{turning_calls};
 ghost use Rattle.pua_jointly.specs.JointCovers.{AreCallsByCover, AreCallsUnder, calls_on, cover_of};
 ghost use Rattle.pua_jointly.specs.JointCovers.{does};
 ghost use Rattle.pua_jointly.specs.JointWords.{AreCovers};
@@ -27,8 +31,8 @@ pub(crate) enum Doing {
     Carrying(Kind),
     /// It makes such a thing.
     Making(Made),
-    /// It makes a file a program.
-    Turning,
+    /// It makes a file a program, or opens it where it can send it to another one that does.
+    Turning(bool),
 }
 
 impl Doing {
@@ -44,11 +48,22 @@ impl Doing {
             Doing::Making(made) => {
                 made.is_made_by(judge::allowed(process, table, cover, Object::Missing))
             }
-            Doing::Turning => {
-                can_turn(judge::allowed(process, table, cover, Object::Node(Kind::File)))
+            Doing::Turning(sends) => {
+                turns(
+                    sends,
+                    judge::allowed(process, table, cover, Object::Node(Kind::File)),
+                )
             }
         }
     }
+}
+
+/// Whether one of the calls on a file writes it or sets its mode; or opens it, if it can be sent.
+fn turns(sends: bool, calls: Calls) -> bool
+    ensures { result
+        ≡ ((sends && has_call calls OpenRead) || list_any (has_call calls) turning_calls) }
+{
+    (sends && calls.contains(Call::OpenRead)) || can_turn(calls)
 }
 
 /// The calls that are allowed to a process under a cover, by what they are on.

@@ -166,8 +166,8 @@ impl Facts<'_> {
         }
     }
 
-    /// Whether a call by which it can come to be a program is allowed to one of the processes, or
-    /// that holds it open so that it can.
+    /// Whether a call by which it can come to be a program is allowed to one of the processes, or that
+    /// one holds it open so that it can.
     fn is_turned_by_some(&self, entry: &Entry<'_>) -> bool
         ensures { result ≡ list_any (turned_by self.now.crew self.now.told.items entry.now)
             self.now.crew.agents.items }

@@ -1,21 +1,25 @@
 //! The facts of a crew.
 
-ghost use Rattle.std.specs.Prelude.{◌≡◌, ◌+◌, ◌*◌, length, IfOk, IfSome, MatchResult, None, OnOk};
+ghost use Rattle.std.specs.Prelude.{◌≡◌, ◌+◌, ◌==◌, length, IfOk, IfSome, MatchResult, None, OnOk};
 ghost use Rattle.std.specs.List.{AllByRecursion};
+ghost use Rattle.pua_tree.specs.Tree.{is_dir as lives_as_dir};
 ghost use Rattle.pua_jointly.specs.JointFound.{AreFacts};
 ghost use Rattle.pua_jointly.specs.JointMembers.{states};
+ghost use Rattle.pua_jointly.specs.JointSetup.{AreStanding};
 ghost use Rattle.pua_jointly.specs.JointRefusals.{IsLasting, first_refusal, first_refused_in};
 
 use crate::closing::{Steps, close};
 use crate::crew::Crew;
 use crate::facts::Facts;
 use crate::fault::FactsFault;
+use crate::marks::is_marked;
 use crate::setup::work_out;
+use crate::shape::Row;
 use pua_calls::CallTable;
 use pua_ever::{EverRefusal, why_refused};
 use pua_policy::Process;
-use pua_tree::{FileTree, OutOfMemory};
-use std::alloc::Global;
+use pua_tree::{FileTree, Kind, NodeId, OutOfMemory};
+use std::alloc::{AllocError, Global};
 use std::marker::Model;
 
 /// Finds the facts of several processes in a tree, by a table of what calls need: all that they can
@@ -72,18 +76,24 @@ pub(crate) fn facts_of<'t, T: FileTree>(
         AreFacts (T.content tree.now) table.now (states processes.now) facts) }
 {
     let crew = work_out(alloc, tree, processes, table)?;
-    let Some(count) = word_count(&crew) else {
+    let Some(rows) = row_count(&crew) else {
         return Err(OutOfMemory);
     };
+    let last = crew.shape.last as usize;
+    let standing = find_standing(alloc, tree, crew.shape.last)?;
     let rounds = Rounds {
         tree,
         table,
         crew: &crew,
+        standing: &standing,
     };
-    let first = words_of(&crew, crew.shape.last as usize);
-    let end = words_of(&crew, crew.makers);
-    let told = close(alloc, &rounds, count, first, end)?;
-    let last = crew.shape.last as usize;
+    let told = close(
+        alloc,
+        &rounds,
+        rows,
+        last + 1,
+        crew.makers.saturating_add(1),
+    )?;
     let mut facts = Facts {
         crew,
         told,
@@ -96,19 +106,33 @@ pub(crate) fn facts_of<'t, T: FileTree>(
     Ok(facts)
 }
 
-/// How many words the table of a crew has, if they can be numbered.
-fn word_count(crew: &Crew<'_>) -> Option<usize>
-    ensures { IfSome result (λ count. count ≡ crew.now.columns
-        * (crew.now.makers + 1 + length crew.now.entries.items)) }
+/// How many rows the table of a crew has, if they can be numbered.
+fn row_count(crew: &Crew<'_>) -> Option<usize>
+    ensures { IfSome result (λ count. count
+        ≡ crew.now.makers + 1 + length crew.now.entries.items) }
 {
-    let rows = crew.makers.checked_add(1)?.checked_add(crew.entries.len())?;
-    crew.columns.checked_mul(rows)
+    crew.makers.checked_add(1)?.checked_add(crew.entries.len())
 }
 
-/// How many words the rows up to this one have, if they can be numbered. They say what is gone over
-/// more often, and no fact depends on them.
-fn words_of(crew: &Crew<'_>, last: usize) -> usize {
-    crew.columns.saturating_mul(last.saturating_add(1))
+/// Which numbers up to a last one are those of directories. The only error is that a growth was
+/// refused.
+fn find_standing<T: FileTree>(alloc: Global, tree: &T, last: u32) -> Result<Vec<bool>, AllocError>
+    ensures { IfOk result (λ standing.
+        AreStanding (T.content tree.now) (last + 1) standing.items) }
+{
+    let mut standing = Vec::new(alloc);
+    for number in 0..last as usize + 1 {
+        let dir = NodeId::new(number as u32);
+        standing.push(is_dir(tree, dir))?;
+    }
+    Ok(standing)
+}
+
+/// Whether a number is that of a directory.
+fn is_dir<T: FileTree>(tree: &T, number: NodeId) -> bool
+    ensures { result ≡ lives_as_dir (T.content tree.now) number }
+{
+    matches!(tree.kind(number), Some(Kind::Dir))
 }
 
 /// What follows from a table of facts, by what has been worked out of a crew and a tree. Contracts
@@ -118,10 +142,13 @@ struct Rounds<'c, 't, T: FileTree> {
     tree: &'c T,
     table: &'c CallTable,
     crew: &'c Crew<'t>,
+    /// Whether a number is that of a directory.
+    standing: &'c [bool],
 }
 
 impl<'c, 't, T: FileTree> Model for Rounds<'c, 't, T> {
-    ghost use Rattle.pua_jointly.specs.JointSetup.{IsWorkedOut, RoundsState};
+    ghost use Rattle.std.specs.Prelude.{◌+◌};
+    ghost use Rattle.pua_jointly.specs.JointSetup.{AreStanding, IsWorkedOut, RoundsState};
 
     ghost Value = { RoundsState };
 
@@ -131,7 +158,8 @@ impl<'c, 't, T: FileTree> Model for Rounds<'c, 't, T> {
       crew = a.crew.now;
     } };
 
-    ghost invariant = { λ a. IsWorkedOut (T.content a.tree.now) a.table.now a.crew.now };
+    ghost invariant = { λ a. IsWorkedOut (T.content a.tree.now) a.table.now a.crew.now
+        × AreStanding (T.content a.tree.now) (a.crew.now.shape.last + 1) a.standing.now };
 }
 
 impl<T: FileTree> Steps for Rounds<'_, '_, T> {
@@ -139,6 +167,28 @@ impl<T: FileTree> Steps for Rounds<'_, '_, T> {
 
     ghost follows = { λ rounds told at bit. FollowsTold rounds.tree rounds.table rounds.crew told
         at bit };
+
+    ghost columns = { λ rounds. rounds.crew.columns };
+
+    fn columns(&self) -> usize {
+        self.crew.columns
+    }
+
+    fn width(&self, row: usize) -> usize {
+        let crew = self.crew;
+        match crew.shape.row(row) {
+            Row::Dir(dir) => {
+                if is_marked(self.standing, dir) || crew.watch_column(dir).is_some() {
+                    crew.columns
+                } else {
+                    0
+                }
+            }
+            Row::Made(_) | Row::Landing(_) => crew.columns,
+            Row::Drops(_) | Row::Makers => crew.shape.agents,
+            Row::Name(_) => crew.shape.agents + 1,
+        }
+    }
 
     fn next(&self, told: &[u32], at: usize) -> u32 {
         let crew = self.crew;

@@ -1,6 +1,6 @@
 //! What one of several processes can ever touch with the help of all, as a vector.
 
-ghost use Rattle.std.specs.Prelude.{◌≡◌, ◌≤◌, ◌∷◌, ◌++◌, [], ℕ, Bool, List, None, Option, Some, IfOk};
+ghost use Rattle.std.specs.Prelude.{◌≡◌, ◌≤◌, ◌∷◌, ◌++◌, [], ℕ, Bool, List, None, Option, Some, IfOk, true};
 ghost use Rattle.std.specs.Prelude.{IfSome, MatchOption, OnOk, length, option_map};
 ghost use Rattle.std.specs.List.{AllByRecursion, Contains};
 ghost use Rattle.pua_tree.specs.Tree.{Tree, WellFormed};
@@ -11,7 +11,8 @@ ghost use Rattle.pua_objects.specs.ListItems.{AreNear, IsToldIn, last_word};
 ghost use Rattle.pua_objects.specs.declared.list.ListItem.{ListItem as Listed};
 ghost use Rattle.pua_ever.specs.Ever.{Comes, Stands, Thing};
 ghost use Rattle.pua_ever.specs.EverLines.{IsThing, new_of};
-ghost use Rattle.pua_ever.specs.EverList.{AreEverTold, IsFreedRow, IsRowAt, IsRowOn, thing_of};
+ghost use Rattle.pua_ever.specs.EverList.{AreEverTold, IsFreedRow, IsOwnInside, IsRowAt, IsRowOn};
+ghost use Rattle.pua_ever.specs.EverList.{thing_of};
 ghost use Rattle.pua_ever.specs.Prospects.{own_given};
 ghost use Rattle.pua_jointly.specs.JointCalls.{AreCallsOfOne, AreOwnCallsOfOne, HasAgents};
 ghost use Rattle.pua_jointly.specs.JointCalls.{IsAgentIn, IsGroupIn};
@@ -24,7 +25,9 @@ use crate::crew::{Agent, Group};
 use crate::facts::Facts;
 use crate::members::is_equal;
 use pua_calls::CallTable;
-use pua_ever::{EverAbout, EverLine, EverRow, EverThing, Made, kind_of, own_name, place_of};
+use pua_ever::{
+    EverAbout, EverLine, EverRow, EverThing, Made, kind_of, own_inside, own_name, place_of,
+};
 use pua_objects::{ListItem, ObjectKind, list_items};
 use pua_policy::Process;
 use pua_tree::{FileTree, OutOfMemory};
@@ -62,7 +65,7 @@ pub fn list_jointly<'t, T: FileTree>(
     let Ok(items) = list_items(alloc, tree, process) else {
         return Err(OutOfMemory);
     };
-    let Ok(mut rows) = rows_of(alloc, facts, &of, table, &items) else {
+    let Ok(mut rows) = rows_of(alloc, facts, &of, process, table, &items) else {
         return Err(OutOfMemory);
     };
     let Ok(()) = add_made(facts, &of, table, &mut rows) else {
@@ -117,6 +120,7 @@ fn rows_of<'t>(
     alloc: Global,
     facts: &Facts<'_>,
     of: &Group<'_, '_>,
+    process: &Process,
     table: &CallTable,
     items: &[ListItem<'t>],
 ) -> Result<Vec<EverRow<'t>>, AllocError>
@@ -126,12 +130,13 @@ fn rows_of<'t>(
         TellsOfOne t table.now crew (agents_of (a, given)) test →
         AllByRecursion (IsToldIn t a) items.now →
         AreNear [] items.now → AreJointBut t a test items.now rows.items (Some Made.Dir)) }
-    ensures items { IfOk result (λ rows. (t : Tree) (a : ProcessState) → WellFormed t →
-        AllByRecursion (IsToldIn t a) items.now → AllByRecursion (IsRowOn t a) rows.items) }
+    ensures items { IfOk result (λ rows. (t : Tree) → WellFormed t →
+        AllByRecursion (IsToldIn t process.now) items.now →
+        AllByRecursion (IsRowOn t process.now) rows.items) }
 {
     let mut rows = Vec::new(alloc);
     for item in items {
-        add_rows(facts, of, table, item, &mut rows)?;
+        add_rows(facts, of, process, table, item, &mut rows)?;
     }
     Ok(rows)
 }
@@ -140,6 +145,7 @@ fn rows_of<'t>(
 fn add_rows<'t>(
     facts: &Facts<'_>,
     of: &Group<'_, '_>,
+    process: &Process,
     table: &CallTable,
     item: &ListItem<'t>,
     rows: &mut Vec<EverRow<'t>>,
@@ -152,15 +158,15 @@ fn add_rows<'t>(
         IsToldIn t a item.now → item.now.depth ≤ length (last_word [] so_far) →
         AreJointSoFar t a test items so_far (item.now ∷ left) rows.old.items →
         AreJointSoFar t a test items (so_far ++ item.now ∷ []) left rows.new.items) }
-    ensures items { OnOk result ((t : Tree) (a : ProcessState) → WellFormed t →
-        IsToldIn t a item.now → AllByRecursion (IsRowOn t a) rows.old.items →
-        AllByRecursion (IsRowOn t a) rows.new.items) }
+    ensures items { OnOk result ((t : Tree) → WellFormed t → IsToldIn t process.now item.now →
+        AllByRecursion (IsRowOn t process.now) rows.old.items →
+        AllByRecursion (IsRowOn t process.now) rows.new.items) }
 {
     let stands = stands_row(facts, of, table, item);
     let Ok(()) = rows.push(stands) else {
         return Err(AllocError);
     };
-    let Some(freed) = freed_row(facts, of, table, item) else {
+    let Some(freed) = freed_row(facts, of, process, table, item) else {
         return Ok(());
     };
     let Ok(()) = rows.push(freed) else {
@@ -223,6 +229,7 @@ fn stands_row<'t>(
             thing: EverThing::Stands(kind_of(own)),
             calls: facts.all_calls_on(of, table, own),
         },
+        inside: item.inside,
     }
 }
 
@@ -230,6 +237,7 @@ fn stands_row<'t>(
 fn freed_row<'t>(
     facts: &Facts<'_>,
     of: &Group<'_, '_>,
+    process: &Process,
     table: &CallTable,
     item: &ListItem<'t>,
 ) -> Option<EverRow<'t>>
@@ -240,6 +248,8 @@ fn freed_row<'t>(
         IsToldIn t a item.now →
         AreOwnCallsOfOne t table.now crew (agents_of (a, given))
         (own_given item.now.item.subject item.now.item.object) row.line.calls) }
+    ensures inside { IfSome result (λ row. (t : Tree) → WellFormed t →
+        IsToldIn t process.now item.now → IsOwnInside t process.now item.now row.inside) }
 {
     let Some(own) = own_name(&item.item) else {
         return None;
@@ -252,13 +262,14 @@ fn freed_row<'t>(
             thing: EverThing::Stands(ObjectKind::Missing),
             calls: facts.all_calls_on_freed(of, table, &item.item),
         },
+        inside: own_inside(process, item),
     })
 }
 
 /// The row of what can be made.
 fn made_row<'t>(facts: &Facts<'_>, of: &Group<'_, '_>, table: &CallTable, made: Made) -> EverRow<'t>
     ensures at { (result.depth ≡ 0) × (result.name ≡ None) }
-    ensures about { result.about ≡ EverAbout.Comes made }
+    ensures about { (result.about ≡ EverAbout.Comes made) × (result.inside ≡ true) }
     ensures thing { (t : Tree) → IsThing t (Comes (new_of made)) result.line.thing }
     ensures calls { (t : Tree) (crew : List ProcessState) (a : ProcessState)
         (given : Option ℕ) → HasAgents t table.now crew facts.now a given of.now →
@@ -273,5 +284,6 @@ fn made_row<'t>(facts: &Facts<'_>, of: &Group<'_, '_>, table: &CallTable, made: 
             thing: EverThing::Comes(made.kind()),
             calls: facts.all_calls_on_made(of, table, made),
         },
+        inside: true,
     }
 }

@@ -15,7 +15,8 @@ ghost use Rattle.pua_jointly.specs.JointlyExamples.{JointlyRows};
 /// So it is of a list as it is printed, of a process and of what it starts where that counts, as
 /// long as no exec is answered ok of those who start what isn't bounded. Who has more help has no
 /// less in its list. A file on which exec would be allowed to one of them, were it a program, has
-/// exec in its list, if a call of any of them could make it one, or what one of them held open.
+/// exec in its list, if a call of any of them could make it one, or what one of them held open, or
+/// one of them could open it, or held it open, and send it to another one that sets its mode.
 pub fn jointly_law()
     ensures within { JointlyWithin }
     ensures complete { JointlyComplete }

@@ -529,7 +529,7 @@ impl Crew<'_> {
     }
 
     /// The column of a directory, if it is watched.
-    fn watch_column(&self, dir: NodeId) -> Option<usize>
+    pub(crate) fn watch_column(&self, dir: NodeId) -> Option<usize>
         ensures { result ≡ get_or self.now.watch_columns.items dir None }
     {
         match self.watch_columns.get(dir.number() as usize) {

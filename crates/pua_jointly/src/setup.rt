@@ -1,11 +1,13 @@
 //! What is worked out of several processes and a tree before their facts are found.
 
-ghost use Rattle.std.specs.Prelude.{◌≡◌, ◌≢◌, ◌<◌, ◌+◌, ◌^◌, Some, None, map, length};
+ghost use Rattle.std.specs.Prelude.{◌≡◌, ◌≢◌, ◌<◌, ◌+◌, ◌^◌, List, Some, None, map, length};
 ghost use Rattle.std.specs.Prelude.{IfOk, IfSome, MatchOption};
 ghost use Rattle.std.specs.List.{fold, list_any};
 ghost use Rattle.pua_tree.specs.LentRows.{lent_entry};
 ghost use Rattle.pua_tree.specs.Tree.{WellFormed, kind_at};
+ghost use Rattle.pua_policy.specs.States.{ProcessState};
 ghost use Rattle.pua_ever.specs.Laws.{dir_of_place};
+ghost use Rattle.pua_jointly.specs.Jointly.{can_send, sets_received};
 ghost use Rattle.pua_jointly.specs.JointMembers.{Each, SameMembers, states, veil_now};
 ghost use Rattle.pua_jointly.specs.JointSetting.{AreInOrder, AreMarksOf, IsEntryAt};
 ghost use Rattle.pua_jointly.specs.JointSetting.{IsMarkOf, IsRowIn};
@@ -21,8 +23,8 @@ use crate::members::{all_veils, distinct, know_perms};
 use crate::shape::Shape;
 use crate::size::Size;
 use crate::watching::find_watches;
-use pua_calls::{CallTable, Perms};
-use pua_ever::{Made, has_c, turned_nodes};
+use pua_calls::{Call, CallTable, Perms, Promises};
+use pua_ever::{Made, has_c, turned_by};
 use pua_policy::{Cover, Place, Process};
 use pua_tree::{FileTree, Kind, LentRow, Name, NodeId, OutOfMemory};
 use std::alloc::{AllocError, Global};
@@ -121,6 +123,28 @@ fn size_of(shape: Shape, names: usize, watched: usize) -> Option<Size>
     })
 }
 
+/// Whether one of these processes sets the mode of what another one sends it.
+fn is_some_setter(members: &[&Process]) -> bool
+    ensures { result ≡ list_any (λ process. sets_received process.now) members.now }
+{
+    members.iter().any(|process| sets_received(process))
+}
+
+/// Whether a process does.
+fn sets_received(process: &Process) -> bool
+    ensures { result ≡ sets_received process.now }
+{
+    let held = process.held();
+    held.contains(Promises::RECVFD) && held.contains(Promises::FATTR)
+}
+
+/// Whether a process can send what it has open to one that sets its mode, by a table that has fchmod.
+fn can_send(process: &Process, table: &CallTable) -> bool
+    ensures { result ≡ can_send table.now process.now }
+{
+    !table.alternatives(Call::Fchmod).is_empty() && process.held().contains(Promises::SENDFD)
+}
+
 /// What is asked of each process. The only error is that a growth was refused.
 fn ask_agents<'t>(
     alloc: Global,
@@ -132,31 +156,36 @@ fn ask_agents<'t>(
     ensures crew { IfOk result (λ agents.
         map (λ agent. agent.process.now) agents.items ≡ states members.now) }
     ensures each { IfOk result (λ agents. Each (λ i agent. IsAgent table.now
-        (size.shape.last + 1) size.shape.agents i agent.process.now agent) agents.items) }
+        (size.shape.last + 1) (states members.now) i agent.process.now agent) agents.items) }
 {
+    let received = is_some_setter(members);
     let mut agents = Vec::new(alloc);
     for (place, process) in members.iter().enumerate() {
-        let agent = ask_agent(alloc, process, table, place, size)?;
+        let agent = ask_agent(alloc, process, table, place, size, received)?;
         agents.push(agent)?;
     }
     Ok(agents)
 }
 
-/// What is asked of the process at a place of the crew. The only error is that a growth was
-/// refused.
+/// What is asked of the process at a place of the crew, by whether one of that sets the mode of what
+/// it is sent. The only error is that a growth was refused.
 fn ask_agent<'t>(
     alloc: Global,
     process: &'t Process,
     table: &CallTable,
     place: usize,
     size: Size,
+    received: bool,
 ) -> Result<Agent<'t>, OutOfMemory>
     requires { place < size.shape.agents }
-    ensures is { IfOk result (λ agent. IsAgent table.now
-        (size.shape.last + 1) size.shape.agents place process.now agent) }
+    ensures is { IfOk result (λ agent. (crew : List ProcessState) →
+        length crew ≡ size.shape.agents → list_any sets_received crew ≡ received →
+        IsAgent table.now (size.shape.last + 1) crew place process.now agent) }
     ensures process { IfOk result (λ agent. agent.process.now ≡ process.now) }
 {
-    let turned = turned_nodes(alloc, process)?;
+    let sends = can_send(process, table) && received;
+    let sets_modes = process.held().contains(Promises::FATTR) || sends;
+    let turned = turned_by(alloc, process, sets_modes)?;
     let named = has_named(alloc, process)?;
     let calls = calls_by_cover(alloc, process, table)?;
     Ok(Agent {
@@ -172,7 +201,7 @@ fn ask_agent<'t>(
         making_dirs: covers_for(process, table, Doing::Making(Made::Dir)),
         making_files: covers_for(process, table, Doing::Making(Made::File)),
         making_links: covers_for(process, table, Doing::Making(Made::Link)),
-        turning: covers_for(process, table, Doing::Turning),
+        turning: covers_for(process, table, Doing::Turning(sends)),
         turned,
         calls,
     })

@@ -1,17 +1,17 @@
 -- By a root, from a directory that stays in it, paths lead to what is at or below the root alone.
-use Rattle.pua_objects.proofs.Common.{◌≡◌, ◌≢◌, ◌≤◌, ◌<◌, ◌+◌, ◌-◌, ◌==◌, ℕ, zero, suc, Bool, true, false, List, [], ◌∷◌, ◌++◌, length, refl, sym}
+use Rattle.pua_objects.proofs.Common.{◌≡◌, ◌≢◌, ◌≤◌, ◌<◌, ◌==◌, ℕ, zero, suc, Bool, true, false, List, [], ◌∷◌, length, refl, sym}
 use Rattle.pua_objects.proofs.Common.{ap, ◌∙◌, subst, arith, ◌&&◌, ◌||◌, not, if◌then◌else◌, and_parts, eqb-true, eq-eqb, Option, Some, None}
-use Rattle.pua_objects.proofs.Common.{Ok, Err, Tree, WellFormed, Sound, Spot, look, is_dir, climb_ends, row_says, Found, Whole, Slot, Last, Way}
+use Rattle.pua_objects.proofs.Common.{Ok, Err, Tree, Sound, Spot, look, is_dir, climb_ends, row_says, Found, Whole, Slot, Last, Way}
 use Rattle.pua_objects.proofs.Common.{Top}
 use Rattle.std.proofs.lemmas.Bool.{eqb-false, false≢true, and_from, or_left, or_right, or_cases}
-use Rattle.std.specs.Prelude.{◌⊎◌, Result, option_map, unwrap_or}
+use Rattle.std.specs.Prelude.{Result, option_map, unwrap_or}
 use Rattle.std.specs.List.{list_any}
 use Rattle.std.proofs.Common.{inl, inr}
 use Rattle.pua_tree.specs.Tree.{Node, above, climb, climb_within, is_dir_kind, is_within, node_at}
 use Rattle.pua_tree.specs.declared.node.Kind.{Kind}
 use Rattle.pua_tree.specs.declared.node.Kind.TheVariants as kinds
 use Rattle.pua_tree.specs.Steps.{◌>>=◌}
-use Rattle.pua_tree.proofs.ForCallers.{Reaches, InRow, above_is, above_dir, climb_here, climb_root, climb_more, sound_from}
+use Rattle.pua_tree.proofs.ForCallers.{Reaches, above_is, above_dir, climb_here, climb_root, climb_more}
 use Rattle.pua_path.specs.Goes.{Comes, there, by_dot, by_dots, by_directory, by_target, EndsAt, Arrives}
 use Rattle.pua_path.specs.Paths.{is_absolute, parts_of}
 use Rattle.pua_path.specs.Resolution.{RootedTree, rooted, above_in, has_root, most_links, resolution, resolve_parts, seen_from}

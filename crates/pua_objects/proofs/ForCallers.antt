@@ -12,6 +12,8 @@ pub use Rattle.pua_objects.proofs.Listing.{found_among, found_dir, IsVisited, ha
 pub use Rattle.pua_objects.proofs.Judged.{named_by_row}
 -- each call is one of all calls, and what is allowed is so by its verdict
 pub use Rattle.pua_objects.proofs.Completeness.{one_of_calls, some_of, failed, allowed_is, named_within_text}
+-- what a list shows is by the root of its process
+pub use Rattle.pua_objects.proofs.ShownLines.{shown_by_root}
 -- the word of what was found
 pub use Rattle.pua_objects.proofs.Lined.{word_seen}
 -- words that have a front in common have each shorter one

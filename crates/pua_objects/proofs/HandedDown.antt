@@ -1,11 +1,11 @@
 -- Which veil covers something follows from which one covers its directory.
 use Rattle.pua_objects.proofs.Common.{◌≡◌, ◌≢◌, ℕ, List, [], ◌∷◌, map, Bool, true, false, refl, sym, ap, ◌∙◌, subst, Option, Some, None}
-use Rattle.pua_objects.proofs.Common.{if◌then◌else◌, Tree, WellFormed, is_dir, look, sound_from, row_says, Way, Top}
+use Rattle.pua_objects.proofs.Common.{if◌then◌else◌, ◌&&◌, ◌||◌, list_any, Tree, WellFormed, is_dir, look, sound_from, row_says, Way, Top}
 use Rattle.pua_objects.proofs.Common.{Whole, Slot, ProcessState, perms_kept, Place, Others, cover_in}
 use Rattle.pua_objects.proofs.Common.{covers_descend}
 use Rattle.std.specs.Prelude.{slice_get, ◌==◌}
 use Rattle.std.proofs.lemmas.Bool.{eqb-false, eqb-true}
-use Rattle.pua_tree.specs.Tree.{climb}
+use Rattle.pua_tree.specs.Tree.{climb, is_within}
 use Rattle.pua_tree.proofs.ForCallers.{above_is}
 use Rattle.pua_policy.proofs.ForCallers.{climb_root, climb_step, coverings_cover, veiled_where_kept}
 use Rattle.pua_policy.specs.States.{has_veil, veil_at}
@@ -54,15 +54,28 @@ module _ (t : Tree) (fits : WellFormed t) (p : ProcessState) where
       (sym (climb_root t))
       (down NoneOver before)
 
+  -- from a directory one comes to the one around it
+  row_climb : (dir x : ℕ) (name : List ℕ) → look t dir name ≡ Some x → is_dir t x ≡ true → climb t x ≡ x ∷ climb t dir
+  row_climb dir x name row living =
+      let sound = sound_from t fits in
+      let other : x ≢ 0 = (row_says t sound (dir, name) x row).3 in
+      climb_step t fits x other living ∙ ap (λ d. x ∷ climb t d) (above_is t x (dir, name) other (sound.once x living other) row)
+
   pub over_below : (dir x : ℕ) (name : List ℕ) (over new : Over) → look t dir name ≡ Some x → is_dir t x ≡ true →
       IsOver p.veils over (over_dir dir) → IsHandedDown p (place.Dir x) over new → IsOver p.veils new (over_dir x)
   over_below dir x name over new row living before down =
-      let sound = sound_from t fits in
-      let other : x ≢ 0 = (row_says t sound (dir, name) x row).3 in
-      let up : climb t x ≡ x ∷ climb t dir =
-      climb_step t fits x other living ∙ ap (λ d. x ∷ climb t d) (above_is t x (dir, name) other (sound.once x living other) row) in
-      subst (λ ds. IsOver p.veils new (if has_veil p.veils then first_kept (perms_kept p) (map place.Dir ds) else InView)) (sym up)
-      (down (far dir) before)
+      subst (λ ds. IsOver p.veils new (if has_veil p.veils then first_kept (perms_kept p) (map place.Dir ds) else InView))
+      (sym (row_climb dir x name row living)) (down (far dir) before)
+
+  -- what stands in a directory is at or below another if it is that, or the directory around it is
+  pub root_within : (root : ℕ) → is_within t 0 root ≡ (0 == root || false)
+  root_within root = λ i. fits.root i && list_any (λ e. e == root) (climb_root t i)
+
+  pub row_within : (root dir x : ℕ) (name : List ℕ) → is_dir t dir ≡ true → look t dir name ≡ Some x → is_dir t x ≡ true →
+      is_within t x root ≡ (x == root || is_within t dir root)
+  row_within root dir x name around row living =
+      (λ i. living i && list_any (λ e. e == root) (row_climb dir x name row living i))
+      ∙ (λ i. x == root || (sym around i && list_any (λ e. e == root) (climb t dir)))
 
   pub over_name : (dir : ℕ) (name : List ℕ) (there : Option ℕ) (over new : Over) → IsOver p.veils over (over_dir dir) →
       IsHandedDown p (place.Slot dir name) over new → IsOver p.veils new (covering t p (Slot dir name there))

@@ -1,7 +1,7 @@
 -- A list that is being made grows by what its innermost directory has to come.
 use Rattle.pua_objects.proofs.Common.{◌≡◌, ◌<◌, ◌≤◌, ℕ, suc, ◌-◌, List, [], ◌∷◌, ◌++◌, true, false, length, take, drop, refl, sym}
 use Rattle.pua_objects.proofs.Common.{ap, subst, ◌∙◌, arith, reverse, length-reverse, Option, Some, None, is_none, not, eq-eqb, AllByRecursion, Tree, WellFormed}
-use Rattle.pua_objects.proofs.Common.{Spot, is_dir, look, FoundFits, Named, Top, Bor, Whole, Slot, ProcessState, Word}
+use Rattle.pua_objects.proofs.Common.{false, ◌||◌, Spot, is_dir, look, FoundFits, Named, Top, Bor, Whole, Slot, ProcessState, Word}
 use Rattle.pua_objects.proofs.Common.{Item, At, Others, items, names_at, AreSpots, items_to_come}
 use Rattle.pua_objects.proofs.Common.{others_item}
 use Rattle.std.specs.Prelude.{◌==◌, Err, Ok, OnOk, Result}
@@ -9,7 +9,9 @@ use Rattle.std.specs.Option.{option_eq}
 use Rattle.std.proofs.Common.{append_assoc, append-nil, length-append}
 use Rattle.std.proofs.lemmas.Bool.{and_from}
 use Rattle.std.proofs.lemmas.List.{length-take, length_push, reverse-append, take_all, take-append-le, take-take}
+use Rattle.pua_tree.specs.Tree.{is_within}
 use Rattle.pua_policy.proofs.ForCallers.{coverings_cover}
+use Rattle.pua_policy.specs.States.{root_dir}
 use Rattle.pua_policy.specs.Objects.{object_seen}
 use Rattle.pua_policy.specs.Reasons.{covering}
 use Rattle.pua_policy.specs.Verdict.{IsDir, object_of}
@@ -18,15 +20,15 @@ use Rattle.pua_policy.specs.declared.object.Object.TheVariants as see
 use Rattle.pua_tree.specs.declared.node.Kind.TheVariants as kind
 use Rattle.pua_objects.specs.Items.{subject_given}
 use Rattle.pua_objects.specs.ListItems.{AreNear, IsToldIn, items_told, last_name, last_word, with_name, word_after}
-use Rattle.pua_objects.specs.Listing.{AreEnteredAt, IsEnteredAt, IsListing, IsListingBefore, after_next, item_of}
+use Rattle.pua_objects.specs.Listing.{AreEnteredAt, IsEnteredAt, IsListing, IsListingBefore, IsOverDir, after_next, item_of}
 use Rattle.pua_policy.specs.declared.place.Place.TheVariants as place
-use Rattle.pua_objects.specs.Veils.{IsHandedDown, IsOver, covering_over, unveiled}
+use Rattle.pua_objects.specs.Veils.{IsHandedDown, IsOver, unveiled}
 use Rattle.pua_objects.specs.Walk.{Frame, IsDeepEnough, StepsOfWalk, frame_of}
 use Rattle.pua_objects.specs.declared.item.Subject.TheVariants as about
 use Rattle.pua_objects.specs.declared.list.Entered.{Entered}
 use Rattle.pua_objects.specs.declared.list.ListItem.{ListItem}
 use Rattle.pua_objects.specs.declared.over.Over.{Over}
-use Rattle.pua_objects.proofs.HandedDown.{others_cover, over_below, over_name, over_root, over_whole}
+use Rattle.pua_objects.proofs.HandedDown.{others_cover, over_below, over_name, over_root, over_whole, root_within, row_within}
 use Rattle.pua_objects.proofs.Ranges.{passed_more}
 use Rattle.pua_objects.proofs.ItemsInOrder.{walks_objects}
 
@@ -74,14 +76,15 @@ module _ (t : Tree) (fits : WellFormed t) (p : ProcessState) (spots : List Spot)
   -- ---- an item of each kind tells what it is about
 
   abbrev OverDir : Over → ℕ → Type 0
-  OverDir over dir = IsOver p.veils over (covering_over t p (Others dir))
+  OverDir over dir = IsOverDir t p over dir
 
   told_others : (around dir : ℕ) (over : Over) → is_dir t dir ≡ true → OverDir over dir →
       IsToldIn t p (item_of around (about.Others dir) see.Missing over)
   told_others around dir over living covers = record {
     fits = living;
-    tells = record { subject = refl; object = refl; cover = others_cover t fits p dir over living covers };
-    veil = covers.veil;
+    tells = record { subject = refl; object = refl; cover = others_cover t fits p dir over living covers.covers };
+    veil = covers.covers.veil;
+    inside = covers.inside;
   }
 
   pub told_root : (over : Over) → OverDir over 0 → IsToldIn t p (item_of 0 about.Root (see.Node kind.Dir) over)
@@ -90,17 +93,18 @@ module _ (t : Tree) (fits : WellFormed t) (p : ProcessState) (spots : List Spot)
     tells = record {
       subject = refl;
       object = refl;
-      cover = (over_whole t fits p 0 Top over fits.root covers).cover ∙ coverings_cover t p (Whole 0 Top);
+      cover = (over_whole t fits p 0 Top over fits.root covers.covers).cover ∙ coverings_cover t p (Whole 0 Top);
     };
-    veil = (over_whole t fits p 0 Top over fits.root covers).veil;
+    veil = (over_whole t fits p 0 Top over fits.root covers.covers).veil;
+    inside = covers.inside;
   }
 
   pub told_name : (around dir : ℕ) (name : Bor (List ℕ)) (object : seen.Object) (over : Over) → is_dir t dir ≡ true →
       ((x : ℕ) → look t dir name.now ≡ Some x → is_dir t x ≡ false) →
       object ≡ object_seen t (object_of t (Slot dir name.now (look t dir name.now))) →
-      IsOver p.veils over (covering t p (Slot dir name.now (look t dir name.now))) →
+      IsOver p.veils over (covering t p (Slot dir name.now (look t dir name.now))) → over.inside ≡ is_within t dir (root_dir p) →
       IsToldIn t p (item_of around (about.Name dir name) object over)
-  told_name around dir name object over living plain sees covers = record {
+  told_name around dir name object over living plain sees covers inside = record {
     fits = (slot_fits (look t dir name.now) refl, (living, refl));
     tells = record {
       subject = refl;
@@ -108,6 +112,7 @@ module _ (t : Tree) (fits : WellFormed t) (p : ProcessState) (spots : List Spot)
       cover = covers.cover ∙ coverings_cover t p (Slot dir name.now (look t dir name.now));
     };
     veil = covers.veil;
+    inside = inside;
   }
     where
       slot_fits : (o : Option ℕ) → look t dir name.now ≡ o → FoundFits t (Slot dir name.now o)
@@ -124,10 +129,11 @@ module _ (t : Tree) (fits : WellFormed t) (p : ProcessState) (spots : List Spot)
     tells = record {
       subject = refl;
       object = sees;
-      cover = (over_whole t fits p x (Named dir name.now) over is covers).cover ∙
+      cover = (over_whole t fits p x (Named dir name.now) over is covers.covers).cover ∙
           coverings_cover t p (Whole x (Named dir name.now));
     };
-    veil = (over_whole t fits p x (Named dir name.now) over is covers).veil;
+    veil = (over_whole t fits p x (Named dir name.now) over is covers.covers).veil;
+    inside = covers.inside;
   }
 
   -- ---- the directories that are entered, at a further word
@@ -360,26 +366,31 @@ module _ (t : Tree) (fits : WellFormed t) (p : ProcessState) (spots : List Spot)
       pub name_listed : (items : List ListItem) (object : seen.Object) (over : Over) →
           ((x : ℕ) → look t inner.dir lent.now ≡ Some x → is_dir t x ≡ false) →
           object ≡ object_seen t (object_of t (Slot inner.dir lent.now (look t inner.dir lent.now))) →
-          IsHandedDown p (place.Slot inner.dir lent.now) inner.over over →
+          IsHandedDown p (place.Slot inner.dir lent.now) inner.over over → over.inside ≡ inner.over.inside →
           items ≡ so_far ++ item_of depth (about.Name inner.dir lent) object over ∷ [] → Listed (reverse old) items
-      name_listed items object over plain sees down more =
+      name_listed items object over plain sees down mark more =
           let item : ListItem = item_of depth (about.Name inner.dir lent) object over in
           subst (Listed (reverse old)) (sym more) (subst (λ es. Listed es (so_far ++ item ∷ [])) (sym dirs)
           (stands inner around lent.now so_far before item deep refl refl plain
           (told_name depth inner.dir lent object over in_dir plain sees
-          (over_name t fits p inner.dir lent.now (look t inner.dir lent.now) inner.over over above_over down))))
+          (over_name t fits p inner.dir lent.now (look t inner.dir lent.now) inner.over over above_over.covers down)
+          (mark ∙ above_over.inside))))
 
       pub dir_listed : (new : List Entered) (own items : List ListItem) (x next : ℕ) (object : seen.Object) (over : Over) →
           look t inner.dir lent.now ≡ Some x → is_dir t x ≡ true → AllByRecursion (λ (s : Spot). x ≤ s.0) (drop next spots) →
           names_at x (drop next spots) ≡ names_at x spots → object ≡ object_seen t (IsDir x (Named inner.dir lent.now)) →
-          IsHandedDown p (place.Dir x) inner.over over → new ≡ old ++ record { dir = x; next = next; over = over } ∷ [] →
+          IsHandedDown p (place.Dir x) inner.over over → over.inside ≡ (x == root_dir p || inner.over.inside) →
+          new ≡ old ++ record { dir = x; next = next; over = over } ∷ [] →
           own ≡ so_far ++ item_of depth (about.Dir x inner.dir lent) object over ∷ [] →
           items ≡ own ++ item_of (length old) (about.Others x) see.Missing over ∷ [] → Listed (reverse new) items
-      dir_listed new own items x next object over row is passed start sees down more_dirs one more =
+      dir_listed new own items x next object over row is passed start sees down mark more_dirs one more =
           let below : Entered = record { dir = x; next = next; over = over } in
           let item : ListItem = item_of depth (about.Dir x inner.dir lent) object over in
-          let covers : OverDir over x =
-          over_below t fits p inner.dir x lent.now inner.over over row is above_over down in
+          let covers : OverDir over x = record {
+            covers = over_below t fits p inner.dir x lent.now inner.over over row is above_over.covers down;
+            inside = mark ∙ ap (λ b. x == root_dir p || b) above_over.inside ∙
+                sym (row_within t fits p (root_dir p) inner.dir x lent.now in_dir row is);
+          } in
           let now_dirs : reverse new ≡ below ∷ after_next inner ∷ around =
           ap reverse more_dirs ∙ reverse-append old (below ∷ []) ∙ ap (λ es. below ∷ es) dirs in
           let both : items ≡ so_far ++ item ∷ item_of (suc (length around)) (about.Others x) see.Missing over ∷ [] =
@@ -425,9 +436,12 @@ module _ (t : Tree) (fits : WellFormed t) (p : ProcessState) (spots : List Spot)
   pub root_made : (over up : Over) (old new : List Entered) (before own items : List ListItem) → old ≡ [] → before ≡ [] →
       new ≡ old ++ record { dir = 0; next = 0; over = over } ∷ [] → own ≡ before ++ item_of 0 about.Root (see.Node kind.Dir) over ∷ [] →
       items ≡ own ++ item_of (length old) (about.Others 0) see.Missing over ∷ [] → IsOver p.veils up (unveiled p.veils) →
-      IsHandedDown p (place.Dir 0) up over → Listed (reverse new) items
-  root_made over up old new before own items no_dirs none more_dirs one more above down =
-      let covers : OverDir over 0 = over_root t fits p up over above down in
+      IsHandedDown p (place.Dir 0) up over → up.inside ≡ false → over.inside ≡ (0 == root_dir p || up.inside) → Listed (reverse new) items
+  root_made over up old new before own items no_dirs none more_dirs one more above down outer mark =
+      let covers : OverDir over 0 = record {
+        covers = over_root t fits p up over above down;
+        inside = mark ∙ ap (λ b. 0 == root_dir p || b) outer ∙ sym (root_within t fits p (root_dir p));
+      } in
       let dirs : new ≡ record { dir = 0; next = 0; over = over } ∷ [] = more_dirs ∙ ap (λ es. es ++ record { dir = 0; next = 0; over = over } ∷ [])
       no_dirs in
       let both : items ≡ item_of 0 about.Root (see.Node kind.Dir) over ∷ item_of 0 (about.Others 0) see.Missing over ∷ [] =

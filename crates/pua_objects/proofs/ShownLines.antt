@@ -1,23 +1,22 @@
 -- What a list shows by the root of its process.
 use Rattle.pua_objects.proofs.Common.{◌≡◌, ◌≢◌, ◌==◌, ℕ, Bool, true, false, List, [], ◌∷◌, refl, sym, ap, ◌∙◌, inl, inr, ◌&&◌, not, filter, map, Bor}
-use Rattle.pua_objects.proofs.Common.{if◌then◌else◌, cond, is_some, and_parts, list_all, eqb-true, eq-eqb, Option, Some, None, Ok, Err, Tree, WellFormed}
-use Rattle.pua_objects.proofs.Common.{is_dir, sound_from, Found, Whole, Slot, CallTable, last_of, ProcessState, perms_kept, Call, Allowed, Line}
-use Rattle.pua_objects.proofs.Common.{Subject, At, Others, subject_of}
+use Rattle.pua_objects.proofs.Common.{◌||◌, if◌then◌else◌, cond, is_some, and_parts, list_all, eqb-true, eq-eqb, Some, None, Ok, Tree, WellFormed}
+use Rattle.pua_objects.proofs.Common.{is_dir, sound_from, Found, Whole, Slot, last_of, ProcessState, perms_kept, Call}
+use Rattle.pua_objects.proofs.Common.{At, Others, subject_of}
 use Rattle.std.proofs.lemmas.Bool.{eqb-false}
-use Rattle.std.specs.Prelude.{◌⊎◌, Result}
+use Rattle.std.specs.Prelude.{◌⊎◌}
 use Rattle.std.specs.List.{Contains}
 use Rattle.pua_tree.specs.Tree.{is_within}
 use Rattle.pua_path.specs.Resolution.{resolution_of_text}
-use Rattle.pua_path.specs.declared.errno.Errno.{Errno}
 use Rattle.pua_path.specs.declared.found.Start.{Start}
 use Rattle.pua_calls.specs.Calls.{ending_of}
-use Rattle.pua_policy.specs.States.{root_dir, start, working_dir}
-use Rattle.pua_policy.specs.Verdict.{verdict_of}
+use Rattle.pua_policy.specs.States.{is_directory, root_dir, start, working_dir}
 use Rattle.pua_policy.specs.declared.open_file.OpenFile.{OpenFile}
 use Rattle.pua_policy.specs.declared.place.Place.TheVariants as place
 use Rattle.pua_objects.specs.Objects.{objects}
-use Rattle.pua_objects.specs.Laws.{CompleteFrom, HasShownLine, IsListed, ShowsWithin, StartsAreIn, StartsIn}
-use Rattle.pua_objects.specs.Roots.{dir_of, files_stay, is_enclosed, is_shown, shown_objects, shown_of, shows, stays_in}
+use Rattle.pua_objects.specs.Laws.{CompleteFrom, ShowsWithin, StartsAreIn, StartsIn}
+use Rattle.pua_objects.specs.Roots.{IsByRoot, dir_of, files_stay, is_enclosed, is_held_inside, is_shown, shown_objects, shown_of}
+use Rattle.pua_objects.specs.Roots.{shows, stays_in}
 use Rattle.pua_objects.specs.declared.roots.Shown.{Shown}
 use Rattle.pua_objects.specs.declared.roots.Shown.TheVariants.{All, Below}
 use Rattle.pua_objects.proofs.Among.{Among, among_contained, among_filter, contained, filter_among}
@@ -66,6 +65,14 @@ encloses t h root = by (not (root_dir h == 0) && is_enclosed t h) refl
     by true e shown = let both = and_parts (not (root_dir h == 0)) (is_enclosed t h) e in parts both.0 both.1 cc
     by false e shown = cc
 
+-- what is shown is by the root of the process
+pub shown_by_root : (t : Tree) (h : ProcessState) → IsByRoot h (shown_of t h)
+shown_by_root t h = by (shown_of t h) refl
+  where
+    by : (shown : Shown) → shown_of t h ≡ shown → IsByRoot h shown
+    by All is = tt
+    by (Below root) is = sym (encloses t h root is).is
+
 pub not_top : (t : Tree) (h : ProcessState) (root : ℕ) → shown_of t h ≡ Below root → root ≢ 0
 not_top t h root below = eqb-false root 0 (encloses t h root below).top
 
@@ -105,19 +112,20 @@ own_in : (t : Tree) (h : ProcessState) (shown : Shown) → shown_of t h ≡ show
 own_in t h All is = tt
 own_in t h (Below root) is = let around = encloses t h root is in (around.is, around.dir)
 
-file_in : (t : Tree) (h : ProcessState) (number : ℕ) (file : OpenFile) → Contains h.files (number, file) → (shown : Shown) → shown_of t h ≡ shown →
-    StartsIn t shown (record { root = root_dir h; dir = file.node })
-file_in t h number file there All is = tt
-file_in t h number file there (Below root) is =
+file_in : (t : Tree) (h : ProcessState) (number : ℕ) (file : OpenFile) → Contains h.files (number, file) → is_directory file ≡ true →
+    (shown : Shown) → shown_of t h ≡ shown → StartsIn t shown (record { root = root_dir h; dir = file.node })
+file_in t h number file there dir All is = tt
+file_in t h number file there dir (Below root) is =
     let around = encloses t h root is in (
       around.is,
-      all_held (λ held. stays_in t root held.1.node) h.files (number, file) around.files (among_contained h.files (number, file) there),
+      sym (ap (λ b. not b || stays_in t root file.node) dir) ∙
+          all_held (λ held. is_held_inside t root held.1) h.files (number, file) around.files (among_contained h.files (number, file) there),
     )
 
 pub starts_are_in : StartsAreIn
 starts_are_in = record {
   own = λ t h. own_in t h (shown_of t h) refl;
-  open_files = λ t h number file there. file_in t h number file there (shown_of t h) refl;
+  open_files = λ t h number file there dir. file_in t h number file there dir (shown_of t h) refl;
 }
 
 -- all is shown where the test holds of all
@@ -153,6 +161,6 @@ shows_within = record {
 
 -- files as they are lent
 pub all_lent : (t : Tree) (root : ℕ) (files : List (Bor ℕ × Bor OpenFile)) →
-    list_all (λ held. stays_in t root held.1.now.node) files ≡ files_stay t root (map (λ held. (held.0.now, held.1.now)) files)
+    list_all (λ held. is_held_inside t root held.1.now) files ≡ files_stay t root (map (λ held. (held.0.now, held.1.now)) files)
 all_lent t root [] = refl
-all_lent t root (held ∷ files) = ap (λ b. stays_in t root held.1.now.node && b) (all_lent t root files)
+all_lent t root (held ∷ files) = ap (λ b. is_held_inside t root held.1.now && b) (all_lent t root files)

@@ -1,10 +1,11 @@
 -- The items of a list as a vector: each says how many names of the item before lead to it.
 use Rattle.std.specs.Prelude.{◌≡◌, ◌≤◌, ⊤, ℕ, List, [], ◌∷◌, ◌++◌, length, take, Option, Some, None}
-use Rattle.pua_tree.specs.Tree.{Tree}
-use Rattle.pua_policy.specs.States.{ProcessState}
+use Rattle.pua_tree.specs.Tree.{Tree, is_within}
+use Rattle.pua_policy.specs.States.{ProcessState, root_dir}
 use Rattle.pua_audit.specs.Reach.{Word}
 use Rattle.pua_objects.specs.Objects.{Item}
 use Rattle.pua_objects.specs.Items.{IsItemOn, SubjectFits, subject_given}
+use Rattle.pua_objects.specs.Roots.{dir_of}
 use Rattle.pua_objects.specs.Veils.{covering_by, covering_over}
 use Rattle.pua_objects.specs.declared.item.Subject as told
 use Rattle.pua_objects.specs.declared.item.Subject.TheVariants as about
@@ -42,8 +43,10 @@ items_told t before (item ∷ items) =
     record { word = word_after before item; subject = subject_given t item.item.subject }
     ∷ items_told t (word_after before item) items
 
--- an item is about something in the tree, and tells what a call is on there, what covers it, and by which veil
+-- an item is about something in the tree, and tells what a call is on there, what covers it, by which veil, and whether it is at or below
+-- the root of the process
 pub record IsToldIn (t : Tree) (process : ProcessState) (item : ListItem) : Type 0 where
   pub fits : SubjectFits t (subject_given t item.item.subject)
   pub tells : IsItemOn t process (subject_given t item.item.subject) item.item
   pub veil : covering_by process.veils item.veil ≡ covering_over t process (subject_given t item.item.subject)
+  pub inside : item.inside ≡ is_within t (dir_of (subject_given t item.item.subject)) (root_dir process)

@@ -1,8 +1,8 @@
 -- A list that is being made: the directories that are entered, and the items so far.
 use Rattle.std.specs.Prelude.{⊤, ◌≡◌, ◌≤◌, ◌<◌, ◌+◌, ℕ, List, [], ◌∷◌, ◌++◌, length, take, drop}
 use Rattle.std.specs.List.{AllByRecursion}
-use Rattle.pua_tree.specs.Tree.{Tree, Spot}
-use Rattle.pua_policy.specs.States.{ProcessState}
+use Rattle.pua_tree.specs.Tree.{Tree, Spot, is_within}
+use Rattle.pua_policy.specs.States.{ProcessState, root_dir}
 use Rattle.pua_audit.specs.Reach.{Word}
 use Rattle.pua_objects.specs.Objects.{Others, items}
 use Rattle.pua_objects.specs.ListItems.{AreNear, IsToldIn, items_told, last_word}
@@ -15,6 +15,11 @@ use Rattle.pua_objects.specs.Walk.{Frame, IsDeepEnough, items_to_come}
 use Rattle.pua_objects.specs.declared.list.ListItem.{ListItem}
 use Rattle.pua_objects.specs.declared.list.Entered.{Entered}
 
+-- what covers a directory's further names, and whether it is at or below the root of the process
+pub record IsOverDir (t : Tree) (process : ProcessState) (over : Over) (dir : ℕ) : Type 0 where
+  pub covers : IsOver process.veils over (covering_over t process (Others dir))
+  pub inside : over.inside ≡ is_within t dir (root_dir process)
+
 -- a directory with so many around it has a frame's names to come; its word is the front of the last one
 pub record IsEnteredAt (t : Tree) (process : ProcessState) (spots : List Spot) (word : Word) (f : Frame) (inner : Entered) (around : ℕ) :
     Type 0 where
@@ -24,7 +29,7 @@ pub record IsEnteredAt (t : Tree) (process : ProcessState) (spots : List Spot) (
   pub names : f.names ≡ names_at inner.dir (drop inner.next spots)
   pub deep : IsDeepEnough t f
   pub passed : AllByRecursion (λ s. inner.dir ≤ s.0) (drop inner.next spots)
-  pub over : IsOver process.veils inner.over (covering_over t process (Others inner.dir))
+  pub over : IsOverDir t process inner.over inner.dir
 
 -- directories, the innermost first
 abbrev pub AreEnteredAt : Tree → ProcessState → List Spot → Word → List Frame → List Entered → Type 0
@@ -44,7 +49,12 @@ pub record IsListing (t : Tree) (process : ProcessState) (spots : List Spot) (in
 -- an item of which what covers it is told
 abbrev pub item_of : ℕ → told.Subject → seen.Object → Over → ListItem
 item_of depth subject object over =
-    record { depth = depth; item = record { subject = subject; object = object; cover = over.cover }; veil = over.veil }
+    record {
+      depth = depth;
+      item = record { subject = subject; object = object; cover = over.cover };
+      veil = over.veil;
+      inside = over.inside;
+    }
 
 -- a directory of which a name was taken
 abbrev pub after_next : Entered → Entered

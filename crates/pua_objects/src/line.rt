@@ -10,15 +10,18 @@ ghost use Rattle.pua_policy.specs.States.{ProcessState};
 ghost use Rattle.pua_policy.specs.Objects.{object_seen};
 ghost use Rattle.pua_policy.specs.Verdict.{cover as cover_of, object_of};
 ghost use Rattle.pua_objects.specs.Objects.{Subject as About, At, Others, cover_in};
-ghost use Rattle.pua_objects.specs.Items.{IsItemOn};
+ghost use Rattle.pua_objects.specs.Items.{IsItemOn, subject_given};
+ghost use Rattle.pua_objects.specs.ListItems.{IsToldIn};
 ghost use Rattle.pua_objects.specs.Lines.{AreAllowed, IsLineOn, IsShownLine};
+ghost use Rattle.pua_objects.specs.Roots.{IsByRoot};
 
 use crate::item::{Item, Subject};
 use crate::kind::ObjectKind;
+use crate::list::ListItem;
 use crate::roots::Shown;
 use pua_calls::{CallTable, Calls};
 use pua_policy::{AllowedCalls, Object, Process, judge};
-use pua_tree::{FileTree, Kind};
+use pua_tree::Kind;
 
 /// A line of the list, but for the names that lead there.
 #[derive(Clone, Copy, PartialEq, Eq)]
@@ -49,20 +52,16 @@ pub fn allowed_line(allowed: &AllowedCalls, item: &Item<'_>) -> ObjectLine
     line_with(item, allowed.on(item.cover, item.object))
 }
 
-/// The same where its list shows the item; else it has no calls.
-pub fn shown_line<T: FileTree>(
-    tree: &T,
-    shown: Shown,
-    allowed: &AllowedCalls,
-    item: &Item<'_>,
-) -> ObjectLine
-    ensures { (process : ProcessState) (table : Rules) (about : About) →
-        AreWorkedOut process table allowed.now →
-        IsItemOn (T.content tree.now) process about item.now →
-        IsShownLine (T.content tree.now) table process shown about result }
+/// The same where its list shows the item; else it has no calls. What is shown is by the root of the
+/// process for which the item was listed.
+pub fn shown_line(shown: &Shown, allowed: &AllowedCalls, item: &ListItem<'_>) -> ObjectLine
+    ensures { (process : ProcessState) (table : Rules) (t : Tree) →
+        AreWorkedOut process table allowed.now → IsByRoot process shown.now →
+        IsToldIn t process item.now →
+        IsShownLine t table process shown.now (subject_given t item.now.item.subject) result }
 {
-    let line = allowed_line(allowed, item);
-    if shown.shows(tree, &item.subject) {
+    let line = allowed_line(allowed, &item.item);
+    if shown.shows(item) {
         return line;
     }
     ObjectLine {

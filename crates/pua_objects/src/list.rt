@@ -33,6 +33,8 @@ pub struct ListItem<'t> {
     /// Which veil covers it, by its index among those of the process in the order of
     /// `Process::veils`; None where none does.
     pub veil: Option<usize>,
+    /// Whether it is at or below the root of the process.
+    pub inside: bool,
 }
 
 impl<'t> ListItem<'t> {
@@ -48,8 +50,8 @@ impl<'t> ListItem<'t> {
     }
 }
 
-/// What stands or could stand in a tree, each with what the veils of a process leave of it: the
-/// root, and after each directory its further names, then what has or could have a name in it by
+/// What stands or could stand in a tree, each with what the veils of a process leave of it, and
+/// whether it is at or below the root of that: the root of the tree, and after each directory its further names, then what has or could have a name in it by
 /// the bytes of the names, each directory followed by what is below it. Each veil that is not at a
 /// directory is at a name. The only error is that a growth was refused.
 pub fn list_items<'t, T: FileTree>(
@@ -199,6 +201,7 @@ fn add_name<'t>(
             cover: over.cover,
         },
         veil: over.veil,
+        inside: over.inside,
     };
     let Ok(()) = items.push(item) else {
         return Err(AllocError);
@@ -227,6 +230,7 @@ fn enter(
             cover: over.cover,
         },
         veil: over.veil,
+        inside: over.inside,
     };
     let Ok(()) = items.push(others) else {
         return Err(AllocError);
@@ -254,6 +258,7 @@ fn root_item<'t>(over: &Over) -> ListItem<'t>
             cover: over.cover,
         },
         veil: over.veil,
+        inside: over.inside,
     }
 }
 
@@ -276,6 +281,7 @@ fn dir_item<'t>(
             cover: over.cover,
         },
         veil: over.veil,
+        inside: over.inside,
     }
 }
 

@@ -2,11 +2,14 @@
 
 ghost use Rattle.std.specs.Prelude.{◌≡◌, IfOk, map};
 ghost use Rattle.pua_tree.specs.Tree.{Tree};
+ghost use Rattle.pua_policy.specs.States.{ProcessState};
 ghost use Rattle.pua_objects.specs.Items.{subject_given};
-ghost use Rattle.pua_objects.specs.Roots.{dir_of, files_stay, is_enclosed, shown_of, shows};
-ghost use Rattle.pua_objects.specs.Roots.{stays_in};
+ghost use Rattle.pua_objects.specs.ListItems.{IsToldIn};
+ghost use Rattle.pua_objects.specs.Roots.{IsByRoot, files_stay, is_enclosed, is_held_inside};
+ghost use Rattle.pua_objects.specs.Roots.{shown_for_ever, shown_of, shows, stays_in};
 
-use crate::item::Subject;
+use crate::list::ListItem;
+use pua_calls::Promises;
 use pua_policy::{OpenFile, Process};
 use pua_tree::{FileTree, Kind, NodeId, OutOfMemory};
 use std::alloc::Global;
@@ -38,26 +41,31 @@ impl Shown {
         }
     }
 
-    /// Whether it shows this. Below a directory that takes a climb.
-    pub fn shows<T: FileTree>(self, tree: &T, subject: &Subject<'_>) -> bool
-        ensures { result ≡ shows (T.content tree.now) self
-            (subject_given (T.content tree.now) subject.now) }
+    /// What a list for ever of it shows: the same, but all where it holds the promise `id`, by which
+    /// it could change its root. The only error is that a growth was refused.
+    pub fn for_ever<T: FileTree>(
+        alloc: Global,
+        tree: &T,
+        process: &Process,
+    ) -> Result<Shown, OutOfMemory>
+        ensures { IfOk result (λ shown. shown ≡ shown_for_ever (T.content tree.now) process.now) }
+    {
+        if process.held().contains(Promises::ID) {
+            return Ok(Shown::All);
+        }
+        Shown::of(alloc, tree, process)
+    }
+
+    /// Whether it shows this item, which was listed for the process by whose root it is.
+    pub fn shows(&self, item: &ListItem<'_>) -> bool
+        ensures { (t : Tree) (process : ProcessState) → IsByRoot process self.now →
+            IsToldIn t process item.now →
+            result ≡ shows t self.now (subject_given t item.now.item.subject) }
     {
         match self {
             Shown::All => true,
-            Shown::Below(root) => tree.is_within(dir_of(subject), root),
+            Shown::Below(_) => item.inside,
         }
-    }
-}
-
-/// The directory in which something stands, or which it is.
-fn dir_of(subject: &Subject<'_>) -> NodeId
-    ensures { (t : Tree) → result ≡ dir_of (subject_given t subject.now) }
-{
-    match *subject {
-        Subject::Root => NodeId::ROOT,
-        Subject::Dir(id, _, _) => id,
-        Subject::Others(dir) | Subject::Name(dir, _) => dir,
     }
 }
 
@@ -74,12 +82,19 @@ fn is_enclosed<T: FileTree>(alloc: Global, tree: &T, process: &Process) -> Resul
     Ok(stay_in(tree, start.root, files.as_slice()))
 }
 
-/// Whether each of these open files stays in this directory.
+/// Whether each of these open files leads nowhere else than into this directory.
 fn stay_in<T: FileTree>(tree: &T, root: NodeId, files: &[(&u32, &OpenFile)]) -> bool
     ensures { result ≡ files_stay (T.content tree.now) root
         (map (λ held. (held.0.now, held.1.now)) files.now) }
 {
-    files.iter().all(|held| stays_in(tree, root, held.1.node))
+    files.iter().all(|held| is_held_inside(tree, root, held.1))
+}
+
+/// Whether an open file is no directory, or one that stays in this directory.
+fn is_held_inside<T: FileTree>(tree: &T, root: NodeId, file: &OpenFile) -> bool
+    ensures { result ≡ is_held_inside (T.content tree.now) root file.now }
+{
+    !file.is_directory() || stays_in(tree, root, file.node)
 }
 
 /// Whether a directory that lives is this one or stands below it. What is no living directory

@@ -17,7 +17,7 @@ use Rattle.pua_tree.specs.Tree.{WellFormed, target_at, parent, row_fits, node_fi
 use Rattle.pua_tree.specs.Tree.{rows_fit_kind}
 use Rattle.pua_tree.specs.declared.node.Kind.TheVariants.{Dir, File, Prog, Link}
 use Rattle.pua_path.specs.Bounds.{target_parts, most_parts}
-use Rattle.pua_path.specs.Walks.{potential}
+use Rattle.pua_path.specs.Walks.{is_here, potential}
 use Rattle.pua_path.specs.declared.text.Ending.TheVariants as ending
 
 -- what is found passes a test that all pass
@@ -149,6 +149,29 @@ text_start_lives t from text w = by (is_absolute text)
     by true h = root_lives t from.root w h
     by false h = h
 
--- the directory above, as the probe answers it
-pub parent_lives : (t : Tree) (dir : ℕ) → WellFormed t → is_dir t dir ≡ true → is_dir t (unwrap_or (parent t dir) 0) ≡ true
-parent_lives t dir w h = ap (λ v. is_dir t (unwrap_or (if v then Some (above t dir) else None) 0)) h ∙ above_lives t dir w
+-- a resolution that isn't at a root of its own is in a living directory
+living_here : (t : Tree) (root dir : ℕ) → WellFormed t → is_here t root dir ≡ true → (not (root == 0) && (dir == root)) ≡ false → is_dir t dir ≡ true
+living_here t root dir w = by (dir == root) refl
+  where
+    top : (root == 0) ≡ true → dir ≡ root → is_dir t dir ≡ true
+    top zero_root same = rw (same, eqb-true root 0 zero_root) w.root
+
+    at_root : (v : Bool) → (root == 0) ≡ v → dir ≡ root → (not v && true) ≡ false → is_dir t dir ≡ true
+    at_root true e same other = top e same
+    at_root false e same other = cc
+
+    elsewhere : (v : Bool) → (v || false) ≡ true → v ≡ true
+    elsewhere true h = refl
+    elsewhere false h = h
+
+    by : (v : Bool) → (dir == root) ≡ v → (is_dir t dir || v) ≡ true → (not (root == 0) && v) ≡ false → is_dir t dir ≡ true
+    by true e here other = at_root (root == 0) refl (eqb-true dir root e) other
+    by false e here other = elsewhere (is_dir t dir) here
+
+-- where a resolution is that was led up, as the probe answers it
+pub parent_here : (t : Tree) (root dir : ℕ) → WellFormed t → is_here t root dir ≡ true → (not (root == 0) && (dir == root)) ≡ false →
+    (unwrap_or (parent t dir) 0 ≡ above t dir) × (is_here t root (unwrap_or (parent t dir) 0) ≡ true)
+parent_here t root dir w here other =
+    let lives = living_here t root dir w here other in
+    let is : unwrap_or (parent t dir) 0 ≡ above t dir = ap (λ v. unwrap_or (if v then Some (above t dir) else None) 0) lives in
+    (is, rw is (ap (λ v. v || (above t dir == root)) (above_lives t dir w)))

@@ -1,5 +1,5 @@
 -- A resolution on its way: what stands at a name, and how one part leads on to the next.
-use Rattle.std.specs.Prelude.{◌≡◌, nat_lt, ℕ, ◌+◌, ◌*◌, ◌≤◌, Bool, if◌then◌else◌, List, [], ◌∷◌, length, Option, Some, None, Result, Ok}
+use Rattle.std.specs.Prelude.{◌≡◌, nat_lt, ℕ, ◌+◌, ◌*◌, ◌≤◌, ◌==◌, Bool, ◌||◌, if◌then◌else◌, List, [], ◌∷◌, length, Option, Some, None, Result, Ok}
 use Rattle.std.specs.Prelude.{Err, IsTrue}
 use Rattle.pua_tree.specs.Tree.{Tree, Spot, WellFormed, is_dir}
 use Rattle.pua_path.specs.Limits.{most_links}
@@ -127,9 +127,12 @@ potential t left rest = length rest.parts + most_parts t * left
 abbrev pub potential_of : Tree → Resolving → ℕ
 potential_of t walk = potential t walk.left walk.rest
 
--- a resolution that can go on: from a living directory, by a living root, with room for the targets that may come
+-- where a resolution may be: in a living directory, or at the root, which may have been removed
+abbrev pub is_here : Tree → ℕ → ℕ → Bool
+is_here t root dir = is_dir t dir || (dir == root)
+
+-- a resolution that can go on, with room for the targets that may come
 pub record CanGoOn (t : Tree) (root here left : ℕ) (rest : Remaining) : Type 0 where
   pub tree : WellFormed t
-  pub by : IsTrue (is_dir t root)
-  pub dir : IsTrue (is_dir t here)
+  pub dir : IsTrue (is_here t root here)
   pub room : rest.depth + left ≤ most_links

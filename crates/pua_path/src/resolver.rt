@@ -15,6 +15,7 @@ ghost use Rattle.pua_path.specs.Limits.{most_links};
 ghost use Rattle.pua_path.specs.Paths.{is_absolute, part_of, parts_of};
 ghost use Rattle.pua_path.specs.Walks.{way_of, way_seen, founds_seen, resolved_seen};
 ghost use Rattle.pua_path.specs.Walks.{standing_seen, HasFewParts, IsSeenIn, CanGoOn, LeadsOn, TracesOn};
+ghost use Rattle.pua_path.specs.Walks.{is_here};
 ghost use Rattle.pua_path.specs.Onward.{followed, is_followed_at, onward_by, onward_seen};
 ghost use Rattle.pua_path.specs.Onward.{found_alone, IsOnwardIn, IsByName};
 ghost use Rattle.pua_path.specs.Walks.{walk_end, potential_of};
@@ -97,8 +98,7 @@ fn resolve_text<'a, 't: 'a, P: Probe<'t>>(
     text: Readable<'a>,
     mode: Last,
 ) -> Result<LentFound<'a>, Errno>
-    requires root { IsTrue (is_dir (P.tree probe.old) start.root) }
-    requires dir { IsTrue (is_dir (P.tree probe.old) start.dir) }
+    requires dir { IsTrue (is_here (P.tree probe.old) start.root start.dir) }
     requires left { left ≤ most_links }
     ensures exact { let t = rooted (P.tree probe.old) start.root in
         let parts = rest_parts text.entry.bytes.now in founds_seen result
@@ -141,8 +141,7 @@ fn follow_on<'a, 't: 'a, P: Probe<'t>>(
     text: Readable<'a>,
     mode: Last,
 ) -> Result<LentFound<'a>, Errno>
-    requires root { IsTrue (is_dir (P.tree probe.old) from.root) }
-    requires dir { IsTrue (is_dir (P.tree probe.old) from.dir) }
+    requires dir { IsTrue (is_here (P.tree probe.old) from.root from.dir) }
     requires left { left ≤ most_links }
     ensures exact { let t = rooted (P.tree probe.old) from.root in
         let parts = rest_parts text.entry.bytes.now in founds_seen result
@@ -164,8 +163,7 @@ fn follow_counted<'a, 't: 'a, P: Probe<'t>>(
     text: Readable<'a>,
     mode: Last,
 ) -> Result<(LentFound<'a>, u8), Errno>
-    requires root { IsTrue (is_dir (P.tree probe.old) from.root) }
-    requires dir { IsTrue (is_dir (P.tree probe.old) from.dir) }
+    requires dir { IsTrue (is_here (P.tree probe.old) from.root from.dir) }
     requires left { left ≤ most_links }
     ensures exact { let t = rooted (P.tree probe.old) from.root in
         let parts = rest_parts text.entry.bytes.now in
@@ -184,7 +182,8 @@ fn follow_counted<'a, 't: 'a, P: Probe<'t>>(
 
 /// What one part that another follows leads to, by the rules of `resolve`, `used` links having been
 /// followed before it: the directory, which lives, and the links followed by then, 32 at most; so
-/// both may be handed to the next `step`, and to `last`. Needs the root and the directory to live.
+/// both may be handed to the next `step`, and to `last`. Needs the directory to live; where the root
+/// was removed, a link may lead to that, and then what is answered need not live.
 /// Errors: `ENOENT` where nothing has that name, `ENOTDIR` where it is no directory, `ELOOP` where
 /// a 33rd link would be followed. Takes no memory, and a bounded number of probes.
 pub fn step<'t, P: Probe<'t>>(
@@ -193,12 +192,12 @@ pub fn step<'t, P: Probe<'t>>(
     used: u8,
     part: &Part,
 ) -> Result<(NodeId, u8), Errno>
-    requires root { IsTrue (is_dir (P.tree probe.old) from.root) }
     requires dir { IsTrue (is_dir (P.tree probe.old) from.dir) }
     requires used { used ≤ most_links }
     ensures exact { result
         ≡ step (rooted (P.tree probe.old) from.root) from.dir used part.now }
-    ensures lives { IfOk result (λ next. IsTrue (is_dir (P.tree probe.old) next.0)) }
+    ensures lives { IsTrue (is_dir (P.tree probe.old) from.root) →
+        IfOk result (λ next. IsTrue (is_dir (P.tree probe.old) next.0)) }
     ensures used { IfOk result (λ next. next.1 ≤ most_links) }
     ensures tree { P.tree probe.new ≡ P.tree probe.old }
     ensures cost { P.count probe.new ≤ P.count probe.old + part_cost (P.tree probe.old) }
@@ -222,9 +221,9 @@ fn not_entered(node: Option<NodeId>) -> Errno
 }
 
 /// What the last part names, by the rules of `resolve`, `used` links having been followed before
-/// it. Needs the root and the directory to live, and `used` to be 32 at most. Errors are those of
-/// `step`, for the parts of a link's target; a last part that names nothing, or no directory, is
-/// found. What is found is of the tree as it stands, as with `resolve`. Takes no memory.
+/// it. Needs the directory to live, and `used` to be 32 at most. Errors are those of `step`, for the
+/// parts of a link's target; a last part that names nothing, or no directory, is found. What is
+/// found is of the tree as it stands, as with `resolve`, where the root lives. Takes no memory.
 pub fn last<'t, P: Probe<'t>>(
     probe: &mut P,
     from: Start,
@@ -232,13 +231,14 @@ pub fn last<'t, P: Probe<'t>>(
     part: &Part,
     mode: Last,
 ) -> Result<Found, Errno>
-    requires root { IsTrue (is_dir (P.tree probe.old) from.root) }
     requires dir { IsTrue (is_dir (P.tree probe.old) from.dir) }
     requires used { used ≤ most_links }
     ensures exact { result
         ≡ last (rooted (P.tree probe.old) from.root) from.dir used part.now mode }
-    ensures fits { FoundsFit (P.tree probe.old) result }
-    ensures named { IfOk result (StandsAsNamed (P.tree probe.old)) }
+    ensures fits { IsTrue (is_dir (P.tree probe.old) from.root) →
+        FoundsFit (P.tree probe.old) result }
+    ensures named { IsTrue (is_dir (P.tree probe.old) from.root) →
+        IfOk result (StandsAsNamed (P.tree probe.old)) }
     ensures tree { P.tree probe.new ≡ P.tree probe.old }
     ensures cost { P.count probe.new ≤ P.count probe.old + part_cost (P.tree probe.old) }
 {
@@ -249,19 +249,20 @@ pub fn last<'t, P: Probe<'t>>(
 /// What the last part names where no link was followed before it and its own are, and how many that
 /// are, 32 at most. It decides `last` and `step` for any number of links used before: while both
 /// together are within 32, `last` names the same, and `step` leads to it, with the sum used, if it
-/// is a directory; where they are not, both are `ELOOP`. Needs the root and the directory to live.
-/// Errors are those of `last`; what is found is of the tree as it stands. Takes no memory, and as
-/// many probes as `step` at most.
+/// is a directory; where they are not, both are `ELOOP`. Needs the directory to live. Errors are
+/// those of `last`; what is found is of the tree as it stands, where the root lives. Takes no
+/// memory, and as many probes as `step` at most.
 pub fn follow<'t, P: Probe<'t>>(
     probe: &mut P,
     from: Start,
     part: &Part,
 ) -> Result<(Found, u8), Errno>
-    requires root { IsTrue (is_dir (P.tree probe.old) from.root) }
     requires dir { IsTrue (is_dir (P.tree probe.old) from.dir) }
     ensures exact { result ≡ follow (rooted (P.tree probe.old) from.root) from.dir part.now }
-    ensures fits { IfOk result (λ found. FoundFits (P.tree probe.old) found.0) }
-    ensures named { IfOk result (λ found. StandsAsNamed (P.tree probe.old) found.0) }
+    ensures fits { IsTrue (is_dir (P.tree probe.old) from.root) →
+        IfOk result (λ found. FoundFits (P.tree probe.old) found.0) }
+    ensures named { IsTrue (is_dir (P.tree probe.old) from.root) →
+        IfOk result (λ found. StandsAsNamed (P.tree probe.old) found.0) }
     ensures links { IfOk result (λ found. found.1 ≤ most_links) }
     ensures tree { P.tree probe.new ≡ P.tree probe.old }
     ensures cost { P.count probe.new ≤ P.count probe.old + part_cost (P.tree probe.old) }
@@ -277,13 +278,16 @@ fn resolve_part<'t, P: Probe<'t>>(
     part: &Part,
     mode: Last,
 ) -> Result<(Found, u8), Errno>
-    requires root { IsTrue (is_dir (P.tree probe.old) from.root) }
     requires dir { IsTrue (is_dir (P.tree probe.old) from.dir) }
     requires left { left ≤ most_links }
     ensures exact { let t = rooted (P.tree probe.old) from.root in
         result ≡ resolve_parts left t mode from.dir ways.Top (part.now ∷ []) }
-    ensures fits { IfOk result (λ found. FoundFits (P.tree probe.old) found.0) }
-    ensures named { IfOk result (λ found. StandsAsNamed (P.tree probe.old) found.0) }
+    ensures fits { IsTrue (is_dir (P.tree probe.old) from.root) →
+        IsTrue (is_dir (P.tree probe.old) from.dir) →
+        IfOk result (λ found. FoundFits (P.tree probe.old) found.0) }
+    ensures named { IsTrue (is_dir (P.tree probe.old) from.root) →
+        IsTrue (is_dir (P.tree probe.old) from.dir) →
+        IfOk result (λ found. StandsAsNamed (P.tree probe.old) found.0) }
     ensures left { IfOk result (λ found. found.1 ≤ left) }
     ensures tree { P.tree probe.new ≡ P.tree probe.old }
     ensures cost { P.count probe.new ≤ P.count probe.old + part_cost (P.tree probe.old) }
@@ -337,7 +341,6 @@ fn start_of<'t, P: Probe<'t>>(probe: &mut P, from: Start, text: &[u8]) -> Option
 /// Whether a root was not removed; node 0 is not asked for.
 fn has_root<'t, P: Probe<'t>>(probe: &mut P, root: NodeId) -> bool
     ensures has { result ≡ has_root (P.tree probe.old) root }
-    ensures lives { result ≡ true → IsTrue (is_dir (P.tree probe.old) root) }
     ensures tree { P.tree probe.new ≡ P.tree probe.old }
 {
     probe.known();
@@ -435,11 +438,11 @@ fn lead_by_piece<'n, 't: 'n, P: Probe<'t>>(
     is_last: bool,
     mode: Last,
 ) -> Onward<'n>
-    requires dir { IsTrue (is_dir (P.tree probe.old) from.dir) }
+    requires dir { IsTrue (is_here (P.tree probe.old) from.root from.dir) }
     ensures exact { let t = rooted (P.tree probe.old) from.root in
         let part = part_of piece.entry.bytes.now in
         onward_seen result ≡ onward_by t mode from.dir part is_last }
-    ensures stands { IsOnwardIn (P.tree probe.old) result }
+    ensures stands { IsOnwardIn (P.tree probe.old) from.root result }
     ensures named { IsByName piece.entry.bytes.now result }
     ensures tree { P.tree probe.new ≡ P.tree probe.old }
     ensures count { P.count probe.new ≤ P.count probe.old + 3 }
@@ -458,10 +461,10 @@ fn lead_by_part<'n, 't: 'n, P: Probe<'t>>(
     part: &'n Part,
     mode: Last,
 ) -> Onward<'n>
-    requires dir { IsTrue (is_dir (P.tree probe.old) from.dir) }
+    requires dir { IsTrue (is_here (P.tree probe.old) from.root from.dir) }
     ensures exact { let t = rooted (P.tree probe.old) from.root in
         onward_seen result ≡ onward_by t mode from.dir part.now true }
-    ensures stands { IsOnwardIn (P.tree probe.old) result }
+    ensures stands { IsOnwardIn (P.tree probe.old) from.root result }
     ensures tree { P.tree probe.new ≡ P.tree probe.old }
     ensures count { P.count probe.new ≤ P.count probe.old + 3 }
 {
@@ -487,7 +490,7 @@ fn lead_by_name<'n, 't: 'n, P: Probe<'t>>(
     ensures exact { let t = rooted (P.tree probe.old) from.root in
         let part = parts.Name name.entry.bytes.now in
         onward_seen result ≡ onward_by t mode from.dir part is_last }
-    ensures stands { IsOnwardIn (P.tree probe.old) result }
+    ensures stands { IsOnwardIn (P.tree probe.old) from.root result }
     ensures tree { P.tree probe.new ≡ P.tree probe.old }
     ensures count { P.count probe.new ≤ P.count probe.old + 3 }
 {
@@ -541,9 +544,9 @@ fn end_at<'n>(
 
 /// The directory above a directory, by its root.
 fn above<'t, P: Probe<'t>>(probe: &mut P, from: Start) -> NodeId
-    requires dir { IsTrue (is_dir (P.tree probe.old) from.dir) }
+    requires dir { IsTrue (is_here (P.tree probe.old) from.root from.dir) }
     ensures above { result ≡ above_in (rooted (P.tree probe.old) from.root) from.dir }
-    ensures lives { IsTrue (is_dir (P.tree probe.old) result) }
+    ensures here { IsTrue (is_here (P.tree probe.old) from.root result) }
     ensures tree { P.tree probe.new ≡ P.tree probe.old }
     ensures count { P.count probe.new ≤ P.count probe.old + 1 }
 {

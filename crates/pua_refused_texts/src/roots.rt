@@ -1,48 +1,61 @@
 //! Wrong bodies of what a list shows of a process by its root, and of what closes all that a
 //! process has open. In each tree `a`, the root of the process, has a directory `b` in it.
 
-use pua_calls::{Call, CallTable, Perms};
-use pua_objects::{Item, Shown, Subject, shown_line};
+use pua_calls::{Call, CallTable, Perms, Promises, Rules};
+use pua_objects::{Item, ListItem, Shown, Subject, shown_line};
 use pua_policy::{AllowedCalls, Cover, Object, OpenFile, Place, Process};
-use pua_tree::{Kind, Name, NodeId, read_listing};
+use pua_tree::{Kind, NodeId, read_listing};
 use std::alloc::Global;
 
-/// Of a process that can't leave its root nothing is shown that is outside of it.
-fn outside_is_shown(alloc: Global, name: &Name) {
-    let Ok(tree) = read_listing(alloc, b"tree 1\n0 dir\n1 dir 0 a\n2 dir 1 b\n") else {
-        return;
+/// Where things below a directory are shown, what is outside of it is not.
+fn outside_is_shown() {
+    let shown = Shown::Below(NodeId::new(1));
+    let top = ListItem {
+        depth: 0,
+        item: Item {
+            subject: Subject::Root,
+            object: Object::Node(Kind::Dir),
+            cover: Cover::All,
+        },
+        veil: None,
+        inside: false,
     };
-    let Ok(mut process) = Process::new(alloc) else {
-        return;
-    };
-    process.set_root(NodeId::new(1));
-    process.set_dir(NodeId::new(1));
-    let Ok(shown) = Shown::of(alloc, &tree, &process) else {
-        return;
-    };
-    if shown.shows(&tree, &Subject::Name(NodeId::ROOT, name)) {
+    if shown.shows(&top) {
         unreachable!()
     }
 }
 
-/// What is below the root is shown, and not what stands in it alone.
-fn below_is_left_out(alloc: Global, name: &Name) {
-    let Ok(tree) = read_listing(alloc, b"tree 1\n0 dir\n1 dir 0 a\n2 dir 1 b\n") else {
-        return;
-    };
+/// What is below the root is shown.
+fn below_is_left_out() {
     let shown = Shown::Below(NodeId::new(1));
-    if !shown.shows(&tree, &Subject::Name(NodeId::new(2), name)) {
+    let below = ListItem {
+        depth: 2,
+        item: Item {
+            subject: Subject::Others(NodeId::new(2)),
+            object: Object::Missing,
+            cover: Cover::All,
+        },
+        veil: None,
+        inside: true,
+    };
+    if !shown.shows(&below) {
         unreachable!()
     }
 }
 
-/// The root itself is shown, though it stands in a directory that isn't.
-fn own_root_is_left_out(alloc: Global, name: &Name) {
-    let Ok(tree) = read_listing(alloc, b"tree 1\n0 dir\n1 dir 0 a\n2 dir 1 b\n") else {
-        return;
+/// Where all is shown, what is outside of the root is too.
+fn all_is_cut() {
+    let top = ListItem {
+        depth: 0,
+        item: Item {
+            subject: Subject::Root,
+            object: Object::Node(Kind::Dir),
+            cover: Cover::All,
+        },
+        veil: None,
+        inside: false,
     };
-    let shown = Shown::Below(NodeId::new(1));
-    if !shown.shows(&tree, &Subject::Dir(NodeId::new(1), NodeId::ROOT, name)) {
+    if !Shown::All.shows(&top) {
         unreachable!()
     }
 }
@@ -126,21 +139,89 @@ fn held_directory_not_asked(alloc: Global) {
     }
 }
 
-/// A line that its list doesn't show has no calls.
-fn hidden_line_keeps_calls(alloc: Global) {
+/// Where a file is open that is no directory, nothing else is shown.
+fn held_file_opens(alloc: Global) {
     let Ok(tree) = read_listing(alloc, b"tree 1\n0 dir\n1 dir 0 a\n2 dir 1 b\n") else {
         return;
     };
-    let Ok(process) = Process::new(alloc) else {
+    let Ok(mut process) = Process::new(alloc) else {
         return;
     };
-    let allowed = AllowedCalls::new(&process, &CallTable::standard());
-    let item = Item {
-        subject: Subject::Root,
-        object: Object::Node(Kind::Dir),
-        cover: Cover::All,
+    process.set_root(NodeId::new(1));
+    process.set_dir(NodeId::new(1));
+    let outside = OpenFile {
+        node: NodeId::new(3),
+        kind: Kind::File,
+        letters: Perms::READ,
     };
-    let line = shown_line(&tree, Shown::Below(NodeId::new(1)), &allowed, &item);
+    let Ok(()) = process.open_at(3, outside) else {
+        return;
+    };
+    let Ok(shown) = Shown::of(alloc, &tree, &process) else {
+        return;
+    };
+    if shown == Shown::All {
+        unreachable!()
+    }
+}
+
+/// For ever all is shown of a process that never pledged, and so can change its root.
+fn never_pledged_is_closed(alloc: Global) {
+    let Ok(tree) = read_listing(alloc, b"tree 1\n0 dir\n1 dir 0 a\n2 dir 1 b\n") else {
+        return;
+    };
+    let Ok(mut process) = Process::new(alloc) else {
+        return;
+    };
+    process.set_root(NodeId::new(1));
+    process.set_dir(NodeId::new(1));
+    let Ok(shown) = Shown::for_ever(alloc, &tree, &process) else {
+        return;
+    };
+    if shown != Shown::All {
+        unreachable!()
+    }
+}
+
+/// For ever nothing outside of its root is shown of one that pledged without `id`.
+fn pledged_stays_open(alloc: Global) {
+    let Ok(tree) = read_listing(alloc, b"tree 1\n0 dir\n1 dir 0 a\n2 dir 1 b\n") else {
+        return;
+    };
+    let Ok(mut process) = Process::new(alloc) else {
+        return;
+    };
+    process.set_root(NodeId::new(1));
+    process.set_dir(NodeId::new(1));
+    let Ok(()) = process.pledge(Rules::Openbsd, Some(Promises::RPATH), None) else {
+        return;
+    };
+    let Ok(shown) = Shown::for_ever(alloc, &tree, &process) else {
+        return;
+    };
+    if shown == Shown::All {
+        unreachable!()
+    }
+}
+
+/// A line that its list doesn't show has no calls.
+fn hidden_line_keeps_calls(alloc: Global) {
+    let Ok(mut process) = Process::new(alloc) else {
+        return;
+    };
+    process.set_root(NodeId::new(1));
+    let allowed = AllowedCalls::new(&process, &CallTable::standard());
+    let top = ListItem {
+        depth: 0,
+        item: Item {
+            subject: Subject::Root,
+            object: Object::Node(Kind::Dir),
+            cover: Cover::All,
+        },
+        veil: None,
+        inside: false,
+    };
+    let line = shown_line(&Shown::Below(NodeId::new(1)), &allowed, &top);
     if line.calls.contains(Call::Stat) {
         unreachable!()
     }
@@ -148,19 +229,22 @@ fn hidden_line_keeps_calls(alloc: Global) {
 
 /// A line that its list shows has the calls that are allowed.
 fn shown_line_loses_calls(alloc: Global) {
-    let Ok(tree) = read_listing(alloc, b"tree 1\n0 dir\n1 dir 0 a\n2 dir 1 b\n") else {
+    let Ok(mut process) = Process::new(alloc) else {
         return;
     };
-    let Ok(process) = Process::new(alloc) else {
-        return;
-    };
+    process.set_root(NodeId::new(1));
     let allowed = AllowedCalls::new(&process, &CallTable::standard());
-    let item = Item {
-        subject: Subject::Others(NodeId::new(2)),
-        object: Object::Missing,
-        cover: Cover::All,
+    let below = ListItem {
+        depth: 2,
+        item: Item {
+            subject: Subject::Others(NodeId::new(2)),
+            object: Object::Missing,
+            cover: Cover::All,
+        },
+        veil: None,
+        inside: true,
     };
-    let line = shown_line(&tree, Shown::Below(NodeId::new(1)), &allowed, &item);
+    let line = shown_line(&Shown::Below(NodeId::new(1)), &allowed, &below);
     if !line.calls.contains(Call::Mkdir) {
         unreachable!()
     }

@@ -8,7 +8,7 @@ use Rattle.pua_audit.specs.Reach.{Word}
 use Rattle.pua_ever.specs.Ever.{EverLine, Thing, ever_line_text as line_text, has_ever_calls}
 use Rattle.pua_ever.specs.EverLines.{IsThing, line_with}
 use Rattle.pua_ever.specs.EverList.{word_of_row}
-use Rattle.pua_ever.specs.Through.{execs_of}
+use Rattle.pua_ever.specs.ShownForEver.{execs_shown}
 use Rattle.pua_ever.specs.declared.list.EverRow.{EverRow}
 use Rattle.pua_texts.specs.EndingsState.{EndingsState}
 use Rattle.pua_texts.specs.EverLines.{heading_ever}
@@ -21,7 +21,7 @@ lines_with t lines = flat_map (λ line. line_text t line.0 ++ line.1) lines
 
 -- the heading of a list for ever, the state of its process, and lines with what stands behind them
 abbrev pub ever_list_with : Rules → CallTable → Tree → ℕ → ProcessState → List (EverLine × List ℕ) → List ℕ
-ever_list_with rules table t process h lines = head_lines t (heading_ever rules (execs_of t table h) process) h ++ lines_with t lines
+ever_list_with rules table t process h lines = head_lines t (heading_ever rules (execs_shown t table h) process) h ++ lines_with t lines
 
 -- Notes: rows of the code with a text for each.
 

@@ -7,7 +7,7 @@ use Rattle.pua_policy.specs.States.{ProcessState}
 use Rattle.pua_audit.specs.Reach.{Word, printed_path}
 use Rattle.pua_audit.specs.declared.base.Base.TheVariants.{Root}
 use Rattle.pua_ever.specs.Ever.{EverLine, ever_line_text as line_text}
-use Rattle.pua_ever.specs.Through.{ever_lasting, execs_of}
+use Rattle.pua_ever.specs.ShownForEver.{shown_lasting, execs_shown}
 use Rattle.pua_ever.specs.declared.lasting_list.ExecBound.{ExecBound}
 use Rattle.pua_ever.specs.declared.line.EverThing.{EverThing}
 use Rattle.pua_ever.specs.declared.line.EverThing.TheVariants.{Stands, Comes}
@@ -38,4 +38,4 @@ heading_ever rules execs process = record { time = Ever execs; rules = rules; nu
 -- where all that they start is bounded, what they start can touch it too
 abbrev pub ever_list : Rules → CallTable → Tree → ℕ → ProcessState → List ℕ
 ever_list rules table t process h =
-    head_lines t (heading_ever rules (execs_of t table h) process) h ++ ever_lines t (ever_lasting t table h)
+    head_lines t (heading_ever rules (execs_shown t table h) process) h ++ ever_lines t (shown_lasting t table h)

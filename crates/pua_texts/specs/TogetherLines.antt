@@ -5,7 +5,7 @@ use Rattle.pua_calls.specs.Calls.{CallTable}
 use Rattle.pua_calls.specs.declared.rules.Rules.{Rules}
 use Rattle.pua_policy.specs.States.{ProcessState, is_ended, veils}
 use Rattle.pua_objects.specs.Objects.{with_commas}
-use Rattle.pua_ever.specs.Through.{ever_lasting, execs_of}
+use Rattle.pua_ever.specs.ShownForEver.{shown_lasting, execs_shown}
 use Rattle.pua_ever.specs.Together.{joined}
 use Rattle.pua_texts.specs.EverLines.{ever_lines}
 use Rattle.pua_texts.specs.FileLines.{files_lines}
@@ -44,7 +44,7 @@ one_of table members = one_for table (living members)
 abbrev pub joint_list : Rules → CallTable → Tree → Option ProcessState → List ℕ
 joint_list rules table t None = []
 joint_list rules table t (Some one) =
-    (bound_lines rules (Ever (execs_of t table one)) [] one ++ veil_lines t (veils one)) ++ ever_lines t (ever_lasting t table one)
+    (bound_lines rules (Ever (execs_shown t table one)) [] one ++ veil_lines t (veils one)) ++ ever_lines t (shown_lasting t table one)
 
 -- the list of what several processes can ever touch together: its heading, the state of each of them, and the list of the one
 -- that stands for those that live; where none lives, the states are all

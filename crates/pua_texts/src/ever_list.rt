@@ -7,7 +7,7 @@ ghost use Rattle.pua_tree.specs.Tree.{Tree};
 ghost use Rattle.pua_ever.specs.Ever.{EverLine as Told};
 ghost use Rattle.pua_ever.specs.EverList.{AreEverTold};
 ghost use Rattle.pua_ever.specs.LastingList.{IsLasting};
-ghost use Rattle.pua_ever.specs.Through.{execs_of};
+ghost use Rattle.pua_ever.specs.ShownForEver.{execs_shown};
 ghost use Rattle.pua_texts.specs.EndingsState.{plain};
 ghost use Rattle.pua_texts.specs.EverHowLines.{AreToldWith, ever_list_with, lines_numbered};
 ghost use Rattle.pua_texts.specs.EverLines.{ever_lines, ever_list, heading_ever};
@@ -59,7 +59,7 @@ pub fn begin_ever_with<'t, T: FileTree>(
     texts: Vec<String>,
 ) -> Result<VecDeque<ProcessList<'t>>, OutOfMemory>
     ensures { IfOk result (λ lists. (table : CallTable) (lines : List (Told × List ℕ)) →
-        list.now.execs ≡ execs_of (T.content tree.now) table process.now →
+        list.now.execs ≡ execs_shown (T.content tree.now) table process.now →
         AreToldWith (T.content tree.now) [] list.now.rows.items (map string_bytes texts.items)
         lines → lists_text (T.content tree.now) lists.items
         ≡ ever_list_with rules table (T.content tree.now) number process.now lines) }

@@ -2,14 +2,12 @@
 
 ghost use Rattle.std.specs.Prelude.{◌≡◌, ℕ, [], IfOk, flat_map};
 ghost use Rattle.std.specs.List.{AllByRecursion};
-ghost use Rattle.pua_calls.specs.Calls.{CallTable as Rules, rule_of};
+ghost use Rattle.pua_calls.specs.Calls.{rule_of};
 ghost use Rattle.pua_calls.specs.CallSets.{calls_in};
-ghost use Rattle.pua_policy.specs.AllowedCalls.{AreWorkedOut};
 ghost use Rattle.pua_policy.specs.Reasons.{promising};
-ghost use Rattle.pua_policy.specs.States.{ProcessState};
-ghost use Rattle.pua_objects.specs.Items.{IsItemOn};
-ghost use Rattle.pua_objects.specs.Lines.{IsShownLine, shown_lines};
-ghost use Rattle.pua_objects.specs.Objects.{Subject as About};
+ghost use Rattle.pua_objects.specs.Lines.{shown_lines};
+ghost use Rattle.pua_objects.specs.Roots.{IsByRoot};
+ghost use Rattle.pua_tree.specs.Tree.{Tree};
 ghost use Rattle.pua_why.specs.Columns.{let_by, resting_on};
 ghost use Rattle.pua_texts.specs.EndingsState.{plain};
 ghost use Rattle.pua_objects.specs.ListItems.{IsToldIn, items_told};
@@ -22,29 +20,29 @@ use crate::endings::Endings;
 use crate::list_line::ListLine;
 use pua_calls::{Call, CallTable, Calls, Promises};
 use pua_ever::EverThing;
-use pua_objects::{Item, ListItem, ObjectLine, Shown, shown_line};
+use pua_objects::{ListItem, Shown, shown_line};
 use pua_policy::{AllowedCalls, Process, Promising};
-use pua_tree::{FileTree, OutOfMemory};
+use pua_tree::OutOfMemory;
 use std::alloc::Global;
 
 /// The lines of those of these items of a tree that are shown, after which stands LF. The only
 /// error is that a growth was refused.
-pub(crate) fn object_lines<'t, T: FileTree>(
+pub(crate) fn object_lines<'t>(
     alloc: Global,
-    tree: &T,
-    shown: Shown,
+    shown: &Shown,
     process: &Process,
     table: &CallTable,
     items: &[ListItem<'t>],
 ) -> Result<Vec<ListLine<'t>>, OutOfMemory>
-    ensures { let t = T.content tree.now in IfOk result (λ lines.
-        AllByRecursion (IsToldIn t process.now) items.now → lines_text plain [] lines.items
-        ≡ object_lines t (shown_lines t table.now process.now shown (items_told t [] items.now))) }
+    ensures { IfOk result (λ lines. (t : Tree) → IsByRoot process.now shown.now →
+        AllByRecursion (IsToldIn t process.now) items.now →
+        lines_text plain [] lines.items ≡ object_lines t
+        (shown_lines t table.now process.now shown.now (items_told t [] items.now))) }
 {
     let allowed = AllowedCalls::new(process, table);
     let mut lines = Vec::with_capacity(alloc, items.len())?;
     for item in items {
-        let line = line_shown(tree, &shown, &allowed, &item.item);
+        let line = shown_line(shown, &allowed, item);
         let Ok(()) = lines.push(ListLine {
             depth: item.depth,
             name: item.name(),
@@ -59,48 +57,29 @@ pub(crate) fn object_lines<'t, T: FileTree>(
     Ok(lines)
 }
 
-/// The line of an item of a tree, which has no calls where it isn't shown.
-fn line_shown<T: FileTree>(
-    tree: &T,
-    shown: &Shown,
-    allowed: &AllowedCalls,
-    item: &Item<'_>,
-) -> ObjectLine
-    ensures { (process : ProcessState) (table : Rules) (about : About) →
-        AreWorkedOut process table allowed.now →
-        IsItemOn (T.content tree.now) process about item.now →
-        IsShownLine (T.content tree.now) table process shown.now about result }
-{
-    match *shown {
-        Shown::All => shown_line(tree, Shown::All, allowed, item),
-        Shown::Below(root) => shown_line(tree, Shown::Below(root), allowed, item),
-    }
-}
-
 /// The lines of those of these items of a tree that are shown, with the promises on which their
 /// calls rest, whose columns are added, and the veils that cover them. The only error is that a
 /// growth was refused.
-pub(crate) fn why_lines<'t, T: FileTree>(
+pub(crate) fn why_lines<'t>(
     alloc: Global,
-    tree: &T,
-    shown: Shown,
+    shown: &Shown,
     process: &Process,
     table: &CallTable,
     items: &[ListItem<'t>],
     columns: &mut Endings,
 ) -> Result<Vec<ListLine<'t>>, OutOfMemory>
     ensures { IfOk result (λ lines. (p : ServedScript) (number : ℕ) →
-        T.content tree.now ≡ (world_left p).tree → table.now ≡ p.table →
+        table.now ≡ p.table → IsByRoot process.now shown.now →
         AllByRecursion (IsToldIn (world_left p).tree process.now) items.now →
         AreColumnsOf p number process.now.veils columns.old →
         lines_text columns.new [] lines.items ≡ flat_map (why_line p number process.now)
-        (shown_lines (world_left p).tree p.table process.now shown
+        (shown_lines (world_left p).tree p.table process.now shown.now
         (items_told (world_left p).tree [] items.now))) }
 {
     let allowed = AllowedCalls::new(process, table);
     let mut lines = Vec::with_capacity(alloc, items.len())?;
     for item in items {
-        let line = line_shown(tree, &shown, &allowed, &item.item);
+        let line = shown_line(shown, &allowed, item);
         let resting = columns.number_of(alloc, resting_on(process, table, line.calls))?;
         let Ok(()) = lines.push(ListLine {
             depth: item.depth,

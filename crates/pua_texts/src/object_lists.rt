@@ -85,6 +85,6 @@ fn begin_list<'t, T: FileTree>(
     let head = ProcessHead::begin(alloc, tree, heading, process)?;
     let items = list_items(alloc, tree, process)?;
     let shown = Shown::of(alloc, tree, process)?;
-    let lines = object_lines(alloc, tree, shown, process, table, items.as_slice())?;
+    let lines = object_lines(alloc, &shown, process, table, items.as_slice())?;
     ProcessList::new(alloc, head, lines, Endings::plain(alloc))
 }

@@ -91,6 +91,6 @@ fn begin_list<'t, T: FileTree>(
     let mut columns = veil_columns(alloc, tree, process, lines)?;
     let shown = Shown::of(alloc, tree, process)?;
     let items = items.as_slice();
-    let lines = why_lines(alloc, tree, shown, process, table, items, &mut columns)?;
+    let lines = why_lines(alloc, &shown, process, table, items, &mut columns)?;
     ProcessList::new(alloc, head, lines, columns)
 }

@@ -20,7 +20,8 @@ use Rattle.pua_ever.specs.Ever.{New, NewDir, NewOthers, NewFile, NewLink, can_li
 use Rattle.pua_ever.specs.Ever.{is_turned_by, is_turned_held}
 use Rattle.pua_ever.proofs.ForCallers.{yes_is}
 use Rattle.pua_tight.specs.Narrower.{VeilsWithin, StateWithin}
-use Rattle.pua_tight.proofs.Sets.{and_more, any_more, or_more}
+use Rattle.pua_jointly.proofs.ForCallers.{open_more}
+use Rattle.pua_tight.proofs.Sets.{and_more, any_more}
 use Rattle.pua_tight.proofs.Within.{CoverWithin, all, nothing, only, fault_within, held_within, may_within}
 use Rattle.pua_tight.proofs.Decided.{or_less}
 use Rattle.pua_tight.proofs.Worlds.{parts, joined}
@@ -43,8 +44,7 @@ pub turned_more : (h k : ProcessState) → (holds (held_set h) fattr ≡ true �
     (node : ℕ) → is_turned_held h node ≡ true → is_turned_held k node ≡ true
 turned_more h k sets same node e =
     subst (λ files. list_any (is_turned_by (holds (held_set k) fattr) node) files ≡ true) same
-    (any_more (is_turned_by (holds (held_set h) fattr) node) (is_turned_by (holds (held_set k) fattr) node)
-    (λ held. and_more (held.1.node == node) _ (held.1.node == node) _ (λ here. here) (or_more _ _ _ _ sets (λ letters. letters))) h.files e)
+    (open_more (holds (held_set h) fattr) (holds (held_set k) fattr) sets h.files node e)
 
 -- a process to which another one is no harder: its promises let through what those of the other do, its veils have the letters of
 -- the other's, and it holds open what the other does

@@ -13,5 +13,6 @@ pub use Rattle.pua_tight.proofs.Worlds.{FoundWithin, never, made, found_within, 
 pub use Rattle.pua_tight.proofs.Listed.{lists_no_more}
 pub use Rattle.pua_tight.proofs.ForEver.{lists_no_more_for_ever}
 pub use Rattle.pua_tight.proofs.Lasting.{lasts_no_more}
+pub use Rattle.pua_tight.proofs.ShowsNoMore.{shows_alike, shows_no_more}
 -- and of any processes, all of them together
 pub use Rattle.pua_tight.proofs.ActsNoMore.{worlds_come_to_no_more}

@@ -1,29 +1,34 @@
 -- What the joint list of a process has lies within that of one that it lies within, with the help of a crew that has all of its own.
-use Rattle.std.proofs.Common.{◌≡◌, ℕ, List, [], ◌∷◌, ◌++◌, refl, ap, ◌∙◌, Bool, true, map, subst, inl, inr}
-use Rattle.std.specs.List.{Contains}
+use Rattle.std.proofs.Common.{◌≡◌, ℕ, List, [], ◌∷◌, ◌++◌, refl, ap, ◌∙◌, ◌||◌, Bool, true, map, subst, inl, inr}
+use Rattle.std.specs.List.{Contains, list_any}
 use Rattle.std.specs.Prelude.{Option, Some, None, IsTrue, filter, flat_map, if◌then◌else◌, is_some}
 use Rattle.pua_tree.specs.Tree.{Tree, Spot}
 use Rattle.pua_path.specs.declared.found.Found.TheVariants.{Slot}
-use Rattle.pua_calls.specs.Calls.{CallTable, calls}
+use Rattle.pua_calls.specs.Calls.{CallTable, calls, is_known}
+use Rattle.pua_calls.specs.Promises.{fattr, holds, recvfd, sendfd}
 use Rattle.pua_calls.specs.declared.call.Call.{Call}
 use Rattle.pua_calls.specs.declared.call.Call.TheVariants as call
-use Rattle.pua_policy.specs.States.{ProcessState}
+use Rattle.pua_policy.specs.States.{ProcessState, held_set}
+use Rattle.pua_policy.proofs.ForCallers.{holds_through}
 use Rattle.pua_policy.specs.Verdict.{IsProg}
 use Rattle.pua_policy.specs.declared.place.Place.TheVariants as place
 use Rattle.pua_audit.specs.Reach.{Word}
 use Rattle.pua_objects.specs.Objects.{At, Item, Subject, items}
 use Rattle.pua_objects.proofs.ForCallers.{Among, among_contained, among_either, among_filter, among_left, among_map, among_right}
 use Rattle.pua_objects.proofs.ForCallers.{contained, filter_among, map_among}
-use Rattle.pua_ever.specs.Ever.{Comes, EverLine, NewFile, Stands, Thing, all_new, has_ever_calls, own_spot}
+use Rattle.pua_ever.specs.Ever.{Comes, EverLine, NewFile, Stands, Thing, all_new, has_ever_calls, is_turned_by, own_spot}
+use Rattle.pua_ever.proofs.ForCallers.{any_among, any_found}
 use Rattle.pua_jointly.specs.Jointly.{CanTurn, IsJointlyAllowed, IsJointlyListed, IsJointlyStarted, IsTurned, joint_line, joint_lines, joint_subjects}
-use Rattle.pua_jointly.specs.Jointly.{named_too}
+use Rattle.pua_jointly.specs.Jointly.{can_send, named_too, sends_to_set, sets_received}
+use Rattle.pua_jointly.proofs.ForCallers.{open_more, turning_more}
 use Rattle.pua_tight.specs.Narrower.{SetWithin, unset, within, StateWithin}
 use Rattle.pua_tight.specs.JointLaws.{CrewWithin, WithinAllowsNoMoreJointly, WithinHasNoMoreJointLines, WithinListsNoMoreJointly}
 use Rattle.pua_tight.specs.Laws.{IsListedForEver}
 use Rattle.pua_tight.proofs.CrewFacts.{shows_too}
 use Rattle.pua_tight.proofs.Eases.{allowed_more, eases}
 use Rattle.pua_tight.proofs.Listed.{has_more, items_alike}
-use Rattle.pua_tight.proofs.Within.{kept_within}
+use Rattle.pua_tight.proofs.Sets.{and_more, or_more}
+use Rattle.pua_tight.proofs.Within.{held_within, kept_within}
 
 module _ (t : Tree) (table : CallTable) (crew others : List ProcessState) (each : CrewWithin crew others) where
   can_too : (a b : ProcessState) → StateWithin a b → (thing : Thing) (c : Call) → IsJointlyAllowed t table crew a thing c →
@@ -48,6 +53,25 @@ module _ (t : Tree) (table : CallTable) (crew others : List ProcessState) (each 
         allowed = allowed_more table a b (eases table a b less) there.wider IsProg call.Exec is.allowed;
       }
 
+  -- who sends to one of them that sets modes can send to one of the others
+  abbrev sets : ProcessState → Bool
+  sets h = holds (held_set h) fattr
+
+  has_too : (promise : ℕ) (a b : ProcessState) → StateWithin a b → holds (held_set a) promise ≡ true → holds (held_set b) promise ≡ true
+  has_too promise a b less = holds_through (held_set b) (held_set a) promise (held_within less)
+
+  sends_too : (a b : ProcessState) → StateWithin a b → sends_to_set table crew a ≡ true → sends_to_set table others b ≡ true
+  sends_too a b less =
+      and_more (can_send table a) _ (can_send table b) _
+      (and_more (is_known table call.Fchmod) _ (is_known table call.Fchmod) _ (λ known. known) (has_too sendfd a b less)) received
+    where
+      received : list_any sets_received crew ≡ true → list_any sets_received others ≡ true
+      received e =
+          let one = any_found sets_received crew e in
+          let outer = each one.0 (contained crew one.0 one.1) in
+          any_among sets_received others outer.outer (among_contained others outer.outer outer.among)
+          (and_more _ _ _ _ (has_too recvfd one.0 outer.outer outer.within) (has_too fattr one.0 outer.outer outer.within) one.2)
+
   turned_too : (node : ℕ) → IsTurned t table crew node → IsTurned t table others node
   turned_too node is =
       let one = each is.agent is.among in
@@ -60,10 +84,14 @@ module _ (t : Tree) (table : CallTable) (crew others : List ProcessState) (each 
         by = elim is.by [
           | inl turned ↦ inl (record {
             call = turned.call;
-            turns = turned.turns;
+            turns = turning_more (sends_to_set table crew is.agent) (sends_to_set table others one.outer) (sends_too is.agent one.outer one.within)
+                turned.call turned.turns;
             allowed = can_too is.agent one.outer one.within (Stands (At (Slot is.row.0 is.row.1 (Some node)))) turned.call turned.allowed;
           })
-          | inr held ↦ inr ((eases table is.agent one.outer one.within).turned node held)
+          | inr held ↦ inr (subst (λ files. list_any (is_turned_by (sets one.outer || sends_to_set table others one.outer) node) files ≡ true)
+              one.within.files (open_more (sets is.agent || sends_to_set table crew is.agent) (sets one.outer || sends_to_set table others one.outer)
+              (or_more (sets is.agent) _ (sets one.outer) _ (has_too fattr is.agent one.outer one.within) (sends_too is.agent one.outer one.within))
+              is.agent.files node held))
         ];
       }
 

@@ -7,7 +7,7 @@ use Rattle.pua_calls.specs.TmpTable.{tmp_table}
 use Rattle.pua_calls.specs.declared.rules.Rules.{Rules}
 use Rattle.pua_tree.proofs.ForCallers.{same_Some, None≢Some}
 use Rattle.pua_ever.specs.Refusals.{refusal}
-use Rattle.pua_ever.specs.Through.{ever_lasting}
+use Rattle.pua_ever.specs.ShownForEver.{shown_lasting}
 use Rattle.pua_texts.specs.EverHowLines.{ever_list_with}
 use Rattle.pua_tool.specs.EverHowTexts.{IsEverHowAfter, IsEverHowBehind, IsEverHowList, IsEverHowText}
 use Rattle.pua_tool.specs.declared.fault.ToolFault.TheVariants.{NoProcess}
@@ -31,7 +31,7 @@ module _ (rules : Rules) (done : Replayed) (process : ℕ) where
 
   some_list : (h : ProcessState) → (list : List ℕ) × IsEverHowList rules done process h list
   some_list h =
-      let all = some_columns rules done process h (ever_lasting done.world.tree (tmp_table done.table) h) in (
+      let all = some_columns rules done process h (shown_lasting done.world.tree (tmp_table done.table) h) in (
         ever_list_with rules (tmp_table done.table) done.world.tree process h all.0,
         record { lines = all.0; are = all.1; columns = all.2; is = refl },
       )

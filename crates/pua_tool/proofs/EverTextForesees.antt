@@ -13,15 +13,17 @@ use Rattle.pua_script.specs.Family.{family, is_member, is_exec, none_done, HasKe
 use Rattle.pua_script.specs.Laws.{IsConfined}
 use Rattle.pua_ever.specs.Refusals.{refusal}
 use Rattle.pua_ever.specs.declared.refusal.EverRefusal.{EverRefusal}
-use Rattle.pua_ever.proofs.ForCallers.{ever_after_read, ever_lasts_after_read, lasting_unbounded, unrefused_table, unrefused_process}
-use Rattle.pua_ever.proofs.ForCallers.{none_starts_after_read, starts_open}
-use Rattle.pua_ever.specs.Laws.{ForeseesIn, MembersEdit}
-use Rattle.pua_ever.specs.Ever.{EverLine, ever, ever_line_text}
+use Rattle.pua_ever.proofs.ForCallers.{ever_shown_after_read, none_shown_after_read, shown_starts_bounded, shown_starts_open, unrefused_process}
+use Rattle.pua_ever.proofs.ForCallers.{unrefused_table}
+use Rattle.pua_ever.specs.EnclosedForEver.{ForeseesShown}
+use Rattle.pua_ever.specs.Laws.{MembersEdit}
+use Rattle.pua_ever.specs.Ever.{EverLine, ever_line_text}
 use Rattle.pua_texts.specs.EverLines.{heading_ever}
 use Rattle.pua_texts.specs.States.{head_lines}
 use Rattle.pua_tool.proofs.Common.{with_end}
 use Rattle.pua_tool.proofs.ListWritten.{behind, in_lines}
-use Rattle.pua_ever.specs.Through.{bound_of, ever_lasting, execs_of, has_exec}
+use Rattle.pua_ever.specs.ShownForEver.{execs_shown, shown_ever, shown_lasting, shown_longest}
+use Rattle.pua_ever.specs.Through.{bound_of, has_exec}
 use Rattle.pua_ever.specs.declared.lasting_list.ExecBound.TheVariants.{Open}
 use Rattle.pua_texts.specs.EverLines.{ever_list}
 use Rattle.pua_tool.specs.EverTexts.{ever_after, ever_fault, ever_text}
@@ -46,7 +48,6 @@ use Rattle.pua_script.specs.Tightening.{Tightens}
 use Rattle.pua_script.proofs.ForCallers.{families_narrow, tmp_table_allows}
 use Rattle.pua_ever.specs.Laws.{IsForeseenIn}
 use Rattle.pua_ever.specs.Through.{AreWithin, FamiliesGoAlong, HoldsOne}
-use Rattle.pua_ever.specs.declared.lasting_list.ExecBound.TheVariants.{Bounded}
 use Rattle.pua_ever.proofs.ForCallers.{bound_parts, first_of, second_of}
 use Rattle.pua_texts.specs.EverLines.{ever_lines}
 use Rattle.pua_texts.specs.Openings.{opening_text}
@@ -70,11 +71,6 @@ ever_is : (choice : Chosen) (tree_bytes script_bytes : List ℕ) (process : ℕ)
 unfolding ever_text
 ever_is choice tree_bytes script_bytes process done r = λ i. r i >>= λ done. ever_after choice.rules done process
 
--- what a list says of execs, where what is started is bounded
-starts_bounded : (t : Tree) (table : CallTable) (h : ProcessState) (handed : ℕ) → has_exec (ever t table h) ≡ true →
-    bound_of table h ≡ Some handed → execs_of t table h ≡ Bounded
-starts_bounded t table h handed some bound = rw (some, bound) refl
-
 -- one of two sets is within both
 pub within_one : (table : CallTable) (h last : ProcessState) (handed : ℕ) → HoldsOne table h handed last →
     AreWithin (held_set last) (bit_or (held_set h) handed)
@@ -97,43 +93,34 @@ module _ (choice : Chosen) (tree_bytes script_bytes : List ℕ) (table : CallTab
 
   module _ (h : ProcessState) (here : kept_at w process ≡ Some h) (none : refusal table h ≡ None) (confined : IsConfined h) (asks : List Asked)
       (bytes : IsTrue (are_in_bytes asks)) (edit : MembersEdit table w asks (process ∷ []))
-      (held : (execs_of w.tree tmp h ≢ Open) ⊎ IsTrue (none_done is_exec table w asks (process ∷ []))) where
+      (held : (execs_shown w.tree tmp h ≢ Open) ⊎ IsTrue (none_done is_exec table w asks (process ∷ []))) where
     -- no exec of a member is answered ok where no line has one, or what is started is not bounded
-    alone_unlisted : has_exec (ever w.tree tmp h) ≡ false → IsTrue (none_done is_exec table w asks (process ∷ []))
+    alone_unlisted : has_exec (shown_ever w.tree tmp h) ≡ false → IsTrue (none_done is_exec table w asks (process ∷ []))
     alone_unlisted has = by held
       where
-        by : (execs_of w.tree tmp h ≢ Open) ⊎ IsTrue (none_done is_exec table w asks (process ∷ [])) →
+        by : (execs_shown w.tree tmp h ≢ Open) ⊎ IsTrue (none_done is_exec table w asks (process ∷ [])) →
             IsTrue (none_done is_exec table w asks (process ∷ []))
         by (inr alone) = alone
         by (inl shut) =
-            none_starts_after_read table (tables_need_no_error choice table given) (unrefused_table table h none) choice.rules tree_bytes script_bytes t
+            none_shown_after_read table (tables_need_no_error choice table given) (unrefused_table table h none) choice.rules tree_bytes script_bytes t
             first asks read scripted bytes process h here confined has edit
 
     alone_unbound : bound_of table h ≡ None → IsTrue (none_done is_exec table w asks (process ∷ []))
-    alone_unbound unbound = by (has_exec (ever w.tree tmp h)) refl held
+    alone_unbound unbound = by (has_exec (shown_ever w.tree tmp h)) refl held
       where
-        by : (b : Bool) → has_exec (ever w.tree tmp h) ≡ b →
-            (execs_of w.tree tmp h ≢ Open) ⊎ IsTrue (none_done is_exec table w asks (process ∷ [])) →
+        by : (b : Bool) → has_exec (shown_ever w.tree tmp h) ≡ b →
+            (execs_shown w.tree tmp h ≢ Open) ⊎ IsTrue (none_done is_exec table w asks (process ∷ [])) →
             IsTrue (none_done is_exec table w asks (process ∷ []))
         by false has either = alone_unlisted has
         by true has (inr alone) = alone
-        by true has (inl shut) = absurd (shut (starts_open w.tree tmp h has (bound_too table h ∙ unbound)))
+        by true has (inl shut) = absurd (shut (shown_starts_open w.tree tmp h has (bound_too table h ∙ unbound)))
 
     foreseen_to : (member : ℕ) → IsTrue (is_member (family table w asks (process ∷ [])) member) →
-        HasKept (world_after table w asks) member (ForeseesIn (ever_lasting w.tree tmp h) w.tree tmp h (world_after table w asks).tree)
-    foreseen_to member belongs = by (bound_of table h) refl
-      where
-        by : (bound : Option ℕ) → bound_of table h ≡ bound →
-            HasKept (world_after table w asks) member
-            (ForeseesIn (ever_lasting w.tree tmp h) w.tree tmp h (world_after table w asks).tree)
-        by None is =
-            subst (λ lines. HasKept (world_after table w asks) member (ForeseesIn lines w.tree tmp h (world_after table w asks).tree))
-            (sym (lasting_unbounded w.tree tmp h (bound_too table h ∙ is)))
-            (ever_after_read table (tables_need_no_error choice table given) (unrefused_table table h none) choice.rules tree_bytes script_bytes t first
-            asks read scripted bytes process h here confined (alone_unbound is) edit member belongs)
-        by (Some handed) is =
-            ever_lasts_after_read table (tables_need_no_error choice table given) (unrefused_table table h none) choice.rules tree_bytes script_bytes t
-            first asks read scripted bytes process h handed here is edit member belongs
+        HasKept (world_after table w asks) member (ForeseesShown (shown_longest w.tree tmp h) (shown_lasting w.tree tmp h) w.tree tmp h
+        (world_after table w asks).tree)
+    foreseen_to member belongs =
+        ever_shown_after_read table (tables_need_no_error choice table given) (unrefused_table table h none) choice.rules tree_bytes script_bytes t
+        first asks read scripted bytes process h here confined held edit member belongs
 
   pub foreseen_behind : (h : ProcessState) → kept_at w process ≡ Some h → refusal table h ≡ None → IsConfined h ⊎ (is_ended h ≡ true) →
       IsForeseenBehind table w (process ∷ []) h ⊎ (is_ended h ≡ true)
@@ -147,19 +134,19 @@ module _ (choice : Chosen) (tree_bytes script_bytes : List ℕ) (table : CallTab
     abbrev HasItsLine : Call → List ℕ → Type 0
     HasItsLine call path = (o : Opening) × IsTrue (opens_call call path o) × HasLine text (codes "opening " ++ opening_text o)
 
-    module _ (is_text : text ≡ front ++ (head_lines w.tree (heading_ever choice.rules (execs_of w.tree tmp h) process) h ++ more)) where
+    module _ (is_text : text ≡ front ++ (head_lines w.tree (heading_ever choice.rules (execs_shown w.tree tmp h) process) h ++ more)) where
       line_of : (call : Call) (path : List ℕ) → (o : Opening) × (opens_call call path o ≡ true)
-          × HasOpening (own_lines (heading_ever choice.rules (execs_of w.tree tmp h) process) (root_line w.tree h) h) o →
+          × HasOpening (own_lines (heading_ever choice.rules (execs_shown w.tree tmp h) process) (root_line w.tree h) h) o →
           HasItsLine call path
       line_of call path line =
-          let head = heading_ever choice.rules (execs_of w.tree tmp h) process in (
+          let head = heading_ever choice.rules (execs_shown w.tree tmp h) process in (
             line.0,
             line.1,
             in_text (heading_line head) (own_lines head (root_line w.tree h) h) (kept_lines w.tree h) line.0 front more text is_text line.2,
           )
 
       module _ (asks : List Asked) (bytes : IsTrue (are_in_bytes asks)) (edit : MembersEdit table w asks (process ∷ []))
-          (held : (execs_of w.tree tmp h ≢ Open) ⊎ IsTrue (none_done is_exec table w asks (process ∷ [])))
+          (held : (execs_shown w.tree tmp h ≢ Open) ⊎ IsTrue (none_done is_exec table w asks (process ∷ [])))
           (member : ℕ) (belongs : IsTrue (is_member (family table w asks (process ∷ [])) member)) (last : ProcessState)
           (kept : kept_at (world_after table w asks) member ≡ Some last) (call : Call) (path : List ℕ)
           (opens : (about_rules choice.rules).has_openings ≡ true) (may : may_open last call path ≡ true) where
@@ -170,19 +157,19 @@ module _ (choice : Chosen) (tree_bytes script_bytes : List ℕ) (table : CallTab
             let same : later.0 ≡ last = same_Some later.0 last (sym later.1 ∙ kept) in
             let own : may_open h call path ≡ true =
             narrow h last (subst (λ g. Tightens h g) same later.2.tightens) call path may in
-            let head = heading_ever choice.rules (execs_of w.tree tmp h) process in
-            line_of call path (printed.ever head (root_line w.tree h) (execs_of w.tree tmp h) h call path lives refl opens own)
+            let head = heading_ever choice.rules (execs_shown w.tree tmp h) process in
+            line_of call path (printed.ever head (root_line w.tree h) (execs_shown w.tree tmp h) h call path lives refl opens own)
 
         -- through execs they are among those, or among those that it hands down
-        by_handed : (handed : ℕ) → bound_of table h ≡ Some handed → has_exec (ever w.tree tmp h) ≡ true → HasItsLine call path
+        by_handed : (handed : ℕ) → bound_of table h ≡ Some handed → has_exec (shown_ever w.tree tmp h) ≡ true → HasItsLine call path
         by_handed handed bound has =
             let later = along table (tables_need_no_error choice table given) w asks process h handed here bound member belongs in
             let same : later.0 ≡ last = same_Some later.0 last (sym later.1 ∙ kept) in
             let one : HoldsOne table h handed last = subst (HoldsOne table h handed) same later.2.promises in
             let found = opening_held (held_set last) call path may in
-            let head = heading_ever choice.rules (execs_of w.tree tmp h) process in
+            let head = heading_ever choice.rules (execs_shown w.tree tmp h) process in
             let at : opening_set head.time h ≡ bit_or (held_set h) handed =
-            ap (λ execs. opening_set (heading_ever choice.rules execs process).time h) (starts_bounded w.tree tmp h handed has (bound_too table h ∙ bound))
+            ap (λ execs. opening_set (heading_ever choice.rules execs process).time h) (shown_starts_bounded w.tree tmp h handed has (bound_too table h ∙ bound))
             ∙ ap (λ o. bit_or (held_set h) (unwrap_or o no_promises)) (bound_parts table h handed bound).set in
             let sets : holds_named (bit_or (held_set h) handed) (promises_of found.0.promise) ≡ true =
             named_within (held_set last) (bit_or (held_set h) handed) (within_one table h last handed one) found.0 found.1 found.3 in
@@ -194,9 +181,9 @@ module _ (choice : Chosen) (tree_bytes script_bytes : List ℕ) (table : CallTab
             )
 
         has_its_line : HasItsLine call path
-        has_its_line = by (bound_of table h) refl (has_exec (ever w.tree tmp h)) refl
+        has_its_line = by (bound_of table h) refl (has_exec (shown_ever w.tree tmp h)) refl
           where
-            by : (bound : Option ℕ) → bound_of table h ≡ bound → (b : Bool) → has_exec (ever w.tree tmp h) ≡ b → HasItsLine call path
+            by : (bound : Option ℕ) → bound_of table h ≡ bound → (b : Bool) → has_exec (shown_ever w.tree tmp h) ≡ b → HasItsLine call path
             by None unbound b has = by_own (alone_unbound h here none confined asks bytes edit held unbound)
             by (Some handed) bound true has = by_handed handed bound has
             by (Some handed) bound false has = by_own (alone_unlisted h here none confined asks bytes edit held has)
@@ -211,13 +198,13 @@ module _ (choice : Chosen) (tree_bytes script_bytes : List ℕ) (table : CallTab
           )
         where
           by : (last : ProcessState) → kept_at (world_after table w asks) member ≡ Some last →
-              ForeseesIn (ever_lasting w.tree tmp h) w.tree tmp h (world_after table w asks).tree last →
+              ForeseesShown (shown_longest w.tree tmp h) (shown_lasting w.tree tmp h) w.tree tmp h (world_after table w asks).tree last →
               Accounted table (world_after table w asks).tree last call path →
-              IsForeseenIn (ever_lasting w.tree tmp h) w.tree h (world_after table w asks).tree call
+              IsForeseenIn (shown_lasting w.tree tmp h) w.tree h (world_after table w asks).tree call
               (object_named (world_after table w asks).tree last call path) ⊎ HasItsLine call path
           by last kept foresees (by_verdict allowed) =
               let u = (world_after table w asks).tree in
-              inl (foresees (start last) call path
+              inl (foresees.foresees (start last) foresees.starts.own call path
               (allowed_by (verdict_on u tmp last call path) (tmp_table_allows table u last call (object_named u last call path) allowed)))
           by last kept foresees (by_opening o opened) =
               inr (has_its_line asks bytes edit held member belongs last kept call path
@@ -248,7 +235,7 @@ module _ (choice : Chosen) (tree_bytes script_bytes : List ℕ) (table : CallTab
       okays_of h here none is_text false is (inr ended) = inr ended
       okays_of h here none is_text false is (inl confined) =
           inl (okays_foreseen accounted opened_by_held narrow along printed h here none confined is (answer_lines 1 done.answers)
-          (ever_lines w.tree (ever_lasting w.tree tmp h)) text is_text)
+          (ever_lines w.tree (shown_lasting w.tree tmp h)) text is_text)
 
       written : IsEverWritten choice.rules table t first process text
       written = by (kept_at w process) refl
@@ -264,8 +251,8 @@ module _ (choice : Chosen) (tree_bytes script_bytes : List ℕ) (table : CallTab
                 complete = foreseen_behind h is parts.0 (unrefused_process table h parts.0);
                 okays = okays_of h is parts.0 parts.1 (is_ended h) refl (unrefused_process table h parts.0);
                 printed = λ line listed.
-                    let head = head_lines w.tree (heading_ever choice.rules (execs_of w.tree tmp h) process) h in
-                    let found = in_lines (λ (l : EverLine). with_end (ever_line_text w.tree l)) (ever_lasting w.tree tmp h) line listed in (
+                    let head = head_lines w.tree (heading_ever choice.rules (execs_shown w.tree tmp h) process) h in
+                    let found = in_lines (λ (l : EverLine). with_end (ever_line_text w.tree l)) (shown_lasting w.tree tmp h) line listed in (
                       answer_lines 1 done.answers ++ head ++ found.0,
                       found.1,
                       parts.1 ∙ ap (λ lines. answer_lines 1 done.answers ++ (head ++ lines)) found.2

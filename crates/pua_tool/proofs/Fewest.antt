@@ -27,8 +27,7 @@ use Rattle.pua_tight.specs.Texts as texts
 use Rattle.pua_tight.specs.Laws.{IsTightened, IsScriptOfLines, RestOnOne, HasOneWay, Stay, openers}
 use Rattle.pua_tight.proofs.ForCallers.{tightens, scripts_are_tightened, tight_is_minimal, tight_is_least, rules_rest, tight_texts_are_read}
 use Rattle.pua_tight.proofs.ForCallers.{FoundWithin, never, made, found_within, allows_no_more, futures_within, lists_no_more}
-use Rattle.pua_tight.proofs.ForCallers.{lists_no_more_for_ever, lasts_no_more, worlds_come_to_no_more}
-use Rattle.pua_objects.specs.Roots.{shown_of}
+use Rattle.pua_tight.proofs.ForCallers.{lists_no_more_for_ever, lasts_no_more, shows_alike, shows_no_more, worlds_come_to_no_more}
 use Rattle.pua_tool.specs.Texts.{run_text}
 use Rattle.pua_tool.specs.TightTexts.{as_tight, tight_text}
 use Rattle.pua_tool.specs.Fewest.{MayDoNoMore, LeavesNoMore, IsTightWritten, TightAsWritten}
@@ -43,7 +42,8 @@ may_do_no_more table sound less given inside = record {
   ended = inside.ended;
   calls = allows_no_more table less given inside;
   listed = lists_no_more table less given inside;
-  shown = λ t. (λ i. shown_of t (record given { start = inside.start i; files = inside.files i }));
+  shown = shows_alike less given inside;
+  shown_ever = shows_no_more less given inside;
   ever = lists_no_more_for_ever (tmp_table table) less given inside;
   lasting = λ t well alike.
       lasts_no_more (tmp_table table) (tmp_table_needs_no_error table sound) less given inside t well

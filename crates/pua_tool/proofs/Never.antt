@@ -20,7 +20,7 @@ use Rattle.pua_script.proofs.ForCallers.{replays_keep_byte_trees, listings_list_
 use Rattle.pua_objects.proofs.ForCallers.{among_contained}
 use Rattle.pua_ever.specs.Ever.{EverLine}
 use Rattle.pua_ever.specs.Refusals.{refusal}
-use Rattle.pua_ever.specs.Through.{ever_lasting, execs_of}
+use Rattle.pua_ever.specs.ShownForEver.{shown_lasting, execs_shown}
 use Rattle.pua_ever.specs.declared.lasting_list.ExecBound.{ExecBound}
 use Rattle.pua_ever.specs.declared.lasting_list.ExecBound.TheVariants.{Open}
 use Rattle.pua_ever.specs.declared.refusal.EverRefusal.{EverRefusal}
@@ -28,7 +28,7 @@ use Rattle.pua_ever.proofs.ForCallers.{any_among, unrefused_process}
 use Rattle.pua_how.specs.PathQuestion.{PathQuestion, path_question, targets_of}
 use Rattle.pua_how.specs.Targets.{IsLast, is_listed}
 use Rattle.pua_how.specs.declared.target.Target.{Target}
-use Rattle.pua_how.proofs.ForCallers.{all_given, any_listed, lasting_lives, listed_alike, unforeseen}
+use Rattle.pua_how.proofs.ForCallers.{all_given, any_listed, listed_alike, shown_lives, unforeseen_by}
 use Rattle.pua_tool.specs.EverTexts.{ever_fault}
 use Rattle.pua_tool.specs.Forever.{IsForeseenBehind}
 use Rattle.pua_tool.specs.HowTexts.{HowWanted, IsFoundFor, IsHowAfter, IsHowAsked, IsHowText, HowQuestion, follows_link, may_come, question_of}
@@ -187,17 +187,17 @@ module _ (choice : Chosen) (tree_bytes script_bytes : List ℕ) (table : CallTab
       (scripts_ask_in_bytes choice.rules script_bytes first scripted)
 
   module _ (last : ℕ) (q : HowQuestion) (asked : question_of done wanted last ≡ Ok q)
-      (told : with_end (told_without (may_come done q) (execs_of w.tree tmp q.process)) ≡ text) where
+      (told : with_end (told_without (may_come done q) (execs_shown w.tree tmp q.process)) ≡ text) where
     is : IsAskedIn done wanted last q
     is = asked_in done wanted last q asked
 
     none : may_come done q ≡ false
-    none = told_none (may_come done q) (execs_of w.tree tmp q.process) (subst SaysNever (sym told) says)
+    none = told_none (may_come done q) (execs_shown w.tree tmp q.process) (subst SaysNever (sym told) says)
 
     -- what is said of execs
     shut : (asks : List Asked) → (text ≡ never_line) ⊎ IsTrue (none_done is_exec table w asks (wanted.process ∷ [])) →
-        (execs_of w.tree tmp q.process ≢ Open) ⊎ IsTrue (none_done is_exec table w asks (wanted.process ∷ []))
-    shut asks (inl same) = inl (told_shut (may_come done q) (execs_of w.tree tmp q.process) (told ∙ same))
+        (execs_shown w.tree tmp q.process ≢ Open) ⊎ IsTrue (none_done is_exec table w asks (wanted.process ∷ []))
+    shut asks (inl same) = inl (told_shut (may_come done q) (execs_shown w.tree tmp q.process) (told ∙ same))
     shut asks (inr alone) = inr alone
 
     comes_never : IsForeseenBehind table w (wanted.process ∷ []) q.process → (above : ℕ) → IsLast w.tree above → (things : List Target) →
@@ -208,10 +208,14 @@ module _ (choice : Chosen) (tree_bytes script_bytes : List ℕ) (table : CallTab
         let by = asked_by w.tree q.process wanted above things meant in (
           last_state.0,
           last_state.1,
-          unforeseen (ever_lasting w.tree tmp q.process) w.tree (world_after table w asks).tree tmp q.process last_state.0 left.tree
-              (lasting_lives w.tree tmp q.process left.tree) last_state.2 thing q.call
-              (all_given w.tree q.process left.tree above are by.0 wanted.kind thing (subst (λ all. Contains all thing) (sym by.2) there))
-              (none_listed w.tree q.process wanted (ever_lasting w.tree tmp q.process) q.call last above q.things things is.meant meant none thing there),
+          (
+            last_state.2.starts,
+            λ from within path. unforeseen_by (shown_lasting w.tree tmp q.process) w.tree (world_after table w asks).tree tmp q.process
+                last_state.0 left.tree (shown_lives w.tree tmp q.process left.tree) thing q.call
+                (all_given w.tree q.process left.tree above are by.0 wanted.kind thing (subst (λ all. Contains all thing) (sym by.2) there))
+                (none_listed w.tree q.process wanted (shown_lasting w.tree tmp q.process) q.call last above q.things things is.meant meant none thing there)
+                from path (last_state.2.foresees from within q.call path),
+          ),
         )
 
     is_never : IsNeverTold table t first wanted text

@@ -28,7 +28,7 @@ use Rattle.pua_objects.proofs.ForCallers.{Among, contained}
 use Rattle.pua_ever.specs.Ever.{EverLine, Thing, Stands, Comes, NewDir, NewOthers, NewFile, NewLink, has_ever_calls}
 use Rattle.pua_ever.specs.EverLines.{IsThing, line_with, new_of}
 use Rattle.pua_ever.specs.EverList.{AreEverTold, IsAboutOn, thing_by, word_of_row}
-use Rattle.pua_ever.specs.Through.{ever_lasting}
+use Rattle.pua_ever.specs.ShownForEver.{shown_lasting}
 use Rattle.pua_ever.specs.declared.line.EverLine as given
 use Rattle.pua_ever.specs.declared.line.EverThing.{EverThing}
 use Rattle.pua_ever.specs.declared.line.EverThing.TheVariants as told
@@ -39,7 +39,7 @@ use Rattle.pua_how.specs.PathQuestion.{PathQuestion, question_by, targets_of, th
 use Rattle.pua_how.specs.Served.{AreWay, Tried, asks_of}
 use Rattle.pua_how.specs.Steps.{NoneComes, nothing_laid}
 use Rattle.pua_how.specs.Targets.{IsLast, target_about}
-use Rattle.pua_how.proofs.ForCallers.{IsPlaced, lasting_placed, meant, nothing_comes}
+use Rattle.pua_how.proofs.ForCallers.{IsPlaced, meant, nothing_comes, shown_placed}
 use Rattle.pua_how.specs.declared.line.WayLine.{WayLine}
 use Rattle.pua_how.specs.declared.target.Target.{Target}
 use Rattle.pua_how.specs.declared.way.NoWay.{NoWay}
@@ -280,12 +280,12 @@ module _ (rules : Rules) (done : Replayed) (process : ℕ) (h : ProcessState) wh
       (column_meant line.0 line.1 (placed line.0 (inl refl)) columns.0, columns_meant told (λ other a. placed other (inr a)) columns.1)
 
   pub columns_told : WellFormed done.world.tree → (told : List (EverLine × List ℕ)) →
-      map (λ line. line.0) told ≡ ever_lasting done.world.tree (tmp_table done.table) h →
+      map (λ line. line.0) told ≡ shown_lasting done.world.tree (tmp_table done.table) h →
       AllByRecursion (λ (line : EverLine × List ℕ). IsColumnOf rules done process h line.0 line.1) told →
       AllByRecursion (λ (line : EverLine × List ℕ). IsColumn rules done process h line.0 line.1) told
   columns_told well told are columns =
-      columns_meant told (λ line a. lasting_placed done.world.tree (tmp_table done.table) h well line
-      (contained (ever_lasting done.world.tree (tmp_table done.table) h) line (subst (λ (lines : List EverLine). Among lines line) are a))) columns
+      columns_meant told (λ line a. shown_placed done.world.tree (tmp_table done.table) h well line
+      (contained (shown_lasting done.world.tree (tmp_table done.table) h) line (subst (λ (lines : List EverLine). Among lines line) are a))) columns
 
 -- ---- some columns, where none need be found
 

@@ -1,11 +1,11 @@
 -- What a list for ever of several processes that was written says of the future.
-use Rattle.pua_tool.proofs.Common.{◌≡◌, ◌∙◌, ◌∷◌, [], ℕ, List, ◌++◌, ap, refl, sym, subst, map, Ok, Err, Option, Some, None, Result, CallTable, Tree}
+use Rattle.pua_tool.proofs.Common.{◌≡◌, ◌≢◌, ◌∙◌, ◌∷◌, [], ℕ, List, ◌++◌, ap, refl, sym, subst, map, Ok, Err, Option, Some, None, Result, CallTable, Tree}
 use Rattle.pua_tool.proofs.Common.{Asked, World, ProcessState, kept_at, new_world, told_to, world_after, answer_lines, with_end, listing, script_by}
 use Rattle.pua_tool.proofs.Common.{Chosen, Replayed, table_by, as_listing, as_script, replay_of, ToolFault, ◌>>=◌}
 use Rattle.std.proofs.Common.{◌⊎◌, inl, inr, Bool, true, false, cond, not, append_assoc}
 use Rattle.std.proofs.lemmas.Bool.{and_parts, true≢false}
 use Rattle.std.specs.List.{AllByRecursion, Contains}
-use Rattle.std.specs.Prelude.{◌&&◌, flat_map, ok_or, option_map}
+use Rattle.std.specs.Prelude.{◌&&◌, IsTrue, flat_map, ok_or, option_map}
 use Rattle.pua_tree.proofs.ForCallers.{None≢Some, Some≢None, same_Ok, same_Some, Err≢Ok}
 use Rattle.pua_calls.specs.TmpTable.{tmp_table}
 use Rattle.pua_policy.specs.States.{SameVeils, is_ended, perms_kept, veils}
@@ -14,10 +14,15 @@ use Rattle.pua_script.specs.Laws.{IsConfined}
 use Rattle.pua_script.proofs.ForCallers.{is_kept, veils_alike, veils_kept}
 use Rattle.pua_ever.specs.Ever.{EverLine, ever_line_text}
 use Rattle.pua_ever.specs.Refusals.{refusal}
-use Rattle.pua_ever.specs.Through.{ever_lasting, execs_of}
+use Rattle.pua_objects.specs.declared.roots.Shown.TheVariants.{All}
+use Rattle.pua_ever.specs.EnclosedForEver.{ForeseesShown}
+use Rattle.pua_ever.specs.ShownForEver.{execs_shown, shown_lasting, shown_longest}
+use Rattle.pua_ever.specs.Through.{ever_lasting}
+use Rattle.pua_ever.specs.declared.lasting_list.ExecBound.TheVariants.{Open}
+use Rattle.pua_script.specs.Family.{is_exec, none_done}
 use Rattle.pua_ever.specs.Together.{ActTogether, IsOneOf, TogetherAfterRead, joined}
 use Rattle.pua_ever.specs.declared.refusal.EverRefusal.{EverRefusal}
-use Rattle.pua_ever.proofs.ForCallers.{unrefused_table, unrefused_process}
+use Rattle.pua_ever.proofs.ForCallers.{unrefused_table, unrefused_process, whole_execs, whole_foresees, whole_lasting, whole_longest}
 use Rattle.pua_texts.specs.EverLines.{heading_ever}
 use Rattle.pua_texts.specs.States.{bound_lines, veil_lines}
 use Rattle.pua_texts.specs.TogetherLines.{joint_list, living, member_lines, one_for, one_of, together_heading}
@@ -163,9 +168,21 @@ module _ (together : TogetherAfterRead) (choice : Chosen) (tree_bytes script_byt
       subst (IsForeseenBehind table w (numbers (m ∷ ms)))
       (sym (joined_too table m.1 (states ms)) ∙ same_Some (joined tmp m.1 (states ms)) one is)
       (λ asks bytes held edits member belongs.
-      together table (tables_need_no_error choice table given) (unrefused_table table m.1 all.0.0.1) choice.rules tree_bytes script_bytes t first asks
-      read scripted bytes (numbers (m ∷ ms)) m.1 (states ms) acts held edits member belongs)
+      let u = (world_after table w asks).tree in
+      let later = together table (tables_need_no_error choice table given) (unrefused_table table m.1 all.0.0.1) choice.rules tree_bytes script_bytes
+      t first asks read scripted bytes (numbers (m ∷ ms)) m.1 (states ms) acts
+      (subst (λ execs. (execs ≢ Open) ⊎ IsTrue (none_done is_exec table w asks (numbers (m ∷ ms)))) (whole_execs w.tree tmp all_of refl) held)
+      edits member belongs in (
+        later.0,
+        later.1,
+        subst (λ shown. ForeseesShown shown (shown_lasting w.tree tmp all_of) w.tree tmp all_of u later.0) (sym (whole_longest w.tree tmp all_of refl))
+            (subst (λ lines. ForeseesShown All lines w.tree tmp all_of u later.0) (sym (whole_lasting w.tree tmp all_of refl))
+            (whole_foresees w.tree u tmp all_of later.0 (ever_lasting w.tree tmp all_of) later.2)),
+      ))
     where
+      all_of : ProcessState
+      all_of = joined table m.1 (states ms)
+
       acts : ActTogether w (numbers (m ∷ ms)) m.1 (states ms)
       acts = record {
         processes = processes_of table w (m ∷ ms) all;
@@ -174,6 +191,12 @@ module _ (together : TogetherAfterRead) (choice : Chosen) (tree_bytes script_byt
           are_alike table w m.1 ms (no_other m (first_other m.1 ms) none) all.1,
         );
       }
+
+  all_shown : (one : ProcessState) (alive : List Member) → one_for tmp alive ≡ Some one → shown_longest w.tree tmp one ≡ All
+  all_shown one [] is = absurd (None≢Some one is)
+  all_shown one (m ∷ ms) is =
+      subst (λ h. shown_longest w.tree tmp h ≡ All) (same_Some (joined tmp m.1 (states ms)) one is)
+      (whole_longest w.tree tmp (joined tmp m.1 (states ms)) refl)
 
   module _ (members : List Member) (made : all_made w (numbers_in w which) ≡ Ok members) (of_them : together_of choice.rules done members ≡ Ok text) where
     abbrev whole : List ℕ
@@ -200,12 +223,12 @@ module _ (together : TogetherAfterRead) (choice : Chosen) (tree_bytes script_byt
     head = together_heading members ++ flat_map (member_lines choice.rules w.tree) members
 
     abbrev state : ProcessState → List ℕ
-    state one = bound_lines choice.rules (heading_ever choice.rules (execs_of w.tree tmp one) 0).time [] one ++ veil_lines w.tree (veils one)
+    state one = bound_lines choice.rules (heading_ever choice.rules (execs_shown w.tree tmp one) 0).time [] one ++ veil_lines w.tree (veils one)
 
-    stands : (one : ProcessState) → one_of tmp members ≡ Some one → (line : EverLine) → Contains (ever_lasting w.tree tmp one) line →
+    stands : (one : ProcessState) → one_of tmp members ≡ Some one → (line : EverLine) → Contains (shown_lasting w.tree tmp one) line →
         HasLine text (ever_line_text w.tree line)
     stands one is line listed =
-        let found = in_lines (λ (l : EverLine). with_end (ever_line_text w.tree l)) (ever_lasting w.tree tmp one) line listed in
+        let found = in_lines (λ (l : EverLine). with_end (ever_line_text w.tree l)) (shown_lasting w.tree tmp one) line listed in
         let front = answer_lines 1 done.answers in (
           (front ++ head) ++ state one ++ found.0,
           found.1,
@@ -224,6 +247,7 @@ module _ (together : TogetherAfterRead) (choice : Chosen) (tree_bytes script_byt
       complete = λ one is. foreseen one (living members)
           (those_living table w members (are_unrefused table w members unrefused here.1))
           (sym (fault_veils table members unrefused) ∙ parts.0) is;
+      whole = λ one is. all_shown one (living members) is;
       printed = stands;
     }
 

@@ -24,7 +24,7 @@ use Rattle.pua_objects.specs.declared.kind.ObjectKind.TheVariants as kind
 use Rattle.pua_tree.specs.declared.node.Kind.TheVariants.{Dir}
 use Rattle.pua_ever.specs.Ever.{EverLine, Thing, Stands, Comes}
 use Rattle.pua_ever.specs.Refusals.{refusal}
-use Rattle.pua_ever.specs.Through.{ever_lasting}
+use Rattle.pua_ever.specs.ShownForEver.{shown_lasting}
 use Rattle.pua_how.specs.PathQuestion.{PathQuestion, question_by, directory_at_name, targets_of, thing_word}
 use Rattle.pua_how.specs.Steps.{NoneComes}
 use Rattle.pua_how.specs.Targets.{IsLast}
@@ -138,7 +138,7 @@ pub record IsColumn (rules : Rules) (done : Replayed) (process : ℕ) (h : Proce
 -- the list for ever of a process, which goes by the table with `tmppath`, and behind the calls of each line its column
 pub record IsEverHowList (rules : Rules) (done : Replayed) (process : ℕ) (h : ProcessState) (text : List ℕ) : Type 0 where
   pub lines : List (EverLine × List ℕ)
-  pub are : map (λ line. line.0) lines ≡ ever_lasting done.world.tree (tmp_table done.table) h
+  pub are : map (λ line. line.0) lines ≡ shown_lasting done.world.tree (tmp_table done.table) h
   pub columns : AllByRecursion (λ line. IsColumn rules done process h line.0 line.1) lines
   pub is : text ≡ ever_list_with rules (tmp_table done.table) done.world.tree process h lines
 

@@ -16,7 +16,8 @@ use Rattle.pua_why.specs.Texts.{promises_text}
 use Rattle.pua_ever.specs.Comings.{places_on}
 use Rattle.pua_ever.specs.Ever.{EverLine}
 use Rattle.pua_ever.specs.Refusals.{refusal}
-use Rattle.pua_ever.specs.Through.{bound_of, ever_lasting, execs_of}
+use Rattle.pua_ever.specs.ShownForEver.{shown_lasting, execs_shown}
+use Rattle.pua_ever.specs.Through.{bound_of}
 use Rattle.pua_ever.specs.declared.lasting_list.ExecBound.{ExecBound}
 use Rattle.pua_ever.specs.declared.lasting_list.ExecBound.TheVariants.{Never, Bounded, Open}
 use Rattle.pua_texts.specs.EverHowLines.{ever_list_with}
@@ -88,7 +89,7 @@ column_by p process h holder execs line =
     column_on p process h execs (places_on (world_left p).tree (tmp_table p.table) holder line.thing) line.calls
 
 abbrev pub ever_column : ServedScript → ℕ → ProcessState → EverLine → List ℕ
-ever_column p process h line = by (execs_of (world_left p).tree (tmp_table p.table) h)
+ever_column p process h line = by (execs_shown (world_left p).tree (tmp_table p.table) h)
   where
     by : ExecBound → List ℕ
     by execs = column_by p process h (holder_by (tmp_table p.table) h execs) execs line
@@ -97,7 +98,7 @@ ever_column p process h line = by (execs_of (world_left p).tree (tmp_table p.tab
 abbrev pub ever_why_list : Rules → ServedScript → ℕ → ProcessState → List ℕ
 ever_why_list rules p process h =
     ever_list_with rules (tmp_table p.table) (world_left p).tree process h
-    (map (λ line. (line, with_end (ever_column p process h line))) (ever_lasting (world_left p).tree (tmp_table p.table) h))
+    (map (λ line. (line, with_end (ever_column p process h line))) (shown_lasting (world_left p).tree (tmp_table p.table) h))
 
 -- the lines of a script with reasons, and then such a list, or what refuses it: the process was never made, or there is a reason for none
 abbrev pub ever_why_after : Rules → ServedScript → ℕ → Result (List ℕ) ToolFault

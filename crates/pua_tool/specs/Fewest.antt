@@ -13,8 +13,8 @@ use Rattle.pua_script.specs.Requests.{Asked}
 use Rattle.pua_script.specs.Scripts.{script_by}
 use Rattle.pua_script.specs.Replay.{World, new_world, kept_at, answers_to, world_after}
 use Rattle.pua_script.specs.declared.answer.Answer.TheVariants.{Okay}
-use Rattle.pua_objects.specs.Objects.{Line, objects}
-use Rattle.pua_objects.specs.Roots.{shown_of}
+use Rattle.pua_objects.specs.Objects.{Line, Subject, objects}
+use Rattle.pua_objects.specs.Roots.{shown_for_ever, shown_of, shows}
 use Rattle.pua_ever.specs.Ever.{EverLine, ever}
 use Rattle.pua_ever.specs.Through.{bound_of, ever_lasting}
 use Rattle.pua_tight.specs.declared.piece.Piece.{Piece}
@@ -27,7 +27,7 @@ use Rattle.pua_tool.specs.TightTexts.{tight_text}
 
 -- a process has ended where another has, and whatever is allowed to it is allowed to the other: over each tree each call on each
 -- path, and of all its objects and of its lists for ever each line with all of its calls; the lists of both show the same of these
--- objects; of the list for ever that is printed unless what
+-- objects, and a list for ever of the one shows no more than one of the other; of the list for ever that holds longest unless what
 -- it starts is bounded and what the other one starts is not. Lists for ever go by the table with `tmppath`
 pub record MayDoNoMore (table : CallTable) (less given : ProcessState) : Type 0 where
   pub ended : is_ended less ≡ is_ended given
@@ -35,6 +35,8 @@ pub record MayDoNoMore (table : CallTable) (less given : ProcessState) : Type 0 
       IsTrue (is_allowed (verdict_on t table given call text))
   pub listed : (t : Tree) (line : Line) → Contains (objects t table less) line → IsListed t table given line
   pub shown : (t : Tree) → shown_of t less ≡ shown_of t given
+  pub shown_ever : (t : Tree) (subject : Subject) → IsTrue (shows t (shown_for_ever t less) subject) →
+      IsTrue (shows t (shown_for_ever t given) subject)
   pub ever : (t : Tree) → WellFormed t → (line : EverLine) → Contains (ever t (tmp_table table) less) line →
       IsListedForEver (ever t (tmp_table table) given) line
   pub lasting : (t : Tree) → WellFormed t → (bound_of table given ≡ None → bound_of table less ≡ None) →

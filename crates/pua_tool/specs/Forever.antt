@@ -18,8 +18,9 @@ use Rattle.pua_script.specs.Bytes.{are_in_bytes}
 use Rattle.pua_script.specs.Family.{family, is_member, is_exec, none_done, HasKept}
 use Rattle.std.specs.List.{Contains}
 use Rattle.pua_ever.specs.Ever.{EverLine, ever_line_text}
-use Rattle.pua_ever.specs.Laws.{ForeseesIn, IsForeseenIn, MembersEdit}
-use Rattle.pua_ever.specs.Through.{ever_lasting, execs_of}
+use Rattle.pua_ever.specs.EnclosedForEver.{ForeseesShown}
+use Rattle.pua_ever.specs.Laws.{IsForeseenIn, MembersEdit}
+use Rattle.pua_ever.specs.ShownForEver.{execs_shown, shown_lasting, shown_longest}
 use Rattle.pua_ever.specs.declared.lasting_list.ExecBound.TheVariants.{Open}
 use Rattle.pua_why.specs.Openings.{told_to}
 use Rattle.pua_texts.specs.Lines.{answer_lines}
@@ -31,24 +32,26 @@ use Rattle.pua_tool.specs.EverTexts.{ever_text}
 
 -- whatever is asked behind a world, in bytes, as long as nobody but some processes and their families changes the tree, and their list,
 -- which is that of one, doesn't say `exec open` or no exec of a member is answered ok: each call that is then allowed to a member has
--- its line. The requests go by the table, and the list by the one with `tmppath`: so what that one alone allows has its line too
+-- its line, on whatever path from where its paths can start by what the list shows. The requests go by the table, and the list by the one
+-- with `tmppath`: so what that one alone allows has its line too
 abbrev pub IsForeseenBehind : CallTable → World → List ℕ → ProcessState → Type 0
 IsForeseenBehind table w processes one = (asks : List Asked) → IsTrue (are_in_bytes asks) →
-    (execs_of w.tree (tmp_table table) one ≢ Open) ⊎ IsTrue (none_done is_exec table w asks processes) → MembersEdit table w asks processes →
+    (execs_shown w.tree (tmp_table table) one ≢ Open) ⊎ IsTrue (none_done is_exec table w asks processes) → MembersEdit table w asks processes →
     (member : ℕ) → IsTrue (is_member (family table w asks processes) member) →
     let after = world_after table w asks in
-    HasKept after member (ForeseesIn (ever_lasting w.tree (tmp_table table) one) w.tree (tmp_table table) one after.tree)
+    HasKept after member (ForeseesShown (shown_longest w.tree (tmp_table table) one) (shown_lasting w.tree (tmp_table table) one)
+    w.tree (tmp_table table) one after.tree)
 
 -- and a call on a path for which a member asks then is answered ok only where what the path names has that line, or a promise opens the
 -- path for the call, and that has its line
 abbrev pub AreOkaysForeseen : CallTable → World → List ℕ → ProcessState → List ℕ → Type 0
 AreOkaysForeseen table w processes one text = (asks : List Asked) → IsTrue (are_in_bytes asks) →
-    (execs_of w.tree (tmp_table table) one ≢ Open) ⊎ IsTrue (none_done is_exec table w asks processes) → MembersEdit table w asks processes →
+    (execs_shown w.tree (tmp_table table) one ≢ Open) ⊎ IsTrue (none_done is_exec table w asks processes) → MembersEdit table w asks processes →
     (member : ℕ) → IsTrue (is_member (family table w asks processes) member) → (call : Call) (path : List ℕ) →
     let after = world_after table w asks in
     (apply table after (record { process = member; action = OnPath call path })).0 ≡ Okay →
     HasKept after member (λ last.
-    IsForeseenIn (ever_lasting w.tree (tmp_table table) one) w.tree one after.tree call (object_named after.tree last call path)
+    IsForeseenIn (shown_lasting w.tree (tmp_table table) one) w.tree one after.tree call (object_named after.tree last call path)
     ⊎ ((o : Opening) × IsTrue (opens_call call path o) × HasLine text (codes "opening " ++ opening_text o)))
 
 -- the text is the answers and the list of the process, and the list is complete; or the process has ended
@@ -60,7 +63,7 @@ pub record IsEverWritten (rules : Rules) (table : CallTable) (t : Tree) (first :
   pub complete : IsForeseenBehind table (world_after table (new_world t) first) (process ∷ []) now ⊎ (is_ended now ≡ true)
   pub okays : AreOkaysForeseen table (world_after table (new_world t) first) (process ∷ []) now text ⊎ (is_ended now ≡ true)
   -- and each line of it stands in the text
-  pub printed : (line : EverLine) → Contains (ever_lasting (world_after table (new_world t) first).tree (tmp_table table) now) line →
+  pub printed : (line : EverLine) → Contains (shown_lasting (world_after table (new_world t) first).tree (tmp_table table) now) line →
       HasLine text (ever_line_text (world_after table (new_world t) first).tree line)
 
 abbrev pub EverAsWritten : Type 0

@@ -16,7 +16,7 @@ use Rattle.pua_script.specs.Replay.{kept_at}
 use Rattle.pua_script.specs.Scripts.{request_by}
 use Rattle.pua_objects.specs.declared.kind.ObjectKind.{ObjectKind}
 use Rattle.pua_ever.specs.Refusals.{refusal}
-use Rattle.pua_ever.specs.Through.{ever_lasting, execs_of}
+use Rattle.pua_ever.specs.ShownForEver.{shown_lasting, execs_shown}
 use Rattle.pua_ever.specs.declared.lasting_list.ExecBound.{ExecBound}
 use Rattle.pua_ever.specs.declared.lasting_list.ExecBound.TheVariants.{Open}
 use Rattle.pua_ever.specs.declared.refusal.EverRefusal.{EverRefusal}
@@ -94,7 +94,7 @@ question_of done wanted last = do
 
 -- whether a line of the list for ever about it has the call, by the table with `tmppath`
 abbrev pub may_come : Replayed → HowQuestion → Bool
-may_come done q = list_any (λ thing. is_listed (ever_lasting done.world.tree (tmp_table done.table) q.process) thing q.call) q.things
+may_come done q = list_any (λ thing. is_listed (shown_lasting done.world.tree (tmp_table done.table) q.process) thing q.call) q.things
 
 -- what is said where there is no way: none is looked for where no line has the call, which may change once a program is started
 abbrev pub told_without : Bool → ExecBound → List ℕ
@@ -105,7 +105,7 @@ told_without false _ = codes "never"
 -- the lines of a way, or what is said without one
 abbrev pub way_text : Replayed → HowQuestion → Option (List (List ℕ)) → List ℕ
 way_text done q (Some lines) = flat_map with_end lines
-way_text done q None = with_end (told_without (may_come done q) (execs_of done.world.tree (tmp_table done.table) q.process))
+way_text done q None = with_end (told_without (may_come done q) (execs_shown done.world.tree (tmp_table done.table) q.process))
 
 -- lines of a script that is read by rules, which are a way to the call on something that is meant, and this is the last number of
 -- the nodes that live

@@ -16,7 +16,10 @@ use Rattle.pua_script.specs.Family.{family, is_member, is_exec, none_done, HasKe
 use Rattle.pua_script.specs.Requests.{Asked}
 use Rattle.pua_script.specs.Scripts.{script_by}
 use Rattle.pua_script.specs.Replay.{World, new_world, kept_at, world_after}
+use Rattle.pua_objects.specs.Laws.{StartsIn}
+use Rattle.pua_ever.specs.EnclosedForEver.{PathsStartIn}
 use Rattle.pua_ever.specs.Laws.{MembersEdit}
+use Rattle.pua_ever.specs.ShownForEver.{shown_longest}
 use Rattle.pua_how.specs.Targets.{IsLast, is_of}
 use Rattle.pua_how.specs.declared.target.Target.{Target}
 use Rattle.pua_texts.specs.Lines.{with_end}
@@ -31,16 +34,17 @@ abbrev pub before_exec_line : List ℕ
 before_exec_line = with_end (codes "never before an exec")
 
 -- whatever is asked behind a world, in bytes, as long as nobody but a process and its family changes the tree, and `never` was told or
--- no exec of a member is answered ok: a call is then allowed to no member, by whatever path from wherever, on anything that is this,
--- not even by the table with `tmppath`, which allows no less than that of the requests
+-- no exec of a member is answered ok: a call is then allowed to no member, by whatever path from where its paths can start, on anything
+-- that is this, not even by the table with `tmppath`, which allows no less than that of the requests. Where they can start a list for
+-- ever shows: anywhere, or in the root of a process that can never leave it
 abbrev pub NeverComesBehind : CallTable → World → ℕ → ProcessState → Call → List ℕ → Target → Type 0
 NeverComesBehind table w process now call text thing = (asks : List Asked) → IsTrue (are_in_bytes asks) →
     (text ≡ never_line) ⊎ IsTrue (none_done is_exec table w asks (process ∷ [])) → MembersEdit table w asks (process ∷ []) →
     (member : ℕ) → IsTrue (is_member (family table w asks (process ∷ [])) member) →
-    let after = world_after table w asks in
-    HasKept after member (λ last. (from : Start) (path : List ℕ) (object : Found) →
-    resolution_of_text after.tree from (ending_of call) path (last_of call) ≡ Ok object → is_of after.tree now thing object ≡ true →
-    verdict after.tree (tmp_table table) last call object ≡ Allowed → ⊥)
+    let after = world_after table w asks in let shown = shown_longest w.tree (tmp_table table) now in
+    HasKept after member (λ last. PathsStartIn shown after.tree last × ((from : Start) → StartsIn after.tree shown from →
+    (path : List ℕ) (object : Found) → resolution_of_text after.tree from (ending_of call) path (last_of call) ≡ Ok object →
+    is_of after.tree now thing object ≡ true → verdict after.tree (tmp_table table) last call object ≡ Allowed → ⊥))
 
 -- so of each thing that may be meant by what is wanted, with any number above those of all that lives
 abbrev pub NeverComesTo : CallTable → World → HowWanted → ProcessState → Call → List ℕ → Type 0

@@ -11,7 +11,8 @@ use Rattle.pua_script.specs.Requests.{Asked}
 use Rattle.pua_script.specs.Scripts.{script_by}
 use Rattle.pua_script.specs.Replay.{new_world, kept_at, world_after}
 use Rattle.pua_ever.specs.Ever.{EverLine, ever_line_text}
-use Rattle.pua_ever.specs.Through.{ever_lasting}
+use Rattle.pua_objects.specs.declared.roots.Shown.TheVariants.{All}
+use Rattle.pua_ever.specs.ShownForEver.{shown_lasting, shown_longest}
 use Rattle.pua_why.specs.Openings.{told_to}
 use Rattle.pua_texts.specs.Lines.{answer_lines}
 use Rattle.pua_texts.specs.TogetherLines.{living, one_of, together_list}
@@ -38,9 +39,12 @@ pub record IsTogetherWritten (rules : Rules) (table : CallTable) (t : Tree) (fir
     -- list of the one that stands for them, whatever the others are that it needs
     pub complete : (one : ProcessState) → one_of (tmp_table table) members ≡ Some one →
         IsForeseenBehind table (world_after table (new_world t) first) (numbers (living members)) one
+    -- all of which is shown: nothing is asked of where their paths start
+    pub whole : (one : ProcessState) → one_of (tmp_table table) members ≡ Some one →
+        shown_longest (world_after table (new_world t) first).tree (tmp_table table) one ≡ All
     -- and each line of it stands in the text
     pub printed : (one : ProcessState) → one_of (tmp_table table) members ≡ Some one → (line : EverLine) →
-        Contains (ever_lasting (world_after table (new_world t) first).tree (tmp_table table) one) line →
+        Contains (shown_lasting (world_after table (new_world t) first).tree (tmp_table table) one) line →
         HasLine text (ever_line_text (world_after table (new_world t) first).tree line)
 
 abbrev pub TogetherAsWritten : Type 0

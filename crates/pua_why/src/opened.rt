@@ -118,6 +118,9 @@ pub fn opener<T: FileTree>(
         ≡ opener world.now.table (world_of world.now)
         (record { process = number; action = action.now })) }
 {
+    if !world.table().rules().has_openings() {
+        return Ok(None);
+    }
     match world.process(number) {
         Some(process) => opener_on(alloc, world.tree(), world.table(), process, action),
         None => Ok(None),

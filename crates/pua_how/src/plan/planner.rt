@@ -107,23 +107,9 @@ impl Need {
     }
 }
 
-/// The root of a process that works there or below it, if it has one of its own: no plan leads out
-/// of that.
-fn closed_root<T: FileTree>(tree: &T, from: Start) -> Option<NodeId> {
-    let is_closed = from.root != NodeId::ROOT && tree.is_within(from.dir, from.root);
-    is_closed.then_some(from.root)
-}
-
-/// Whether a plan can lead to an item.
-fn is_led_to<T: FileTree>(tree: &T, closed: &Option<NodeId>, item: &ListItem<'_>) -> bool {
-    let Some(root) = closed else {
-        return true;
-    };
-    match item.item.subject {
-        Subject::Root => false,
-        Subject::Others(dir) | Subject::Name(dir, _) => tree.is_within(dir, *root),
-        Subject::Dir(node, _, _) => tree.is_within(node, *root),
-    }
+/// Whether a process has a root of its own, and works there or below it: no plan leads out of that.
+fn is_closed<T: FileTree>(tree: &T, from: Start) -> bool {
+    from.root != NodeId::ROOT && tree.is_within(from.dir, from.root)
 }
 
 /// The rows of items, without those of further names and those to which no plan can lead.
@@ -131,11 +117,11 @@ fn rows_of<T: FileTree>(
     alloc: Global,
     tree: &T,
     items: &[ListItem<'_>],
-    closed: &Option<NodeId>,
+    is_closed: bool,
 ) -> Result<Vec<Row>, AllocError> {
     let mut rows = Vec::with_capacity(alloc, items.len())?;
     for item in items {
-        if !is_led_to(tree, closed, item) {
+        if is_closed && !item.inside {
             continue;
         }
         let (node, dir) = match item.item.subject {
@@ -203,8 +189,8 @@ impl<'t> Planner<'t> {
         table: &CallTable,
     ) -> Result<Planner<'t>, OutOfMemory> {
         let items = list_items(alloc, tree, process)?;
-        let closed = closed_root(tree, process.start());
-        let rows = rows_of(alloc, tree, items.as_slice(), &closed)?;
+        let is_closed = is_closed(tree, process.start());
+        let rows = rows_of(alloc, tree, items.as_slice(), is_closed)?;
         Ok(Planner {
             alloc,
             process,

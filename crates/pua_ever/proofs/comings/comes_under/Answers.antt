@@ -16,7 +16,7 @@ returns-in-Stands g c = λ about on is.
     (λ (a : Thing). places_under t table h c.place_under.result ≡ places_on t table h a)
     (subject_at t (own_name row) c.in-Stands.place)
     (λ subject at standing. c.place_under.ensures subject c.in-Stands.field-1 c.known.ensures at standing)
-    (subst (IsAboutOn t h (own_name row)) c.in-Stands.is on)
+    (subst (IsAboutOn t h (own_name row)) c.in-Stands.is on.0)
     (ap (thing_by t (own_name row)) (sym c.in-Stands.is) ∙ is)
 
 pub returns-in-Freed : goal.returns-in-Freed
@@ -24,7 +24,7 @@ returns-in-Freed g c = λ about on is.
     let t = g.T.FileTree.content c.args.tree.now in
     let row = c.args.row.now in
     c.freed_under.ensures c.args.table.now about c.known.ensures
-    (subst (IsAboutOn t c.args.process.now (own_name row)) c.in-Freed.is on)
+    (subst (IsAboutOn t c.args.process.now (own_name row)) c.in-Freed.is on.0)
     (ap (thing_by t (own_name row)) (sym c.in-Freed.is) ∙ is)
 
 pub returns-in-Comes : goal.returns-in-Comes

@@ -4,7 +4,7 @@ use Rattle.std.specs.Prelude.{MatchResult}
 use Rattle.pua_path.specs.declared.errno.Errno.{Errno}
 use Rattle.pua_calls.specs.declared.rules.Rules.TheVariants.{Standard}
 use Rattle.pua_path.specs.declared.errno.Errno.TheVariants.{EPERM}
-use Rattle.pua_policy.specs.States.{Pledged, Locked, has_error, held_set, is_within, narrowed_set, pledge_fault, with_both}
+use Rattle.pua_policy.specs.States.{Moved, ToRoot, Pledged, Locked, has_error, held_set, is_within, narrowed_set, pledge_fault, with_both}
 use Rattle.pua_ever.specs.Joints.{joint_told}
 use Rattle.pua_ever.specs.Together.{Joint, confined_part, files_together, joint_after, joint_of}
 use Rattle.pua_ever.proofs.joining.join.Goals as goal
@@ -45,5 +45,6 @@ returns c =
     (pledge_fault Standard c.open_together.new.one None c.confined_part-given.result)
     (ap (λ p. pledge_fault Standard p None c.confined_part-given.result) bare ∙ none_refused (has_error (with_both first all.held)) c.confined_part-given.result)
     c.pledge-given.result c.pledge-given.ensures.state in
-    c.lock.ensures.state ∙ ap (state_after Locked) (done ∙ (λ i. state_after (Pledged None (given i)) (bare i)) ∙
-    ap (λ o. record (bare_of first all more) { execpromises = o }) (first_given _))
+    c.lock.ensures.state ∙ ap (state_after Locked) (c.set_root.ensures.state ∙ ap (state_after (Moved (ToRoot 0)))
+    (done ∙ (λ i. state_after (Pledged None (given i)) (bare i)) ∙
+    ap (λ o. record (bare_of first all more) { execpromises = o }) (first_given _)))

@@ -1,10 +1,11 @@
-use Rattle.pua_ever.proofs.Common.{◌≡◌, [], true, false, sym, subst, ◌∙◌, ever}
+use Rattle.pua_ever.proofs.Common.{◌≡◌, [], true, false, sym, subst, ◌∙◌}
 use Rattle.std.proofs.lemmas.Result.{err_from_is_err_and}
 use Rattle.std.specs.Option.{option_copied}
 use Rattle.pua_ever.specs.EverList.{AreEverTold}
 use Rattle.pua_ever.specs.LastingList.{IsBoundedExecOf}
+use Rattle.pua_ever.specs.ShownForEver.{shown_ever}
 use Rattle.pua_ever.specs.Through.{has_exec}
-use Rattle.pua_ever.proofs.Chosen.{lasting_through, lasting_unbounded, lasting_unstarted, starts_bounded, starts_none, starts_open}
+use Rattle.pua_ever.proofs.ShownChosen.{shown_bounded, shown_unbounded, shown_unstarted, shown_starts_bounded, shown_starts_none, shown_starts_open}
 use Rattle.pua_ever.proofs.lasting_list.list_lasting.Goals as goal
 
 pub returns-then-not-some_exec-clause-list : goal.returns-then-not-some_exec-clause-list
@@ -13,12 +14,12 @@ returns-then-not-some_exec-clause-list g c = λ whose.
     let t = g.T.FileTree.content c.args.tree.now in
     let table = c.args.table.now in
     let told = c.in_ok-rows.ensures.rows in
-    let none : has_exec (ever t table h) ≡ false =
-    sym (c.some_exec.ensures t (ever t table h) (subst (λ rows. AreEverTold t [] rows (ever t table h) []) (sym c.as_slice.ensures.value) told))
+    let none : has_exec (shown_ever t table h) ≡ false =
+    sym (c.some_exec.ensures t (shown_ever t table h) (subst (λ rows. AreEverTold t [] rows (shown_ever t table h) []) (sym c.as_slice.ensures.value) told))
     ∙ c.if-not-some_exec.true in
     record {
-      rows = subst (λ lines. AreEverTold t [] c.in_ok-rows.rows.items lines []) (sym (lasting_unstarted t table h none)) told;
-      execs = sym (starts_none t table h none);
+      rows = subst (λ lines. AreEverTold t [] c.in_ok-rows.rows.items lines []) (sym (shown_unstarted t table h none)) told;
+      execs = sym (shown_starts_none t table h none);
       items = c.in_ok-rows.ensures.items;
     }
 
@@ -29,12 +30,12 @@ returns-in_default-clause-list g c = λ whose.
     let table = c.args.table.now in
     let told = c.in_ok-rows.ensures.rows in
     let unbound = subst (λ o. IsBoundedExecOf table h (option_copied o)) c.in_default.is whose in
-    let some : has_exec (ever t table h) ≡ true =
-    sym (c.some_exec.ensures t (ever t table h) (subst (λ rows. AreEverTold t [] rows (ever t table h) []) (sym c.as_slice.ensures.value) told))
+    let some : has_exec (shown_ever t table h) ≡ true =
+    sym (c.some_exec.ensures t (shown_ever t table h) (subst (λ rows. AreEverTold t [] rows (shown_ever t table h) []) (sym c.as_slice.ensures.value) told))
     ∙ c.if-not-some_exec.false in
     record {
-      rows = subst (λ lines. AreEverTold t [] c.in_ok-rows.rows.items lines []) (sym (lasting_unbounded t table h unbound)) told;
-      execs = sym (starts_open t table h some unbound);
+      rows = subst (λ lines. AreEverTold t [] c.in_ok-rows.rows.items lines []) (sym (shown_unbounded t table h unbound)) told;
+      execs = sym (shown_starts_open t table h some unbound);
       items = c.in_ok-rows.ensures.items;
     }
 
@@ -45,13 +46,13 @@ returns-clause-list g c = λ whose.
     let table = c.args.table.now in
     let told = c.in_ok-rows.ensures.rows in
     let here = subst (λ o. IsBoundedExecOf table h (option_copied o)) c.in-Some.is whose in
-    let some : has_exec (ever t table h) ≡ true =
-    sym (c.some_exec.ensures t (ever t table h) (subst (λ rows. AreEverTold t [] rows (ever t table h) []) (sym c.as_slice.ensures.value) told))
+    let some : has_exec (shown_ever t table h) ≡ true =
+    sym (c.some_exec.ensures t (shown_ever t table h) (subst (λ rows. AreEverTold t [] rows (shown_ever t table h) []) (sym c.as_slice.ensures.value) told))
     ∙ c.if-not-some_exec.false in
     record {
       rows = subst (λ lines. AreEverTold t [] c.in_ok-through.through.items lines [])
-          (sym (lasting_through t table h here.given here.bound some)) (c.in_ok-through.ensures.rows h here);
-      execs = sym (starts_bounded t table h here.given some here.bound);
+          (sym (shown_bounded t table h here.given here.bound some)) (c.in_ok-through.ensures.rows h here);
+      execs = sym (shown_starts_bounded t table h here.given some here.bound);
       items = c.in_ok-through.ensures.items h here;
     }
 

@@ -1,12 +1,8 @@
 -- The laws are the theorems.
-use Rattle.pua_ever.proofs.Enclosing.{enclosed_begins}
 use Rattle.pua_ever.proofs.EnclosedAlong.{enclosed_stay, enclosed_through_execs, enclosed_with_execs}
-use Rattle.pua_ever.proofs.ShownEver.{ever_inside, ever_shown}
-use Rattle.pua_ever.proofs.ShownLasts.{ever_shown_after_read, ever_shown_lasts, inside_through_execs}
+use Rattle.pua_ever.proofs.ShownEver.{ever_inside}
+use Rattle.pua_ever.proofs.ShownLasts.{ever_shown, ever_shown_after_read, ever_shown_lasts, inside_through_execs, without_shown_exec}
 use Rattle.pua_ever.proofs.laws.enclosed_law.Goals as goal
-
-pub returns-clause-begins : goal.returns-clause-begins
-returns-clause-begins c = enclosed_begins
 
 pub returns-clause-stay : goal.returns-clause-stay
 returns-clause-stay c = enclosed_stay
@@ -22,6 +18,9 @@ returns-clause-inside c = ever_inside
 
 pub returns-clause-shown : goal.returns-clause-shown
 returns-clause-shown c = ever_shown
+
+pub returns-clause-exec : goal.returns-clause-exec
+returns-clause-exec c = without_shown_exec
 
 pub returns-clause-inside_through : goal.returns-clause-inside_through
 returns-clause-inside_through c = inside_through_execs

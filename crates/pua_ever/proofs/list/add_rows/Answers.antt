@@ -45,4 +45,4 @@ returns-clause-items g c = λ t well told all.
     (all_more (IsRowOn t h) c.args.rows.now.items c.stands_row-stands.result all (c.stands_row-stands.ensures.on t h told)) in
     subst (AllByRecursion (IsRowOn t h)) (sym c.in-Ok-push.ensures.items)
     (all_more (IsRowOn t h) c.push.new.self.items c.in-Some.freed first
-    (freed_on t h (subject_given t item.item.subject) item c.in-Some.freed told.fits freed))
+    (freed_on t h (subject_given t item.item.subject) item c.in-Some.freed told.fits freed (c.in-Some.ensures.inside t well told)))

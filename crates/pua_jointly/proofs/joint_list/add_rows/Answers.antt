@@ -19,7 +19,8 @@ returns-in_default-freed_row-clause-told c = λ t crew a given test items so_far
     c.push.new.self.items c.in-Ok.ensures.items
 
 pub returns-in_default-freed_row-clause-items : goal.returns-in_default-freed_row-clause-items
-returns-in_default-freed_row-clause-items c = λ t a well told all.
+returns-in_default-freed_row-clause-items c = λ t well told all.
+    let a = c.args.process.now in
     subst (AllByRecursion (IsRowOn t a)) (sym c.in-Ok.ensures.items)
     (all_more (IsRowOn t a) c.args.rows.now.items c.stands_row-stands.result all (c.stands_row-stands.ensures.on t a told))
 
@@ -36,7 +37,8 @@ returns-clause-told c = λ t crew a given test items so_far left well is tells t
     c.push-2.new.self.items (c.in-Ok-push.ensures.items ∙ ap (λ rs. rs ++ c.in-Some.freed ∷ []) c.in-Ok.ensures.items)
 
 pub returns-clause-items : goal.returns-clause-items
-returns-clause-items c = λ t a well told all.
+returns-clause-items c = λ t well told all.
+    let a = c.args.process.now in
     let item = c.args.item.now in
     let own = own_name_is t well c.args.table.now a (subject_given t item.item.subject) item.item told.fits told.tells in
     let freed = subst (λ (o : Option Spot). IsFreedRow item o c.in-Some.freed) own c.in-Some.ensures.own in
@@ -44,4 +46,4 @@ returns-clause-items c = λ t a well told all.
     (all_more (IsRowOn t a) c.args.rows.now.items c.stands_row-stands.result all (c.stands_row-stands.ensures.on t a told)) in
     subst (AllByRecursion (IsRowOn t a)) (sym c.in-Ok-push.ensures.items)
     (all_more (IsRowOn t a) c.push.new.self.items c.in-Some.freed first
-    (freed_on t a (subject_given t item.item.subject) item c.in-Some.freed told.fits freed))
+    (freed_on t a (subject_given t item.item.subject) item c.in-Some.freed told.fits freed (c.in-Some.ensures.inside t well told)))

@@ -54,4 +54,4 @@ returns-clause-items g c =
     let t = g.T.FileTree.content c.args.tree.now in
     let h = c.args.process.now in
     c.in-Ok-add_made.ensures.items t h
-    (c.in-Ok-rows_of.ensures.items t h c.known.ensures (subst (AllByRecursion (IsToldIn t h)) (sym c.deref-2.ensures.value) c.in-Ok.ensures.told))
+    (c.in-Ok-rows_of.ensures.items t c.known.ensures (subst (AllByRecursion (IsToldIn t h)) (sym c.deref-2.ensures.value) c.in-Ok.ensures.told))

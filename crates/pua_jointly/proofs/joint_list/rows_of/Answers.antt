@@ -29,12 +29,13 @@ loop-item-preserved c = record {
       subst (λ (x : ListItem). x.depth ≤ length (last_word [] (take i items))) (sym c.item-item.is) (near_at [] items i item near within) in
       subst (λ so_far. AreJointSoFar t a test items so_far (drop (i + 1) items) c.add_rows.new.rows.items) (sym taken)
       (c.in_ok-add_rows.ensures.told t crew a given test items (take i items) (drop (i + 1) items) fits is tells here close now);
-  items = λ t a fits all.
+  items = λ t fits all.
+      let a = c.args.process.now in
       let items = c.args.items.now in
       let i = c.loop-item.item-index in
       let item = c.item-item.result in
-      c.in_ok-add_rows.ensures.items t a fits
-      (subst (IsToldIn t a) (sym c.item-item.is) (told_at (IsToldIn t a) items i item all c.loop-item-test.true)) (c.loop-item.invariant.items t a fits all);
+      c.in_ok-add_rows.ensures.items t fits
+      (subst (IsToldIn t a) (sym c.item-item.is) (told_at (IsToldIn t a) items i item all c.loop-item-test.true)) (c.loop-item.invariant.items t fits all);
 }
 
 pub returns-clause-told : goal.returns-clause-told

@@ -15,5 +15,5 @@ invariant-loop-item l = record {
   told : (t : Tree) (crew : List ProcessState) (a : ProcessState) (given : Option ℕ) (test : Thing → Call → Bool) → WellFormed t → HasAgents t l.table crew l.facts a given l.of →
       TellsOfOne t l.table crew (agents_of (a, given)) test → AllByRecursion (IsToldIn t a) l.items → AreNear [] l.items →
       AreJointSoFar t a test l.items (take l.item-index l.items) (drop l.item-index l.items) l.rows.items;
-  items : (t : Tree) (a : ProcessState) → WellFormed t → AllByRecursion (IsToldIn t a) l.items → AllByRecursion (IsRowOn t a) l.rows.items;
+  items : (t : Tree) → WellFormed t → AllByRecursion (IsToldIn t l.process) l.items → AllByRecursion (IsRowOn t l.process) l.rows.items;
 }

@@ -1,10 +1,13 @@
 use Rattle.pua_jointly.proofs.Common.{◌≡◌, ◌<◌, ◌∙◌, ◌∷◌, ◌++◌, [], ap, arith, length, map, ProcessState, subst, sym, ℕ, List}
 use Rattle.std.specs.Prelude.{◌+◌}
 use Rattle.std.specs.Borrow.{Bor}
-use Rattle.pua_jointly.specs.JointMembers.{Each}
+use Rattle.std.specs.List.{list_any}
+use Rattle.std.proofs.lemmas.List.{length-map}
+use Rattle.pua_jointly.specs.JointMembers.{Each, states}
+use Rattle.pua_jointly.specs.Jointly.{sets_received}
 use Rattle.pua_jointly.specs.JointWords.{IsAgent}
 use Rattle.pua_jointly.specs.declared.crew.Agent.{Agent}
-use Rattle.pua_jointly.proofs.JointGathered.{as_many, map_more}
+use Rattle.pua_jointly.proofs.JointGathered.{any_map, as_many, map_more}
 use Rattle.pua_jointly.proofs.JointMembers.{each_more}
 use Rattle.pua_jointly.proofs.setup.ask_agents.Goals as goal
 
@@ -12,8 +15,8 @@ pub loop-place-preserved : goal.loop-place-preserved
 loop-place-preserved c =
     let table = c.args.table.now in
     let last : ℕ = c.args.size.shape.last in
-    let many : ℕ = c.args.size.shape.agents in
     let members = c.args.members.now in
+    let crew : List ProcessState = states members in
     let place : ℕ = c.loop-place.place in
     let agents : List Agent = c.loop-place.agents.items in
     let agent : Agent = c.in_ok-agent.agent in
@@ -22,13 +25,16 @@ loop-place-preserved c =
     let items : c.push.new.self.items ≡ agents ++ agent ∷ [] = c.in_ok-push.ensures.items in
     let count : length agents ≡ place =
     as_many (λ (agent : Agent). agent.process.now) (λ (p : Bor ProcessState). p.now) agents members place inv.crew (omega (arith, low)) in
-    let here : IsAgent table (last + 1) many place agent.process.now agent =
-    subst (λ b. IsAgent table (last + 1) many place b agent) (sym c.in_ok-agent.ensures.process) c.in_ok-agent.ensures.is in
+    let full : length crew ≡ c.args.size.shape.agents = length-map members (λ (p : Bor ProcessState). p.now) ∙ c.requires in
+    let received : list_any sets_received crew ≡ c.is_some_setter-received.result =
+    sym (c.is_some_setter-received.ensures ∙ any_map sets_received (λ (p : Bor ProcessState). p.now) members) in
+    let here : IsAgent table (last + 1) crew place agent.process.now agent =
+    subst (λ b. IsAgent table (last + 1) crew place b agent) (sym c.in_ok-agent.ensures.process) (c.in_ok-agent.ensures.is crew full received) in
     record {
       crew = ap (map (λ (agent : Agent). agent.process.now)) items
           ∙ map_more (λ (agent : Agent). agent.process.now) (λ (p : Bor ProcessState). p.now) agents members place agent
           c.index-members-place.result low c.index-members-place.is inv.crew c.in_ok-agent.ensures.process;
-      each = subst (Each (λ i agent. IsAgent table (last + 1) many i agent.process.now agent)) (sym items)
-          (each_more (λ i agent. IsAgent table (last + 1) many i agent.process.now agent) agents agent inv.each
-          (subst (λ k. IsAgent table (last + 1) many k agent.process.now agent) (sym count) here));
+      each = subst (Each (λ i agent. IsAgent table (last + 1) crew i agent.process.now agent)) (sym items)
+          (each_more (λ i agent. IsAgent table (last + 1) crew i agent.process.now agent) agents agent inv.each
+          (subst (λ k. IsAgent table (last + 1) crew k agent.process.now agent) (sym count) here));
     }

@@ -53,8 +53,10 @@ returns-clause-worked g c =
     (subst (λ n. IsSize shape n (length c.in_ok-watches.watches.items) c.in-Some.size)
     (many_rows ∙ sym (length-map rows lent_entry) ∙ ap length in_tree)
     (subst (λ n. IsSize shape c.len-2.result n c.in-Some.size) many_watches c.in-Some.ensures)) refl refl
-    (subst (λ (s : Shape). Each (λ i agent. IsAgent c.args.table.now (s.last + 1) s.agents i agent.process.now agent) c.in_ok-agents.agents.items)
-    c.in-Some.ensures.same c.in_ok-agents.ensures.each)
+    (subst (λ (ps : List ProcessState). Each (λ i agent. IsAgent c.args.table.now (c.last_number.result + 1) ps i agent.process.now agent)
+    c.in_ok-agents.agents.items) (ap states c.deref-7.ensures.value ∙ sym same)
+    (subst (λ (s : Shape). Each (λ i agent. IsAgent c.args.table.now (s.last + 1) (states c.deref-7.result.now) i agent.process.now agent)
+    c.in_ok-agents.agents.items) c.in-Some.ensures.same c.in_ok-agents.ensures.each))
     c.in_ok-entries.ensures.rows
     (subst Once (sym c.in_ok-entries.ensures.rows) (each_row_once t.rows c.known.ensures.rows_in_order)) c.in_ok-entries.ensures.each
     (subst (λ (vs : List (Bor Place × Bor ℕ)). AreMarksOf t c.in_ok-entries.entries.items (map veil_now vs) c.in_ok-marks.marks.items)

@@ -14,7 +14,8 @@ returns-in_default-clause-listing g c = λ around are deep dirs before.
     on_ok c.add_name.result (name_listed t c.known.ensures c.args.process.now (map spot_now c.args.spots.now) are inner around c.args.name
     c.args.items.now.items before c.args.entered.now.items dirs c.args.depth deep _ _ c.over_name-over.result
     (λ x e. absurd (None≢Some x (c.in_default.ensures ∙ e)))
-    (ap (λ there. object_seen t (object_of t (Slot inner.dir name there))) c.in_default.ensures) c.over_name-over.ensures)
+    (ap (λ there. object_seen t (object_of t (Slot inner.dir name there))) c.in_default.ensures) c.over_name-over.ensures.handed
+    c.over_name-over.ensures.inside)
     c.add_name.ensures
 
 pub returns-then-not-is_directory-clause-listing : goal.returns-then-not-is_directory-clause-listing
@@ -28,7 +29,8 @@ returns-then-not-is_directory-clause-listing g c = λ around are deep dirs befor
     c.args.items.now.items before c.args.entered.now.items dirs c.args.depth deep _ _ c.over_name-over-then-not-is_directory.result
     (λ x e. ap (is_dir t) (sym (same_Some id x (c.in-Some.ensures ∙ e))) ∙ plain)
     (c.at_name.ensures t ∙ ap (λ k. object_seen t (object_of_kind k)) c.kind-kind.ensures
-    ∙ ap (λ there. object_seen t (object_of t (Slot inner.dir name there))) c.in-Some.ensures) c.over_name-over-then-not-is_directory.ensures)
+    ∙ ap (λ there. object_seen t (object_of t (Slot inner.dir name there))) c.in-Some.ensures) c.over_name-over-then-not-is_directory.ensures.handed
+    c.over_name-over-then-not-is_directory.ensures.inside)
     c.add_name-then-not-is_directory.ensures
 
 pub returns-clause-listing : goal.returns-clause-listing
@@ -42,6 +44,6 @@ returns-clause-listing g c = λ around are deep dirs before.
     c.args.items.now.items before c.args.entered.now.items dirs c.args.depth deep _ c.push.new.self.items _ id c.start_of.result
     c.directory.result c.over_dir-over.result
     (sym c.in-Some.ensures) living (c.start_of.ensures.passed are.rise) (c.start_of.ensures.names are.rise)
-    (c.directory.ensures inner.dir c.args.name.now) c.over_dir-over.ensures more_dirs
+    (c.directory.ensures inner.dir c.args.name.now) c.over_dir-over.ensures.handed c.over_dir-over.ensures.inside more_dirs
     (c.in-Ok.ensures.items ∙ ap (λ item. c.args.items.now.items ++ item ∷ []) c.dir_item-own.ensures) more)
     c.enter.ensures.entered c.enter.ensures.items

@@ -20,14 +20,14 @@ returns-in-Ok-clause-exact g c =
     c.in-Link.ensures.exact)
 
 pub returns-in-Ok-clause-fits : goal.returns-in-Ok-clause-fits
-returns-in-Ok-clause-fits g c =
-    parts_fit (rooted (g.P.Probe.tree c.args.probe.now) c.args.from.root) c.known.ensures c.requires.root c.args.left c.args.from.dir c.args.mode (c.args.part.now ∷ [])
-    (Ok (c.found.result, c.in-Ok.left)) c.requires.dir (returns-in-Ok-clause-exact g c)
+returns-in-Ok-clause-fits g c root dir =
+    parts_fit (rooted (g.P.Probe.tree c.args.probe.now) c.args.from.root) c.known.ensures root c.args.left c.args.from.dir c.args.mode (c.args.part.now ∷ [])
+    (Ok (c.found.result, c.in-Ok.left)) dir (returns-in-Ok-clause-exact g c)
 
 pub returns-in-Ok-clause-named : goal.returns-in-Ok-clause-named
-returns-in-Ok-clause-named g c =
-    parts_named (rooted (g.P.Probe.tree c.args.probe.now) c.args.from.root) c.known.ensures c.requires.root c.args.left c.args.from.dir c.args.mode (c.args.part.now ∷ [])
-    (Ok (c.found.result, c.in-Ok.left)) c.requires.dir (returns-in-Ok-clause-exact g c)
+returns-in-Ok-clause-named g c root dir =
+    parts_named (rooted (g.P.Probe.tree c.args.probe.now) c.args.from.root) c.known.ensures root c.args.left c.args.from.dir c.args.mode (c.args.part.now ∷ [])
+    (Ok (c.found.result, c.in-Ok.left)) dir (returns-in-Ok-clause-exact g c)
 
 pub returns-in-Err-clause-exact : goal.returns-in-Err-clause-exact
 returns-in-Err-clause-exact g c =
@@ -43,11 +43,11 @@ returns-in-Found-clause-exact g c =
     c.in-Found.ensures.exact)
 
 pub returns-in-Found-clause-fits : goal.returns-in-Found-clause-fits
-returns-in-Found-clause-fits g c =
-    parts_fit (rooted (g.P.Probe.tree c.args.probe.now) c.args.from.root) c.known.ensures c.requires.root c.args.left c.args.from.dir c.args.mode (c.args.part.now ∷ [])
-    (Ok (c.found-in-Found.result, c.args.left)) c.requires.dir (returns-in-Found-clause-exact g c)
+returns-in-Found-clause-fits g c root dir =
+    parts_fit (rooted (g.P.Probe.tree c.args.probe.now) c.args.from.root) c.known.ensures root c.args.left c.args.from.dir c.args.mode (c.args.part.now ∷ [])
+    (Ok (c.found-in-Found.result, c.args.left)) dir (returns-in-Found-clause-exact g c)
 
 pub returns-in-Found-clause-named : goal.returns-in-Found-clause-named
-returns-in-Found-clause-named g c =
-    parts_named (rooted (g.P.Probe.tree c.args.probe.now) c.args.from.root) c.known.ensures c.requires.root c.args.left c.args.from.dir c.args.mode (c.args.part.now ∷ [])
-    (Ok (c.found-in-Found.result, c.args.left)) c.requires.dir (returns-in-Found-clause-exact g c)
+returns-in-Found-clause-named g c root dir =
+    parts_named (rooted (g.P.Probe.tree c.args.probe.now) c.args.from.root) c.known.ensures root c.args.left c.args.from.dir c.args.mode (c.args.part.now ∷ [])
+    (Ok (c.found-in-Found.result, c.args.left)) dir (returns-in-Found-clause-exact g c)

@@ -1,8 +1,6 @@
 use Rattle.pua_texts.proofs.Common.{◌≡◌, ◌++◌, ◌+◌, [], List, ap, sym, subst, ◌∙◌, drop, length, arith, CallTable, calls_in, resting_on}
 use Rattle.pua_texts.proofs.Common.{world_left, subject_given}
 use Rattle.std.proofs.Common.{length-append}
-use Rattle.pua_tree.specs.Tree.{Tree}
-use Rattle.pua_objects.specs.Items.{IsItemOn}
 use Rattle.pua_objects.specs.Lines.{IsShownLine}
 use Rattle.pua_objects.specs.ListItems.{items_told}
 use Rattle.pua_texts.specs.ListLines.{last_word, lines_text}
@@ -14,7 +12,7 @@ use Rattle.pua_texts.proofs.WhyColumns.{behind, behind_is, covering_alike, lines
 use Rattle.pua_texts.proofs.object_lines.why_lines.Goals as goal
 
 pub loop-item-preserved : goal.loop-item-preserved
-loop-item-preserved g c =
+loop-item-preserved c =
     let items = c.args.items.now in
     let i = c.loop-item.item-index in
     let item = c.item-item.result in
@@ -23,7 +21,7 @@ loop-item-preserved g c =
     let new = c.number_of.new.self in
     let lines = c.loop-item.lines.items in
     let old = c.loop-item.columns in
-    let shown = c.args.shown in
+    let shown = c.args.shown.now in
     record {
       veils = num.veils ∙ inv.veils;
       unveiled = num.unveiled ∙ inv.unveiled;
@@ -33,16 +31,15 @@ loop-item-preserved g c =
             ap length num.grows,
             length-append old.resting num.more,
           )) inv.numbered) num.within);
-      lines = λ p number over ruled all are.
+      lines = λ p number ruled by_root all are.
           let h = c.args.process.now in
           let t = (world_left p).tree in
           let here = told_at t h items item i c.loop-item-test.true c.item-item.is all in
           let subject = subject_given t item.item.subject in
-          let line = c.line_shown-line.result in
+          let line = c.shown_line-line.result in
           let on : IsShownLine t p.table h shown subject line =
           subst (λ (table : CallTable). IsShownLine t table h shown subject line) ruled
-          (subst (λ (u : Tree). IsItemOn u h subject item.item → IsShownLine u c.args.table.now h shown subject line) over
-          (c.line_shown-line.ensures h c.args.table.now subject c.new-allowed.ensures) here.tells)
+          (c.shown_line-line.ensures h c.args.table.now t c.new-allowed.ensures by_root here)
           in
           let own : AreColumnsOf p number h.veils new = record {
             veils = num.veils ∙ inv.veils ∙ are.veils;
@@ -57,12 +54,12 @@ loop-item-preserved g c =
           (λ word. behind_is p number h h.veils new (line_on word subject line) c.resting_on.result c.in_ok-resting.resting
           item.veil own num.is rests (here.veil ∙ covering_alike t h subject))
           (ap (λ s. s ++ told t p.table h shown (behind p number h) (items_told t (last_word [] lines) (drop i items)))
-          (lines_grown old new num.more num.grows num.veils num.unveiled [] lines inv.numbered) ∙ inv.lines p number over ruled all are));
+          (lines_grown old new num.more num.grows num.veils num.unveiled [] lines inv.numbered) ∙ inv.lines p number ruled by_root all are));
     }
 
 pub returns : goal.returns
-returns g c = λ p number over ruled all are.
+returns c = λ p number ruled by_root all are.
     let h = c.args.process.now in
-    told_all (world_left p).tree p.table h c.args.shown (behind p number h) c.loop-item.columns c.args.items.now c.loop-item.item-index
-    c.loop-item.lines.items _ (omega (arith, c.loop-item-test.false)) (c.loop-item.invariant.lines p number over ruled all are)
+    told_all (world_left p).tree p.table h c.args.shown.now (behind p number h) c.loop-item.columns c.args.items.now c.loop-item.item-index
+    c.loop-item.lines.items _ (omega (arith, c.loop-item-test.false)) (c.loop-item.invariant.lines p number ruled by_root all are)
     ∙ lines_behind p number h _

@@ -1,4 +1,4 @@
-use Rattle.pua_texts.proofs.Common.{◌≡◌, ap, kept_at, ℕ, List, Option, ProcessState, sym, Some, Tree, ◌∙◌, []}
+use Rattle.pua_texts.proofs.Common.{◌≡◌, ap, kept_at, ℕ, List, Option, ProcessState, sym, Some, ◌∙◌, []}
 use Rattle.std.specs.Option.{option_map_or}
 use Rattle.pua_calls.specs.Calls.{CallTable}
 use Rattle.pua_calls.specs.declared.rules.Rules.{Rules}

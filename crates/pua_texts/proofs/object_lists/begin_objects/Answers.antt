@@ -1,4 +1,4 @@
-use Rattle.pua_texts.proofs.Common.{◌≡◌, ap, get_or, kept_at, sym, ◌∙◌, Some}
+use Rattle.pua_texts.proofs.Common.{ap, get_or, kept_at, sym, ◌∙◌}
 use Rattle.pua_script.specs.Worlds.{world_of}
 use Rattle.pua_texts.specs.ListLines.{list_text}
 use Rattle.pua_texts.specs.ObjectLines.{heading_now, process_list}

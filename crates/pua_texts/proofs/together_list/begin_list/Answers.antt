@@ -2,7 +2,7 @@ use Rattle.pua_texts.proofs.Common.{[], map, ap, sym, subst, ◌++◌, ◌∙◌
 use Rattle.std.specs.Prelude.{IfSome}
 use Rattle.pua_ever.specs.EverList.{AreEverTold}
 use Rattle.pua_ever.specs.LastingList.{IsLasting}
-use Rattle.pua_ever.specs.Through.{ever_lasting}
+use Rattle.pua_ever.specs.ShownForEver.{shown_lasting}
 use Rattle.pua_texts.specs.EndingsState.{EndingsState}
 use Rattle.pua_texts.specs.ListLines.{lines_text}
 use Rattle.pua_texts.specs.Members.{named_by}
@@ -21,8 +21,8 @@ returns g c = if_ok c.new-2.result (λ list is table joint.
     let one = c.in-Some.joint.one.now in
     let lasting = subst (λ (o : Option Joined). IfSome o (λ j. IsLasting t table j.one.now j.list.now)) c.in-Some.is joint.lasting in
     let told = ap (λ (s : EndingsState). lines_text s [] c.in_ok-lines.lines.items) c.plain-2.ensures ∙
-    c.in_ok-lines.ensures t (ever_lasting t table one)
-    (subst (λ rows. AreEverTold t [] rows (ever_lasting t table one) []) (sym c.as_slice.ensures.value) lasting.rows) in
+    c.in_ok-lines.ensures t (shown_lasting t table one)
+    (subst (λ rows. AreEverTold t [] rows (shown_lasting t table one) []) (sym c.as_slice.ensures.value) lasting.rows) in
     some_listed c.args.rules table t named list c.of-head-2.result (string_bytes c.push_bounds.new.text) (string_bytes c.new-files.result)
     (map shown c.in_ok-veils.field-0.items) c.in_ok-lines.lines.items c.plain-2.result one is c.of-head-2.ensures c.new-files.ensures.bytes
     (c.in_ok-push_bounds.ensures

@@ -8,7 +8,7 @@ use Rattle.pua_calls.specs.TmpTable.{tmp_table}
 use Rattle.pua_ever.specs.EverList.{IsRowOn}
 use Rattle.pua_ever.specs.LastingList.{IsBoundedExecOf, IsLasting}
 use Rattle.pua_ever.specs.Refusals.{refusal}
-use Rattle.pua_ever.specs.Through.{ever_lasting}
+use Rattle.pua_ever.specs.ShownForEver.{shown_lasting}
 use Rattle.pua_ever.specs.declared.list.EverRow.{EverRow}
 use Rattle.pua_texts.specs.EverHowLines.{AreToldWith, ever_list_with}
 use Rattle.pua_tool.specs.RowColumns.{AreColumns, done_behind}
@@ -89,7 +89,7 @@ returns g c =
     let on = subst (λ (rows : List EverRow). AllByRecursion (IsRowOn done.world.tree h) rows) (sym c.as_slice.ensures.value) there.items in
     let columns = subst (λ (rows : List EverRow). AreColumns behind.rules done n h rows texts) c.as_slice.ensures.value
     (c.in_ok-columns.ensures on) in
-    let lines = lines_told behind.rules done n h [] rows texts (ever_lasting done.world.tree table h) there.rows columns in
+    let lines = lines_told behind.rules done n h [] rows texts (shown_lasting done.world.tree table h) there.rows columns in
     let own = columns_told behind.rules done n h (subst WellFormed at c.known.ensures) lines.told lines.lines_are lines.columns in
     let none : refusal done.table h ≡ None =
     sym (refused_too done.table h) ∙ (λ i. refusal (sym ruled i) h) ∙ c.in-Ok.ensures.refused whose in

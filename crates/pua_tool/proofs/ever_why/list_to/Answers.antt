@@ -9,7 +9,7 @@ use Rattle.pua_ever.specs.declared.lasting_list.ExecBound.{ExecBound}
 use Rattle.pua_ever.specs.declared.list.EverRow.{EverRow}
 use Rattle.pua_ever.specs.LastingList.{IsBoundedExecOf, IsLasting}
 use Rattle.pua_ever.specs.Refusals.{refusal}
-use Rattle.pua_ever.specs.Through.{ever_lasting}
+use Rattle.pua_ever.specs.ShownForEver.{shown_lasting}
 use Rattle.pua_texts.specs.EverHowLines.{AreToldWith, ever_list_with}
 use Rattle.pua_texts.specs.Lines.{with_end}
 use Rattle.pua_texts.specs.WhyLines.{world_left}
@@ -102,8 +102,8 @@ returns g c = λ read is.
     ∙ (λ i. map (veil_date p.table p.world p.asks) (veils_of n (seen i))) ∙ dates_are p n h made c.known.ensures in
     let columns = c.in_ok-columns.ensures p n at ruled again there.items dates in
     let behind = λ (execs : ExecBound).
-    map (λ (line : EverLine). (line, with_end (column_by p n h (holder_by table h execs) execs line))) (ever_lasting (world_left p).tree table h) in
-    let told = told_columns p n h (holder_by table h list.execs) list.execs [] rows texts (ever_lasting (world_left p).tree table h)
+    map (λ (line : EverLine). (line, with_end (column_by p n h (holder_by table h execs) execs line))) (shown_lasting (world_left p).tree table h) in
+    let told = told_columns p n h (holder_by table h list.execs) list.execs [] rows texts (shown_lasting (world_left p).tree table h)
     there.rows columns in
     let listed = c.in_ok-lists.ensures wide (behind list.execs) lasting.execs
     (subst (λ (t : Tree). AreToldWith t [] rows texts (behind list.execs)) (sym at) told) in

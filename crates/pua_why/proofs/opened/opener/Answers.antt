@@ -8,5 +8,5 @@ returns-in-Some g c =
     let s = c.args.world.now in
     IfOk-weaker c.opener_on.result _ _ (λ promise told.
     told
-    ∙ (λ i. opener_on (c.table.ensures i) (c.tree.ensures i) c.args.action.now c.in-Some.process.now)
+    ∙ (λ i. opener_on (c.table-in-Some.ensures i) (c.tree.ensures i) c.args.action.now c.in-Some.process.now)
     ∙ ap (opener_at s.table s.tree c.args.action.now) c.in-Some.ensures) c.opener_on.ensures

@@ -23,33 +23,32 @@ last-kept-requires g c κs =
     let t : Tree = c.args.self.now.seen.tree in
     let living : is_dir t c.args.dir ≡ true = c.requires.living in (
       (refl, tt),
-      (
-        (λ i. is_dir (c.requires.tree i) c.start_in.result.root) ∙ c.start_in.ensures.lives,
-        ((λ i. is_dir (c.requires.tree i) (c.start_in.ensures.dir i)) ∙ living, omega arith),
-      ),
+      ((λ i. is_dir (c.requires.tree i) (c.start_in.ensures.dir i)) ∙ living, omega arith),
     )
 
 pub cover_of-cover-requires : goal.cover_of-cover-requires
-cover_of-cover-requires g c κs = (
-  (refl, tt),
-  (
-    c.last-kept.ensures.tree ∙ c.requires.tree,
-    subst (λ (u : Tree). FoundsFit u c.last-kept.result) c.requires.tree c.last-kept.ensures.fits,
-  ),
-)
+cover_of-cover-requires g c κs =
+    let root = (λ i. is_dir (c.requires.tree i) c.start_in.result.root) ∙ c.start_in.ensures.lives in (
+      (refl, tt),
+      (
+        c.last-kept.ensures.tree ∙ c.requires.tree,
+        subst (λ (u : Tree). FoundsFit u c.last-kept.result) c.requires.tree (c.last-kept.ensures.fits root),
+      ),
+    )
 
 pub returns-clause-exact : goal.returns-clause-exact
 returns-clause-exact g c = λ covered followed links near call.
     let a = c.args.self.now in
     let t : Tree = a.seen.tree in
     let kept : Result Found Errno = c.last-kept.result in
-    let named : IfOk kept (StandsAsNamed t) = subst (λ (u : Tree). IfOk kept (StandsAsNamed u)) c.requires.tree c.last-kept.ensures.named in
+    let root = (λ i. is_dir (c.requires.tree i) c.start_in.result.root) ∙ c.start_in.ensures.lives in
+    let named : IfOk kept (StandsAsNamed t) = subst (λ (u : Tree). IfOk kept (StandsAsNamed u)) c.requires.tree (c.last-kept.ensures.named root) in
     let is : kept ≡ last (seen_by t a.process) c.args.dir 0 c.args.part.now Kept =
     c.last-kept.ensures.exact
     ∙ (λ i. last (rooted (c.requires.tree i) (c.start_in.ensures.root i)) (c.start_in.ensures.dir i) 0 c.args.part.now Kept) in
     let left = c.cover_of-cover.ensures.exact named covered c.requires.living
     (kept_above (seen_by t a.process) c.args.dir c.args.part.now kept is) in
-    let fit : FoundsFit t kept = subst (λ (u : Tree). FoundsFit u kept) c.requires.tree c.last-kept.ensures.fits in
+    let fit : FoundsFit t kept = subst (λ (u : Tree). FoundsFit u kept) c.requires.tree (c.last-kept.ensures.fits root) in
     c.calls_on.ensures.exact fit left call
     ∙ ap (λ (x : Result Found Errno). is_allowed (verdict_of t a.table a.process call x)) is
 

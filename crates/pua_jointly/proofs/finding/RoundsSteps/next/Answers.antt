@@ -11,7 +11,7 @@ pub returns-clause-only : goal.returns-clause-only
 returns-clause-only g c = λ bit held.
     let t : Tree = g.T.FileTree.content c.self.inside.tree.now in
     let k : Crew = c.self.inside.crew.now in
-    let out = c.self.invariant in
+    let out = c.self.invariant.0 in
     subst (λ (s : RoundsState). FollowsTold s.tree s.table s.crew c.args.told.now c.args.at bit) c.self.view_is
     (step_only t out.0 c.self.inside.table.now (crew_told k) (watches t (crew_told k)) (spots_told k) (guarded_told k) k out.1 c.args.told.now c.args.at
     c.row.result c.part.result (c.row.ensures (crew_told k) (spots_told k) (sym out.1.many))
@@ -22,7 +22,7 @@ pub returns-clause-all : goal.returns-clause-all
 returns-clause-all g c = λ bit new.
     let t : Tree = g.T.FileTree.content c.self.inside.tree.now in
     let k : Crew = c.self.inside.crew.now in
-    let out = c.self.invariant in
+    let out = c.self.invariant.0 in
     ap (λ w. bit_at w bit == 1) c.part-2.ensures
     ∙ step_all t out.0 c.self.inside.table.now (crew_told k) (watches t (crew_told k)) (spots_told k) (guarded_told k) k out.1 c.args.told.now
     c.args.at c.row.result c.part.result (c.row.ensures (crew_told k) (spots_told k) (sym out.1.many))

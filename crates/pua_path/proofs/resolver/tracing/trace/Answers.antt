@@ -1,5 +1,5 @@
 use Rattle.pua_path.proofs.Common.{◌≡◌, rules, arith, ap, sym, ◌∙◌, List, [], ◌∷◌, length, Spot, way_of, PathTrace, as_path_trace}
-use Rattle.pua_path.proofs.Common.{after_links}
+use Rattle.pua_path.proofs.Common.{after_links, Whole}
 use Rattle.std.specs.Prelude.{Ok}
 use Rattle.pua_path.specs.Walks.{walk_trace}
 use Rattle.pua_path.specs.Traces.{object_or_errno}
@@ -59,6 +59,17 @@ returns-in-Ok-Some-clause-named g c =
     let text = c.args.text.now in
     founds_named t c.known.ensures c.args.from text.ending text.bytes c.args.mode (Ok c.found.result)
     (ap (λ (trace : PathTrace). object_or_errno trace.outcome) (returns-in-Ok-Some-clause-exact g c) ∙
+    from_answers t c.args.from text.ending text.bytes c.args.mode)
+
+pub returns-clause-exact : goal.returns-clause-exact
+returns-clause-exact g c = search rules
+
+pub returns-clause-fits : goal.returns-clause-fits
+returns-clause-fits g c =
+    let t = g.P.Probe.tree c.args.probe.now in
+    let text = c.args.text.now in
+    founds_fit t c.known.ensures c.args.from text.ending text.bytes c.args.mode (Ok (Whole c.loop-piece.walk.here c.way.result))
+    (ap (λ (trace : PathTrace). object_or_errno trace.outcome) (returns-clause-exact g c) ∙
     from_answers t c.args.from text.ending text.bytes c.args.mode)
 
 pub loop-piece-preserved-then-walk-left : goal.loop-piece-preserved-then-walk-left

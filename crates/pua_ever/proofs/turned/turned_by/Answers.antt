@@ -1,9 +1,8 @@
 use Rattle.pua_ever.proofs.Common.{◌≡◌, ◌∙◌, ap, refl, Bool, ◌||◌, List, [], ◌∷◌, list_any, map}
 use Rattle.std.proofs.Common.{Bor, ℕ}
-use Rattle.pua_calls.specs.Promises.{holds, fattr}
 use Rattle.pua_policy.specs.declared.open_file.OpenFile.{OpenFile}
 use Rattle.pua_ever.specs.Ever.{is_turned_by}
-use Rattle.pua_ever.proofs.turned.turned_nodes.Goals as goal
+use Rattle.pua_ever.proofs.turned.turned_by.Goals as goal
 
 -- a test of what things are mapped to
 any_mapped : {A B : Type 0} (f : A → B) (p : B → Bool) (xs : List A) → list_any (λ x. p (f x)) xs ≡ list_any p (map f xs)
@@ -16,7 +15,6 @@ lent held = (held.0.now, held.1.now)
 pub returns-in-Ok : goal.returns-in-Ok
 returns-in-Ok c = λ node.
     c.in-Ok.ensures node
-    ∙ any_mapped lent (is_turned_by c.contains-sets_modes.result node) c.deref.result.now
-    ∙ (λ i. list_any (is_turned_by c.contains-sets_modes.result node) (map lent (c.deref.ensures.value i)))
-    ∙ (λ i. list_any (is_turned_by (c.contains-sets_modes.ensures i) node) (c.in_ok-files.ensures i))
-    ∙ ap (λ held. list_any (is_turned_by (holds held fattr) node) c.args.process.now.files) c.held.ensures.state
+    ∙ any_mapped lent (is_turned_by c.args.sets_modes node) c.deref.result.now
+    ∙ (λ i. list_any (is_turned_by c.args.sets_modes node) (map lent (c.deref.ensures.value i)))
+    ∙ ap (list_any (is_turned_by c.args.sets_modes node)) c.in_ok-files.ensures
