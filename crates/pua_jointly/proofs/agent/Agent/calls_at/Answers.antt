@@ -3,7 +3,7 @@ use Rattle.std.specs.Prelude.{slice_get}
 use Rattle.std.proofs.lemmas.Bool.{ltb-true}
 use Rattle.std.proofs.lemmas.Option.{slice_get-get_or}
 use Rattle.pua_jointly.specs.declared.doing.Allowed.{Allowed}
-use Rattle.pua_jointly.proofs.crew.Agent.calls_at.Goals as goal
+use Rattle.pua_jointly.proofs.agent.Agent.calls_at.Goals as goal
 
 pub returns-in-Some : goal.returns-in-Some
 returns-in-Some c = λ covers known judged same call.

@@ -1,7 +1,7 @@
 use Rattle.pua_jointly.proofs.Common.{◌≡◌, Call, Object, empty_tree, has, list_any}
 use Rattle.pua_policy.specs.Objects.{object_seen}
 use Rattle.pua_jointly.specs.JointCovers.{AreCallsByCover, allows_under, numbered}
-use Rattle.pua_jointly.proofs.crew.Agent.calls_under.Given as goal
+use Rattle.pua_jointly.proofs.agent.Agent.calls_under.Given as goal
 
 abbrev pub invariant-loop-bit : goal.invariant-loop-bit
 invariant-loop-bit l = record {

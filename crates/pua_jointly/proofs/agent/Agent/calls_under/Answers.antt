@@ -3,8 +3,8 @@ use Rattle.std.specs.Int.{bit_at}
 use Rattle.std.proofs.lemmas.Grind.{common_steps}
 use Rattle.pua_jointly.specs.JointCovers.{allows_under, cover_of, numbered}
 use Rattle.pua_jointly.proofs.JointDoing.{any_more, or_none}
-use Rattle.pua_jointly.proofs.crew.Agent.calls_under.Goals as goal
-use Rattle.pua_jointly.proofs.crew.Agent.calls_under.Goals.{else-has, then-has}
+use Rattle.pua_jointly.proofs.agent.Agent.calls_under.Goals as goal
+use Rattle.pua_jointly.proofs.agent.Agent.calls_under.Goals.{else-has, then-has}
 
 pub loop-bit-preserved : goal.loop-bit-preserved
 loop-bit-preserved c = record {
