@@ -17,6 +17,7 @@ our %FAULT_OF = (
     'directory'    => \&_directory,
     'no link'      => \&_no_link,
     'no program'   => \&_no_program,
+    'socket'       => \&_socket,
     'no socket'    => \&_no_socket,
     'not empty'    => \&_not_empty,
     'inside'       => \&_inside,
@@ -86,15 +87,25 @@ sub _no_program {
     return same_words_fault($case, told_behind($case, @lines), "though $path is a program");
 }
 
-# Each file may be a socket.
+sub _socket {
+    my ($case, $path) = @_;
+    my $kind = things_of($case)->{$path};
+    return "$path isn't there" if !defined $kind;
+    return "$path is none" if $kind ne 'sock';
+    my @lines = (_moves($path), OBSERVER . " create $path");
+    return same_words_fault($case, told_behind($case, @lines), "though $path is a file");
+}
+
+# Each file may be a socket of which no more is known, and no plain one; their words are the same.
 sub _no_socket {
     my ($case, $path) = @_;
     my $kind = things_of($case)->{$path};
     return "$path isn't there" if !defined $kind;
-    return "$path may be one" if $kind eq 'file';
+    return "$path is one" if $kind eq 'sock';
     return _root_fault($case) if $path eq '/';
-    my @lines = (_moves($path), OBSERVER . " create $path");
-    return same_words_fault($case, told_behind($case, @lines), "though $path is a file");
+    my $make = $case->{world}->is_openbsd ? 'bind' : 'create';
+    my @lines = (_moves($path), OBSERVER . " $make $path");
+    return same_words_fault($case, told_behind($case, @lines), "though $path may be a socket");
 }
 
 sub _not_empty {
