@@ -213,7 +213,7 @@ sub is_program {
     return "the program: status $status, $err" if $status != 0;
     return "the program answers otherwise than the plain model\n$out" if index($out, $answers) != 0;
     return '' unless defined $living;
-    my $names = join '', sort map { m{\A((?:dir|file|prog|link) /\S*) }m ? "$1\n" : () } split /\n/, $out;
+    my $names = join '', sort map { m{\A((?:dir|file|sock|fifo|prog|link) /\S*) }m ? "$1\n" : () } split /\n/, $out;
     my $process = $plain->{processes}{$living};
     my $left_by = join '', $plain->names_left($plain->is_enclosed($process) ? $process->{root} : 0);
     return "the program lists\n$names--- and not\n$left_by" if $names ne $left_by;

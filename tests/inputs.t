@@ -3,7 +3,7 @@
 #
 #     perl tests/inputs.t [PROGRAM]
 #
-# Each of three texts is cut after each of its bytes, and each of its bytes is replaced by each of sixteen others. What
+# Each of four texts is cut after each of its bytes, and each of its bytes is replaced by each of sixteen others. What
 # comes of it has to be refused with its fault, or to be read as what it says: a listing as the tree whose objects and
 # links are told, a script and a table as that by which the script's lines are answered so.
 use strict;
@@ -16,7 +16,8 @@ use Worlds qw(answer_of program_in);
 my $PROGRAM = program_in(@ARGV);
 
 # The texts. The listing has directories, a file, a program, and links: to a directory, up and down again, to itself.
-# The script puts veils over this tree. By the table one of two promises is enough to make a directory.
+# Another one has a line of each type of file, and a further name of a socket. The script puts veils over the first tree.
+# By the table one of two promises is enough to make a directory.
 my %TEXT = (
     listing => <<'END',
 tree 1
@@ -28,6 +29,17 @@ tree 1
 5 link 3 up ../etc
 6 link 3 self self
 7 prog 3 sh
+END
+    typed => <<'END',
+tree 3
+0 dir
+1 dir 0 d
+2 sock 1 s
+3 fifo 0 z
+4 dev 1 c
+5 any 1 a
+6 file 0 r
+7 hard 1 h 2
 END
     script => <<'END',
 1 unveil /etc r
@@ -46,9 +58,14 @@ veil = "c"
 END
 );
 
-# The command over a text that was cut or varied, which is the file `given`.
+# What a text is read as, where this is not its name.
+my %READ_AS = (typed => 'listing');
+
+# The command over a text that was cut or varied, which is the file `given`. Only OpenBSD's rules have a call that tells
+# a plain file from one of which no more is known.
 my %COMMAND = (
     listing => [qw(objects given nothing)],
+    typed   => [qw(objects --rules openbsd given nothing)],
     script  => [qw(run whole given)],
     table   => [qw(run --table given whole making)],
 );
@@ -64,18 +81,32 @@ my %BESIDE = (
 # The other bytes, which the tables name by letters from `a` on.
 my @OTHERS = ("\0", "\n", "\r", ' ', '\\', '/', '0', '9', '=', '-', "\177", "\200", "\377", 'c', 'r', 'z');
 
-# What a new process may do on each kind of thing, and with the names that a directory doesn't have.
+# What a new process may do on each kind of thing, by the word of its line, and with the names that a directory doesn't
+# have.
 my %CALLS = (
-    dir   => 'stat,lstat,open-r,chmod,chdir',
-    empty => 'stat,lstat,open-r,rmdir,chmod,chdir',
-    file  => 'stat,lstat,open-r,open-w,open-rw,create,unlink,chmod',
-    prog  => 'stat,lstat,open-r,open-w,open-rw,create,unlink,chmod,exec',
-    link  => 'lstat,readlink,unlink',
-    other => 'create,mkdir,symlink',
+    listing => {
+        dir   => 'stat,lstat,open-r,chmod,chdir',
+        empty => 'stat,lstat,open-r,rmdir,chmod,chdir',
+        file  => 'stat,lstat,open-r,open-w,open-rw,create,unlink,chmod',
+        prog  => 'stat,lstat,open-r,open-w,open-rw,create,unlink,chmod,exec',
+        link  => 'lstat,readlink,unlink',
+        other => 'create,mkdir,symlink',
+    },
+    typed => {
+        dir   => 'stat,lstat,open-r,chmod,chdir,chown,fchmod,fchown',
+        empty => 'stat,lstat,open-r,rmdir,chmod,chdir,chown,fchmod,fchown',
+        any   => 'stat,lstat,open-r,open-w,open-rw,create,unlink,chmod,connect,chown,create-rw,fchmod,fchown',
+        sock  => 'stat,lstat,unlink,chmod,connect,chown',
+        (map { $_ => 'stat,lstat,open-r,open-w,open-rw,create,unlink,chmod,chown,create-rw,fchmod,fchown' } qw(file fifo dev)),
+        other => 'create,mkdir,symlink,bind,mknod,create-rw',
+    },
 );
 
 # Its state.
-my $STATE = "objects 1\nprocess alive\npromises -\nexecpromises -\nunveil open\nno veils\n";
+my %STATE = (
+    listing => "objects 1\nprocess alive\npromises -\nexecpromises -\nunveil open\nno veils\n",
+    typed   => "objects 1\nprocess alive\nrules openbsd\npromises -\nexecpromises -\nunveil open\nno veils\n",
+);
 
 # The files that the program finds: these, and the text that is tried.
 my %files  = %BESIDE;
@@ -102,17 +133,18 @@ sub wrong {
     my ($kind, $text, $answer, $listing) = @_;
     $files{given} = $text;
     my @command = @{ $COMMAND{$kind} };
-    return otherwise(1, '', "pua: $kind: $answer\n", @command) unless $answer =~ /\A(?:accepted\z|is\b)(.*)/;
-    return wrong_tree($listing, @command) if $kind eq 'listing';
+    my $as = $READ_AS{$kind} || $kind;
+    return otherwise(1, '', "pua: $as: $answer\n", @command) unless $answer =~ /\A(?:accepted\z|is\b)(.*)/;
+    return wrong_tree($kind, $listing, @command) if $as eq 'listing';
     my $line = 0;
     return otherwise(0, join('', map { ++$line . " $_\n" } split ' ', $1), '', @command);
 }
 
 # What is wrong with a tree, which is to be that of a listing: its objects, and where its links lead.
 sub wrong_tree {
-    my ($listing, @command) = @_;
+    my ($kind, $listing, @command) = @_;
     my $in = rows_of($listing);
-    my $wrong = otherwise(0, $STATE . below($in, 0, ''), '', @command);
+    my $wrong = otherwise(0, $STATE{$kind} . below($CALLS{$kind}, $in, 0, ''), '', @command);
     return $wrong . join '', map { wrong_link(@$_) } links_of($in, 0, '');
 }
 
@@ -128,24 +160,26 @@ sub wrong_link {
 # The rows of a listing that is well formed, by the numbers of their directories and by their names.
 sub rows_of {
     my ($listing) = @_;
-    my %in;
+    my (%in, %kind);
     for my $line (split /\n/, $listing) {
-        my ($number, $kind, $dir, $name, $target) = split / /, $line;
-        $in{$dir}{$name} = { number => $number, kind => $kind, target => $target } if defined $name;
+        my ($number, $kind, $dir, $name, $end) = split / /, $line;
+        $kind{$number} = $kind = $kind eq 'hard' ? $kind{$end} : $kind;
+        $in{$dir}{$name} = { number => $number, kind => $kind, target => $end } if defined $name;
     }
     return \%in;
 }
 
 # The lines of a directory's further names, and of all that is below it; before them its own.
 sub below {
-    my ($in, $dir, $path) = @_;
+    my ($calls, $in, $dir, $path) = @_;
     my $rows = $in->{$dir};
-    my $calls = $CALLS{ $rows || $path eq '' ? 'dir' : 'empty' };
+    my $of_it = $calls->{ $rows || $path eq '' ? 'dir' : 'empty' };
     my $shown = $path eq '' ? '/' : $path;
-    my $lines = "dir $shown $calls\nother $shown $CALLS{other}\n";
+    my $lines = "dir $shown $of_it\nother $shown $calls->{other}\n";
     for my $name (sort keys %$rows) {
         my ($kind, $at) = ($rows->{$name}{kind}, "$path/$name");
-        $lines .= $kind eq 'dir' ? below($in, $rows->{$name}{number}, $at) : "$kind $at $CALLS{$kind}\n";
+        my $word = $kind eq 'any' ? 'file' : $kind;
+        $lines .= $kind eq 'dir' ? below($calls, $in, $rows->{$name}{number}, $at) : "$word $at $calls->{$kind}\n";
     }
     return $lines;
 }
@@ -201,7 +235,7 @@ sub try_variants {
         my @wrong;
         for my $letter (split //, $letters) {
             $cases{"$place $letter"} = 1;
-            my $wrong = wrong($kind, varied($kind, $place, $letter), $answer, relisted($place, $answer));
+            my $wrong = wrong($kind, varied($kind, $place, $letter), $answer, relisted($kind, $place, $answer));
             push @wrong, "letter $letter: $wrong" if $wrong ne '';
         }
         is_right("the $kind, byte $place as $letters: $answer", @wrong);
@@ -220,17 +254,17 @@ sub varied {
 
 # The listing with the line of an answer instead of the one that has the place.
 sub relisted {
-    my ($place, $answer) = @_;
+    my ($kind, $place, $answer) = @_;
     my $end = 0;
     return join '', map {
         my $has_place = $end <= $place && $place < $end + length;
         $end += length;
         $has_place && $answer =~ /\Ais (.*)\z/ ? "$1\n" : $_;
-    } split /^/, $TEXT{listing};
+    } split /^/, $TEXT{$kind};
 }
 
 my %count;
-for my $kind (qw(listing script table)) {
+for my $kind (qw(listing typed script table)) {
     $count{$kind} = [try_fronts($kind), try_variants($kind)];
 }
 note("$_: $count{$_}[0] fronts, $count{$_}[1] variants") for sort keys %count;

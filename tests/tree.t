@@ -63,8 +63,8 @@ sub fault_of {
     my $again = text_of($how, { listing => $text, script => '' }, 'tree');
     return told("printed of itself it is\n$again", $how, $listing, $script) if $again ne $text;
     my $page = page_of($text, text_of($how, { listing => $listing, script => $script }, 'objects', '--process', $WITNESS));
-    my $things = () = $text =~ /^[0-9]+ (?:file|prog|link|hard) /gm;
-    my $shown  = () = $page =~ m{<small>(?:file|prog|link)</small>[^<]*</span>}g;
+    my $things = () = $text =~ /^[0-9]+ (?:file|any|sock|fifo|dev|prog|link|hard) /gm;
+    my $shown  = () = $page =~ m{<small>(?:file|sock|fifo|dev|prog|link)</small>[^<]*</span>}g;
     return told("the page has $shown of $things\n$page", $how, $listing, $script) if $shown != $things;
     return fault_of_more($how, $listing, $script, $text);
 }
@@ -100,7 +100,7 @@ sub fault_of_more {
 sub listed {
     my ($tree, $listing) = @_;
     my @waiting = under($tree, 0);
-    my ($has_seconds, @lines, %numbers);
+    my ($has_seconds, $has_types, @untyped, @lines, %numbers);
     while (my $row = shift @waiting) {
         my ($dir, $name) = @$row;
         my $node = $tree->{rows}{$dir}{$name};
@@ -112,11 +112,14 @@ sub listed {
             next;
         }
         my $kind = $tree->{kind}{$node};
+        $has_types ||= $tree->{plain}{$node} || $kind =~ /\A(?:sock|fifo|dev)\z/;
+        push @untyped, $#lines + 1 if $kind eq 'file' && !$tree->{plain}{$node};
         $numbers{$node} = $line;
         push @lines, join ' ', $line, $kind, @front, $kind eq 'link' ? spelled($tree->{target}{$node}) : ();
         unshift @waiting, under($tree, $node) if $kind eq 'dir';
     }
-    my $is_wide = $listing =~ /\Atree 3/ || @lines >= $MOST_LISTED;
+    my $is_wide = $listing =~ /\Atree 3/ || $has_types || @lines >= $MOST_LISTED;
+    s/ file / any / for $is_wide ? @lines[@untyped] : ();
     return join '', map { "$_\n" } 'tree ' . ($is_wide ? 3 : $has_seconds ? 2 : 1), '0 dir', @lines;
 }
 
@@ -175,6 +178,9 @@ sub test_forms {
             [ 'tree 1', '0 dir', '1 dir 0 =', '2 file 0 \134\001', '3 file 0 a:b', '4 link 0 \377 =\177/\012' ] ],
         [ 'a directory in a later one', [ 'tree 1', '0 dir', '1 dir 0 a', '2 file 1 f', '3 dir 0 b' ],
             ['1 rename /a /b/a'], [ 'tree 1', '0 dir', '1 dir 0 b', '2 dir 1 a', '3 file 2 f' ] ],
+        [ 'types of files', [ 'tree 3', '0 dir', '1 sock 0 s', '2 any 0 a', '3 fifo 0 f', '4 hard 0 b 1', '5 dev 0 v', '6 file 0 p' ],
+            [ '1 rename /s /z', '1 unlink /v', '1 create /n' ],
+            [ 'tree 3', '0 dir', '1 any 0 a', '2 sock 0 b', '3 fifo 0 f', '4 any 0 n', '5 file 0 p', '6 hard 0 z 2' ] ],
         [ 'what was refused', [ 'tree 1', '0 dir', '1 dir 0 a', '2 file 1 f' ],
             [ '1 rmdir /a', '1 unveil / r', '1 mkdir /b', '1 pledge stdio -', '1 unlink /a/f', '1 stat /' ],
             [ 'tree 1', '0 dir', '1 dir 0 a', '2 file 1 f' ] ],
@@ -192,9 +198,10 @@ sub test_forms {
 sub test_many {
     my @names = map { sprintf '%d file 0 f%04d', $_, $_ } 1 .. $MOST_LISTED - 1;
     my $full  = lines('tree 1', '0 dir', @names);
+    my @files = map { s/ file / any /r } @names;
     is(text_of({}, { listing => $full, script => '' }, 'tree'), $full, 'the most names of the first form');
     is(text_of({}, { listing => $full, script => "1 create /g\n" }, 'tree'),
-        lines('tree 3', '0 dir', @names, "$MOST_LISTED file 0 g"), 'one name more');
+        lines('tree 3', '0 dir', @files, "$MOST_LISTED any 0 g"), 'one name more');
     is(text_of({}, { listing => $full, script => "1 link /f0001 /f0002\n1 unlink /f0002\n1 link /f0001 /f0002\n" }, 'tree'),
         lines('tree 2', '0 dir', $names[0], '2 hard 0 f0002 1', @names[2 .. $#names]), 'of the second form');
     my $wide = lines('tree 3', '0 dir', map { sprintf '%d dir 0 %06d', $_, $_ } 1 .. $MOST_WIDE - 1);

@@ -31,11 +31,11 @@
 #
 # Words of its own among the answers: `left-out`, also for take and chroot on other systems than
 # Linux, and where the numbers of their calls aren't known or these are refused, and for the hold of
-# what no system opens; `too-long` for bind and connect with a path of more than 103 bytes, which no
-# address of a socket holds; `no-answer` of a process that is silent for half a minute. `stdio` is
-# added to all promises and execpromises, since the answers have to be told. The open of a fifo that
-# would wait, and that of a socket, is `ok`, as of the files that pua has in their place. A fork to a
-# number that was used is EAGAIN, and a process that ended is gone, as in pua.
+# a fifo whose open would wait; `too-long` for bind and connect with a path of more than 103 bytes,
+# which no address of a socket holds; `no-answer` of a process that is silent for half a minute.
+# `stdio` is added to all promises and execpromises, since the answers have to be told. The open of a
+# fifo that would wait is `ok`, as pua has it. A fork to a number that was used is EAGAIN, and a
+# process that ended is gone, as in pua.
 #
 # Status 0: it was performed, whatever the answers are. Status 1: a file can't be read, or isn't of
 # the right form, or this process isn't root. Status 2: the words do not fit.

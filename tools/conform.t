@@ -84,7 +84,8 @@ answered('paths', $LISTING, <<'END_SCRIPT', 'ok ok ok ok EINVAL ELOOP ENOTDIR EN
 1 stat =
 1 stat /etc/passwd/
 END_SCRIPT
-answered('calls', $LISTING, <<'END_SCRIPT', join ' ', ('ok') x 13, 'ENOTEMPTY', ('ok') x 6, 'EADDRINUSE', 'ok');
+my $no_open = $^O eq 'linux' ? 'ENXIO' : 'EOPNOTSUPP';    # of a socket
+answered('calls', $LISTING, <<'END_SCRIPT', join ' ', ('ok') x 13, 'ENOTEMPTY', ('ok') x 6, 'EADDRINUSE', $no_open);
 1 create /new
 1 open-r /new
 1 open-w /new

@@ -71,23 +71,29 @@ sub some_of {
 
 sub some { return some_of(scalar @_, @_) }
 
+# Under which heads such calls on a kind stand, and which of them are about sockets in the file
+# system: a connect to what is known to be one is `socket`.
+sub heads_of {
+    my ($kind, $calls) = @_;
+    my @calls = grep { $_ eq 'connect' || $_ eq 'bind' } split /,/, $calls;
+    @calls = map { $_ eq 'connect' ? 'socket' : $_ } @calls if $kind eq 'sock';
+    return [[keys %{ columns($kind, $calls) }], \@calls];
+}
+
 # Adds a line of an object to what is known of its list: how many have a call under each head, the
-# first paths that can be connected to and those where something is bound, and which veils stand at
-# something that is no directory.
+# first paths of sockets and of other files that can be connected to and those where something is
+# bound, and which veils stand at something that is no directory.
 sub take {
     my ($list, $kind, $path, $calls) = @_;
     $list->{place} ||= { map { $_->[0] => $_->[1] } @{ state_of($list)->{veils} } };
-    my $known = $list->{known}{"$kind $calls"} ||= [
-        [keys %{ columns($kind, $calls) }],
-        [grep { $_ eq 'connect' || $_ eq 'bind' } split /,/, $calls],
-    ];
+    my $known = $list->{known}{"$kind $calls"} ||= heads_of($kind, $calls);
     $list->{counts}{$_}++ for @{ $known->[0] };
     for my $call (@{ $known->[1] }) {
         my $with = $list->{with}{$call} ||= { count => 0, paths => [] };
         push @{ $with->{paths} }, $path if $with->{count}++ < $MOST_NAMED;
     }
     $list->{is_name}{$path} = 1
-        if exists $list->{place}{$path} && $kind =~ /\A(?:file|prog|link|missing)\z/;
+        if exists $list->{place}{$path} && $kind =~ /\A(?:file|sock|fifo|dev|prog|link|missing)\z/;
     return if !$by_regions;
     $list->{regions} ||= Pua::Regions->new($list->{place});
     $list->{regions}->take($kind, $path, $calls);
@@ -110,9 +116,10 @@ sub about_sockets {
     my ($list, $state) = @_;
     return if !holds($state, 'unix');
     if ($state->{sockets}) {
-        my ($connects, $binds) = map { $_ && some_of($_->{count}, @{ $_->{paths} }) }
-            @{ $list->{with} }{qw(connect bind)};
-        return (($connects ? "connects, if these are sockets, to $connects" : ()),
+        my ($sockets, $connects, $binds) = map { $_ && some_of($_->{count}, @{ $_->{paths} }) }
+            @{ $list->{with} }{qw(socket connect bind)};
+        return (($sockets ? "connects to $sockets" : ()),
+            ($connects ? "connects, if these are sockets, to $connects" : ()),
             ($binds ? "binds sockets in $binds" : ()));
     }
     return 'connects to each socket, and binds sockets anywhere: no line shows it'

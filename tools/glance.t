@@ -158,6 +158,30 @@ process 2: veils 0, locked; read 0, written 0, executed 0, made 0, removed 0
     no veils at all: it touches what is not listed too
 OUT
 
+# What is known to be a socket, and what may be one.
+tells('sockets that are known', <<'END', split /\n/, <<'OUT');
+objects 1
+process alive
+rules openbsd
+promises unix
+execpromises -
+unveil locked
+veil /run w
+veil /srv wc
+fifo /run/f chmod
+sock /run/a connect
+file /run/b connect
+sock /run/c chmod,connect
+other /srv bind
+missing /srv/new bind
+END
+answers: none
+process 1: veils 2, locked; read 0, written 4, executed 0, made 2, removed 0
+    connects to /run/a, /run/c
+    connects, if these are sockets, to /run/b
+    binds sockets in /srv, /srv/new
+OUT
+
 # Veils that can be moved below another one.
 tells('veils that can be moved', <<'END', split /\n/, <<'OUT');
 objects 1

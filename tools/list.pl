@@ -37,12 +37,12 @@
 #     --help     prints this text.
 #
 # Directories are listed as `dir`, symbolic links as `link`, plain files that someone may execute
-# as `prog`, and all else as `file`: plain files, sockets, fifos and devices. What has several
-# names, by its device and inode, is listed once, under the first of them in the order of the
-# listing; each other one is a `hard` line, and the listing's first line is then `tree 2`, else
-# `tree 1`, and `tree 3` where there are more than 4,096 names. Links are not followed, except on
-# the way to a PATH; mount points are crossed. Names come in the order of their bytes, so two runs
-# over the same files print the same.
+# as `prog`, other plain files as `file`, and sockets, fifos and devices as `sock`, `fifo` and `dev`.
+# What has several names, by its device and inode, is listed once, under the first of them in the
+# order of the listing; each other one is a `hard` line, and the listing's first line is then
+# `tree 2`, else `tree 1`; it is `tree 3` where there are more than 4,096 names, or a socket, a fifo
+# or a device. Links are not followed, except on the way to a PATH; mount points are crossed. Names
+# come in the order of their bytes, so two runs over the same files print the same.
 #
 # Lines on standard error report what a reader of the listing has to know: links whose target is
 # there but isn't listed, summed up by where they lead to; each further name of what is listed,
@@ -114,6 +114,7 @@ my %beyond;                # by a directory's path: the names beyond its first N
 # link's target.
 my %inside;
 my $listed = 1;    # how many these are, and the root
+my $has_types = 0;    # whether there is a kind among them that `tree 3` alone has
 my @links;         # the paths of those that are links
 
 # What may have several names, by DEVICE:INODE: how many it has on the disk, and the paths of those
@@ -214,7 +215,7 @@ sub take {
         $listed++;
         return 'dir';
     }
-    my ($kind, $file) = (-f _ && $mode & 0111 ? 'prog' : 'file', "$device:$inode");
+    my ($kind, $file) = (kind_by($mode), "$device:$inode");
     if (-l _) {
         my $target = readlink "$root$path";
         my $fault = defined $target ? target_fault($target) : "$!";
@@ -223,6 +224,7 @@ sub take {
         ($kind, $names->{$name}) = ('link', "link $file $target");
     } else {
         $names->{$name} = "$kind $file";
+        $has_types ||= $kind =~ /\A(?:sock|fifo|dev)\z/;
     }
     $listed++;
     my $place = place_of($device, $inode);
@@ -233,6 +235,13 @@ sub take {
         push @{ $names->{paths} }, $path;
     }
     return $kind;
+}
+
+# The kind of what was found last, which is no directory and no link, by its mode.
+sub kind_by {
+    my ($mode) = @_;
+    return $mode & 0111 ? 'prog' : 'file' if -f _;
+    return -S _ ? 'sock' : -p _ ? 'fifo' : -b _ || -c _ ? 'dev' : 'any';
 }
 
 # Why pua reads no such target, or nothing.
@@ -654,15 +663,16 @@ sub way_into {
         names => [reverse sort keys %$nodes] };
 }
 
-# The lines of what is left in a directory, up to a directory that has names, and that one's path;
-# or a block of them. The numbers go on behind $$last, and %$first has, by DEVICE:INODE, those of
-# the first names of files.
+# The lines, in a form, of what is left in a directory, up to a directory that has names, and that
+# one's path; or a block of them. The numbers go on behind $$last, and %$first has, by
+# DEVICE:INODE, those of the first names of files.
 sub lines_on {
-    my ($way, $last, $first) = @_;
+    my ($way, $form, $last, $first) = @_;
     my ($path, $above, $nodes, $again, $names) = @$way{qw(path number nodes again names)};
     my ($number, $lines, $inner) = ($$last, '');
     while (defined(my $name = pop @$names)) {
         my ($kind, undef, $target) = split / /, $nodes->{$name}, 3;
+        $kind = 'file' if $kind eq 'any' && $form < 3;
         $number++;
         my $field = $name =~ tr/\x21-\x5b\x5d-\x7e//c ? spelled($name) : $name;
         $field .= ' ' . spelled($target) if defined $target;
@@ -681,12 +691,12 @@ sub lines_on {
 # Prints the listing: a name, then what is in it.
 sub print_listing {
     my $again = listed_again();
-    my $form  = $listed > $MOST_SMALL ? 3 : %$again ? 2 : 1;
+    my $form  = $has_types || $listed > $MOST_SMALL ? 3 : %$again ? 2 : 1;
     print "tree $form\n", "0 dir\n" or return 0;
     my ($number, %first) = (0);
     my @ways = way_into('', 0, $again);
     while (@ways) {
-        my ($lines, $directory) = lines_on($ways[-1], \$number, \%first);
+        my ($lines, $directory) = lines_on($ways[-1], $form, \$number, \%first);
         print $lines or return 0;
         if    (defined $directory)     { push @ways, way_into($directory, $number, $again) }
         elsif (!@{ $ways[-1]{names} }) { pop @ways }

@@ -91,7 +91,7 @@ sub small_list {
 
 # A listing with these lines; its header is that of a listing with so many names, or with hard links.
 sub lines {
-    my $header = @_ > 4095 ? 'tree 3' : grep({ /\A[0-9]+ hard / } @_) ? 'tree 2' : 'tree 1';
+    my $header = @_ > 4095 || grep({ /\A[0-9]+ (?:sock|fifo|dev) / } @_) ? 'tree 3' : grep({ /\A[0-9]+ hard / } @_) ? 'tree 2' : 'tree 1';
     return join '', map { "$_\n" } $header, '0 dir', @_;
 }
 
@@ -194,10 +194,10 @@ sub refuses {
     mkdir 'dir';
     symlink 'plain', 'link' or die "link: $!";
     lists('kinds', ['-r', $root], [
-        '1 dir 0 dir', '2 file 0 fifo', '3 link 0 link plain', '4 prog 0 mine', '5 file 0 none',
-        '6 prog 0 ours', '7 file 0 plain', '8 file 0 socket', '9 prog 0 yours'
+        '1 dir 0 dir', '2 fifo 0 fifo', '3 link 0 link plain', '4 prog 0 mine', '5 file 0 none',
+        '6 prog 0 ours', '7 file 0 plain', '8 sock 0 socket', '9 prog 0 yours'
     ]);
-    lists('devices', ['/dev/null'], ['1 dir 0 dev', '2 file 1 null']);
+    lists('devices', ['/dev/null'], ['1 dir 0 dev', '2 dev 1 null']);
 }
 
 # Names of any bytes, in the order of their bytes.
@@ -324,7 +324,7 @@ sub refuses {
     my $links = link('link', 'd/link') && -l 'd/link';
     unlink 'd/link' unless $links;
     lists('kinds with several names', ['-r', $root], [
-        '1 dir 0 d', '2 dir 1 e', '3 file 1 fifo',
+        '1 dir 0 d', '2 dir 1 e', '3 fifo 1 fifo',
         $links
         ? ('4 link 1 link d', '5 prog 1 prog', '6 hard 0 fifo 3', '7 hard 0 link 4', '8 file 0 other', '9 hard 0 prog 5', '10 file 0 same')
         : ('4 prog 1 prog', '5 hard 0 fifo 3', '6 link 0 link d', '7 file 0 other', '8 hard 0 prog 4', '9 file 0 same')
@@ -333,7 +333,7 @@ sub refuses {
         $links ? ('/link: a further name of /d/link') : (),
         '/prog: a further name of /d/prog');
     lists('none of them twice', ['-r', $root, '-x', '/d'],
-        ['1 dir 0 d', '2 file 0 fifo', '3 link 0 link d', '4 file 0 other', '5 prog 0 prog', '6 file 0 same'],
+        ['1 dir 0 d', '2 fifo 0 fifo', '3 link 0 link d', '4 file 0 other', '5 prog 0 prog', '6 file 0 same'],
         '/fifo: the file has a further name, which is not listed',
         $links ? ('/link: the file has a further name, which is not listed') : (),
         '/prog: the file has a further name, which is not listed',

@@ -44,6 +44,7 @@ my $depth;              # DEPTH, where it was given
 my $MOST_BESIDE = 4;    # names that can't be touched and still stand unfolded beside others
 
 my %FIELDS = (dir => 4, file => 4, prog => 4, link => 5, hard => 5);    # of a line of a listing
+my %TYPED  = (sock => 4, fifo => 4, dev => 4, any => 4);    # after `tree 3`
 my %MISSING = ('left-out' => 'left out of the listing',
     'passed-over' => 'passed over by the listing');
 my %STATES = (
@@ -97,14 +98,16 @@ sub text { my ($text) = @_; $text =~ s/([&<>"'])/'&#' . ord($1) . ';'/ge; return
 sub tree {
     my ($name, @lines) = @_;
     die "$name: it is no listing\n" if @lines < 2 || "@lines[0, 1]" !~ /\Atree [123] 0 dir\z/;
-    my %nodes = (0 => { kind => 'dir', listed => 1 });
+    my %nodes  = (0 => { kind => 'dir', listed => 1 });
+    my %fields = (%FIELDS, $lines[0] eq 'tree 3' ? %TYPED : ());
     for my $number (3 .. @lines) {
         my ($where, @fields) = ("$name: line $number", split / /, $lines[ $number - 1 ]);
         my ($id, $kind, $parent, $row, $last) = @fields;
-        die "$where: bad line\n" if @fields != ($FIELDS{ $kind || '' } || 0) || $row =~ m{/};
+        die "$where: bad line\n" if @fields != ($fields{ $kind || '' } || 0) || $row =~ m{/};
         die "$where: bad number\n" if $nodes{$id};
         die "$where: bad parent\n" if ($nodes{$parent} || { kind => '' })->{kind} ne 'dir';
-        my $node = { kind => $kind, listed => 1, $kind eq 'link' ? (note => "-> $last") : () };
+        my $word = $kind eq 'any' ? 'file' : $kind;
+        my $node = { kind => $word, listed => 1, $kind eq 'link' ? (note => "-> $last") : () };
         if ($kind eq 'hard') {
             die "$where: bad node\n" if ($nodes{$last} || { kind => 'dir' })->{kind} eq 'dir';
             $node = { %{ $nodes{$last} }, note => "(a further name of node $last)" };

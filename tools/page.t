@@ -296,6 +296,24 @@ my @site = ('1 dir 0 www', '2 dir 1 site', '3 file 2 index', '4 file 1 key', '5 
     is(() = $page =~ /<details/g, () = $page =~ m{</details>}g, 'each fold has an end');
 }
 
+# Types of files, as the third form of a listing has them.
+{
+    my ($status, $out, $err) = page(
+        file('typed', 'tree 3', '0 dir', '1 sock 0 s', '2 fifo 0 f', '3 dev 0 v', '4 any 0 a', '5 file 0 p', '6 hard 0 t 1'),
+        file('objects', 'objects 1', 'file /a connect', 'fifo /f open-r', 'sock /s connect', 'sock /n connect'));
+    is("$status $err", '0 ', 'types: the status');
+    is_deeply([rows($out)], [
+        '0 | /',
+        '1 | a file | written: connect',
+        '1 | f fifo | read: open-r',
+        '1 | n sock not listed | written: connect',
+        '1 | p file',
+        '1 | s sock | written: connect',
+        '1 | t sock (a further name of node 1)',
+        '1 | v dev',
+    ], 'types: what stands there');
+}
+
 # Faults: nothing is written, and one line says why.
 {
     my ($tree, $list) = (file('good-tree', 'tree 1', '0 dir', '1 file 0 a'), file('good-list', '1 ok', 'objects 1'));
@@ -310,6 +328,10 @@ my @site = ('1 dir 0 www', '2 dir 1 site', '3 file 2 index', '4 file 1 key', '5 
         ['a slash in a name', file('slash', 'tree 1', '0 dir', '1 file 0 a/b'), $list, 'slash: line 3: bad line'],
         ['a target too many', file('more', 'tree 1', '0 dir', '1 file 0 a b'), $list, 'more: line 3: bad line'],
         ['a target that lacks', file('less', 'tree 1', '0 dir', '1 link 0 a'), $list, 'less: line 3: bad line'],
+        ['a socket in the second form', file('untyped', 'tree 2', '0 dir', '1 sock 0 a'), $list, 'untyped: line 3: bad line'],
+        ['a socket with a target', file('socket', 'tree 3', '0 dir', '1 sock 0 a b'), $list, 'socket: line 3: bad line'],
+        ['a name in a socket', file('in-socket', 'tree 3', '0 dir', '1 sock 0 a', '2 file 1 b'), $list,
+            'in-socket: line 4: bad parent'],
         ['a number that was there', file('twice', 'tree 1', '0 dir', '0 dir 0 a'), $list, 'twice: line 3: bad number'],
         ['a name in a file', file('in', 'tree 1', '0 dir', '1 file 0 a', '2 file 1 b'), $list, 'in: line 4: bad parent'],
         ['a second name of a directory', file('loop', 'tree 2', '0 dir', '1 dir 0 a', '2 hard 1 b 1'), $list,

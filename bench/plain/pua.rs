@@ -146,9 +146,21 @@ const MOST_WIDE_LINES: usize = 1_000_000;
 #[derive(Clone, Copy, PartialEq)]
 enum Kind {
     Dir,
+    /// Of which no more is known: it may be a socket, a fifo or a device.
     File,
     Prog,
     Link,
+    Plain,
+    Sock,
+    Fifo,
+    Dev,
+}
+
+impl Kind {
+    /// A plain file, or what may be one: a kernel starts no other.
+    fn may_start(self) -> bool {
+        matches!(self, Kind::File | Kind::Plain)
+    }
 }
 
 /// A node; a removed one has no links. `parent` is a directory's, `rows` are what stands in it.
@@ -399,7 +411,7 @@ fn read_listing(text: &[u8]) -> Result<Tree, String> {
     let (mut fields, mut before) = (Vec::new(), 0);
     for (at, line) in lines {
         let read = if split(line, &mut fields) {
-            read_node(&mut tree, &mut nodes, &mut before, &fields, header != b"tree 1")
+            read_node(&mut tree, &mut nodes, &mut before, &fields, header != b"tree 1", is_wide)
         } else {
             Err("bad line")
         };
@@ -415,10 +427,15 @@ fn read_node(
     before: &mut u32,
     fields: &[&[u8]],
     has_hard: bool,
+    has_types: bool,
 ) -> Result<(), &'static str> {
     let (kind, count) = match fields.get(1) {
         Some(&b"dir") => (Some(Kind::Dir), 4),
-        Some(&b"file") => (Some(Kind::File), 4),
+        Some(&b"file") => (Some(if has_types { Kind::Plain } else { Kind::File }), 4),
+        Some(&b"any") if has_types => (Some(Kind::File), 4),
+        Some(&b"sock") if has_types => (Some(Kind::Sock), 4),
+        Some(&b"fifo") if has_types => (Some(Kind::Fifo), 4),
+        Some(&b"dev") if has_types => (Some(Kind::Dev), 4),
         Some(&b"prog") => (Some(Kind::Prog), 4),
         Some(&b"link") => (Some(Kind::Link), 5),
         Some(&b"hard") if has_hard => (None, 5),
@@ -567,6 +584,11 @@ fn lets(sets: &[u64], held: u64) -> bool {
 }
 
 impl Rules {
+    /// What a file is that a call makes.
+    fn file(&self) -> Kind {
+        if self.is_openbsd { Kind::Plain } else { Kind::File }
+    }
+
     fn standard() -> Rules {
         let is_call = |call| (call as usize) < Call::Connect as usize;
         Rules {
@@ -628,7 +650,8 @@ fn object_fault(call: Call, object: Object) -> Option<Errno> {
         (Object::Dir(_), _) => None,
         (Object::Node(kind), Readlink) if kind != Kind::Link => Some("EINVAL"),
         (Object::Node(kind), Exec) if kind != Kind::Prog => Some("EACCES"),
-        (Object::Node(kind), Connect) if kind != Kind::File => Some("ENOTSOCK"),
+        (Object::Node(Kind::Sock), OpenR | OpenW | OpenRw | Create | CreateRw | Fchmod | Fchown) => Some("EOPNOTSUPP"),
+        (Object::Node(kind), Connect) if !matches!(kind, Kind::File | Kind::Sock) => Some("ENOTSOCK"),
         (Object::Node(_), Rmdir | Chdir) => Some("ENOTDIR"),
         (Object::Node(_), _) => None,
     }
@@ -1259,7 +1282,9 @@ fn change(
     spot: Option<Spot>,
 ) -> Result<(), Errno> {
     match (call, node) {
-        (Call::Create | Call::CreateRw, None) | (Call::Bind | Call::Mknod, _) => return add(tree, spot, Kind::File, &[]),
+        (Call::Create | Call::CreateRw, None) => return add(tree, spot, rules().file(), &[]),
+        (Call::Bind, _) => return add(tree, spot, Kind::Sock, &[]),
+        (Call::Mknod, _) => return add(tree, spot, Kind::Fifo, &[]),
         (Call::Mkdir, _) => return add(tree, spot, Kind::Dir, &[]),
         (Call::Rmdir | Call::Unlink, _) => {
             if let Some((dir, name)) = spot {
@@ -1346,13 +1371,15 @@ struct Allowed {
 }
 
 /// An object of each kind that some call tells from the others.
-const OBJECTS: [Object; 6] = [
+const OBJECTS: [Object; 8] = [
     Object::Missing,
     Object::Node(Kind::File),
     Object::Node(Kind::Prog),
     Object::Node(Kind::Link),
     Object::Dir(None),
     Object::Dir(Some("ENOTEMPTY")),
+    Object::Node(Kind::Plain),
+    Object::Node(Kind::Sock),
 ];
 
 impl Allowed {
@@ -1378,6 +1405,8 @@ impl Allowed {
             Object::Missing => 0,
             Object::Node(Kind::Prog) => 2,
             Object::Node(Kind::Link) => 3,
+            Object::Node(Kind::Sock) => 7,
+            Object::Node(Kind::Plain | Kind::Fifo | Kind::Dev) => 6,
             Object::Node(_) => 1,
             Object::Dir(None) => 4,
             Object::Dir(Some(_)) => 5,
@@ -1847,9 +1876,12 @@ fn names(tree: &Tree, node: u32) -> Vec<Place> {
 fn word(kind: Kind) -> &'static str {
     match kind {
         Kind::Dir => "dir",
-        Kind::File => "file",
+        Kind::File | Kind::Plain => "file",
         Kind::Prog => "prog",
         Kind::Link => "link",
+        Kind::Sock => "sock",
+        Kind::Fifo => "fifo",
+        Kind::Dev => "dev",
     }
 }
 
@@ -1949,6 +1981,9 @@ impl<'a> List<'a> {
             Object::Missing => "missing ",
             Object::Node(Kind::Prog) => "prog ",
             Object::Node(Kind::Link) => "link ",
+            Object::Node(Kind::Sock) => "sock ",
+            Object::Node(Kind::Fifo) => "fifo ",
+            Object::Node(Kind::Dev) => "dev ",
             Object::Node(_) => "file ",
         };
         self.line(kind, self.process.kept_on_name(dir, name).or(over), object)?;
@@ -2097,7 +2132,7 @@ fn bits(calls: &[Call]) -> u32 {
 
 const EDITS: [Call; 8] =
     [Call::Create, Call::Mkdir, Call::Rmdir, Call::Unlink, Call::Symlink, Call::Bind, Call::Mknod, Call::CreateRw];
-const MAKES_FILES: [Call; 4] = [Call::Create, Call::Bind, Call::Mknod, Call::CreateRw];
+const MAKES_FILES: [Call; 2] = [Call::Create, Call::CreateRw];
 
 /// By which a file can be made a program.
 const WRITES: [Call; 6] = [Call::OpenW, Call::OpenRw, Call::Create, Call::CreateRw, Call::Chmod, Call::Fchmod];
@@ -2168,7 +2203,7 @@ impl<'a> Ever<'a> {
         let mut calls = self.calls(covers, object);
         match object {
             Object::Node(Kind::Link) => calls &= KEPT,
-            Object::Node(Kind::File) if is_turned || calls & bits(&WRITES) != 0 => {
+            Object::Node(kind) if kind.may_start() && (is_turned || calls & bits(&WRITES) != 0) => {
                 calls |= self.calls(covers, Object::Node(Kind::Prog)) & bits(&[Call::Exec]);
             }
             _ => {}
@@ -2255,6 +2290,7 @@ impl<'a> Ever<'a> {
         }
         self.dir(top, None);
         for (kind, makers, object) in NEW {
+            let object = if matches!(object, Object::Node(Kind::File)) { Object::Node(rules().file()) } else { object };
             self.made(kind, makers, object);
         }
         self.lines
@@ -2262,11 +2298,13 @@ impl<'a> Ever<'a> {
 }
 
 /// What can be made, by which calls, and what it is.
-const NEW: [(&str, &[Call], Object); 4] = [
+const NEW: [(&str, &[Call], Object); 6] = [
     ("dir", &[Call::Mkdir], Object::Dir(None)),
     ("other", &[Call::Mkdir], Object::Missing),
     ("file", &MAKES_FILES, Object::Node(Kind::File)),
     ("link", &[Call::Symlink], Object::Node(Kind::Link)),
+    ("sock", &[Call::Bind], Object::Node(Kind::Sock)),
+    ("fifo", &[Call::Mknod], Object::Node(Kind::Fifo)),
 ];
 
 /// A list for ever, what it says of execs, and by which promises it is: those of the process, or of what it starts too.

@@ -15,6 +15,13 @@ my %SUITS = (
     (map { $_ => 'file prog' } qw(open-w open-rw)),
 );
 
+# A plain file, fifo or device suits what a file does, but that connect asks for a socket; a socket, what opens nothing.
+for my $call (grep { $_ ne 'connect' && $SUITS{$_} =~ /\bfile\b/ } keys %SUITS) {
+    $SUITS{$call} .= ' plain fifo dev';
+    $SUITS{$call} .= ' sock' if $call =~ /\A(?:stat|lstat|unlink|chmod|chown)\z/;
+}
+$SUITS{connect} .= ' sock';
+
 my @EDITS = qw(create mkdir rmdir unlink symlink bind mknod create-rw);
 
 # By OpenBSD's rules tmppath opens these calls by itself. For which paths no table of calls says, so in that of a list for
@@ -29,8 +36,10 @@ my $TURNED = 'turned';
 my @NEW = (
     { kind => 'dir', calls => ['mkdir'], is => 'gone' },
     { kind => 'other', calls => ['mkdir'], is => 'missing' },
-    { kind => 'file', calls => ['create', 'bind', 'mknod', 'create-rw'], is => $TURNED },
+    { kind => 'file', calls => ['create', 'create-rw'], is => $TURNED },
     { kind => 'link', calls => ['symlink'], is => 'link' },
+    { kind => 'sock', calls => ['bind'], is => 'sock' },
+    { kind => 'fifo', calls => ['mknod'], is => 'fifo' },
 );
 
 # The lines of the list for ever of a process that can put no veil any more; with reasons each has the covers under which
@@ -327,10 +336,9 @@ sub is_turned_held {
 # mode set, by a call or by what is open, and one that is new can be made a program: so exec is that of a program then.
 sub _line {
     my ($ever, $kind, $path, $is, @covers) = @_;
-    my $turns = $is eq $TURNED;
-    $is = 'file' if $turns;
+    my $turns = $is =~ s/\A$TURNED //;
     my %has = map { $_ => $ever->_is_allowed($_, $is, @covers) } @Model::CALLS;
-    $turns ||= $is eq 'file' && grep { $has{$_} } qw(open-w open-rw create create-rw chmod fchmod);
+    $turns ||= $is =~ /\A(?:file|plain)\z/ && grep { $has{$_} } qw(open-w open-rw create create-rw chmod fchmod);
     $has{exec} = 1 if $turns && $ever->_is_allowed('exec', 'prog', @covers);
     my @calls = grep { $has{$_} } @Model::CALLS;
     return () if !@calls;
@@ -374,7 +382,8 @@ sub _lines_at {
     return $ever->_lines_in($found->{dir}) if $kind eq 'dir';
     return $ever->_missing($dir, $name)    if $kind eq 'missing';
     my @covers = $ever->_covers_of_name($found, $kind);
-    my $is = $kind eq 'file' && is_turned_held($ever->{process}, $found->{node}) ? $TURNED : $kind;
+    my $is = $model->{plain}{ $found->{node} } ? 'plain' : $kind;
+    $is = "$TURNED $is" if $kind eq 'file' && is_turned_held($ever->{process}, $found->{node});
     return ($ever->_line($kind, $model->_path_in($dir, $name), $is, @covers), $ever->_freed($dir, $name));
 }
 
@@ -397,7 +406,8 @@ sub _new_line {
     my @names = (@{ $ever->{name_covers} }, @{ $ever->{dir_covers} });
     return () if !$ever->{edits} || !grep { $ever->_is_allowed($_, 'missing', @names) } @{ $new->{calls} };
     my $is_dir = $new->{calls}[0] eq 'mkdir';
-    return $ever->_line($new->{kind}, 'new', $new->{is}, @{ $ever->{ $is_dir ? 'dir_covers' : 'file_covers' } });
+    my $is = $new->{is} ne $TURNED ? $new->{is} : "$TURNED " . ($ever->{model}{openbsd} ? 'plain' : 'file');
+    return $ever->_line($new->{kind}, 'new', $is, @{ $ever->{ $is_dir ? 'dir_covers' : 'file_covers' } });
 }
 
 1;

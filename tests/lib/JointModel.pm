@@ -12,7 +12,7 @@ my @TAKES = ('rmdir', 'unlink', 'new name of rename');
 my @TURNS = qw(open-w open-rw create create-rw chmod fchmod);
 
 # What can be made, and the calls that make it.
-my %MAKES = (dir => ['mkdir'], file => [qw(create bind mknod create-rw)], link => ['symlink']);
+my %MAKES = (dir => ['mkdir'], file => [qw(create create-rw)], link => ['symlink'], sock => ['bind'], fifo => ['mknod']);
 
 # Whether what is open is sent: else a test sees what that adds.
 our $SENDS = 1;
@@ -237,7 +237,7 @@ sub _move {
         push @targets, map { [$seat, $_] }
             grep { $joint->_is_free($seat, $_) && grep { /c/ } $joint->_covers_at($by, $seat, $_) } keys %{ $joint->{names}{$seat} };
     }
-    for my $kind (qw(file link)) {
+    for my $kind (qw(file link sock fifo)) {
         next if !$joint->_is('makes', $by, $kind);
         $joint->_comes_to("$kind $by", @$_) for @targets;
     }
@@ -297,7 +297,7 @@ sub _can_link {
 # The lines of those at these places of the crew, which have the same veils.
 sub _lines {
     my ($joint, @agents) = @_;
-    return ($joint->_lines_in(0, @agents), map { $joint->_line($_, 'new', $joint->_new_calls($_, @agents)) } qw(dir other file link));
+    return ($joint->_lines_in(0, @agents), map { $joint->_line($_, 'new', $joint->_new_calls($_, @agents)) } qw(dir other file link sock fifo));
 }
 
 sub _line {
@@ -314,9 +314,9 @@ sub _calls {
 
 # The same of a file, which can have exec where it can be made a program.
 sub _file_calls {
-    my ($joint, $by, $turns, @covers) = @_;
+    my ($joint, $by, $is, $turns, @covers) = @_;
     my @exec = $turns && $joint->{crew}[$by]->_is_allowed('exec', 'prog', @covers) ? 'exec' : ();
-    return ($joint->_calls($by, 'file', @covers), @exec);
+    return ($joint->_calls($by, $is, @covers), @exec);
 }
 
 sub _new_calls {
@@ -328,8 +328,8 @@ sub _new_calls {
         my @calls
             = $kind eq 'dir'   ? $joint->_calls($by, 'gone', @made)
             : $kind eq 'other' ? $joint->_calls($by, 'missing', @made)
-            : $kind eq 'file'  ? $joint->_file_calls($by, 1, @at)
-            :                    $joint->_calls($by, 'link', @at);
+            : $kind eq 'file'  ? $joint->_file_calls($by, $joint->{model}{openbsd} ? 'plain' : 'file', 1, @at)
+            :                    $joint->_calls($by, $kind, @at);
         $has{$_} = 1 for @calls;
     }
     return %has;
@@ -365,7 +365,8 @@ sub _lines_at {
     my %has;
     for my $by (@agents) {
         my @covers = map { $joint->_covers_at($by, @$_) } $joint->_places("row $dir/$name");
-        my @calls = $kind eq 'file' ? $joint->_file_calls($by, $turns, @covers) : $joint->_calls($by, $kind, @covers);
+        my $is = $kind eq 'file' && $model->{plain}{$node} ? 'plain' : $kind;
+        my @calls = $kind eq 'file' ? $joint->_file_calls($by, $is, $turns, @covers) : $joint->_calls($by, $kind, @covers);
         $has{$_} = 1 for @calls;
     }
     return ($joint->_line($kind, $model->_path_in($dir, $name), %has), @name);

@@ -19,6 +19,7 @@ our @RULES = (
     ['link-keep',    'linux',   'link keeps a symbolic link at the end of its old name'],
     ['links40',      'linux',   '40 links are followed'],
     ['rename-above', 'linux',   'rename onto a directory above the old name is ENOTEMPTY, whatever is moved'],
+    ['open-socket',  'linux',   'open of a socket is ENXIO'],
     ['connect',      'profile', 'connect to what is no socket that listens is ECONNREFUSED'],
     ['dead-cwd',     'profile', 'from a working directory that is removed `.` and `..` go on; of it rmdir of `..` is ENOTEMPTY'],
     ['dead-root',    'profile', 'a root that is removed is what `/` names, and has nothing in it'],
@@ -145,7 +146,8 @@ sub _misfit {
         return $kind eq 'missing' ? 'ENOENT' : 'ENOTDIR' if $call eq 'unlink';
         return 'ENOENT' if $MAKES{$call} && $kind eq 'missing';
     }
-    return $linux->SUPER::_misfit($call, $found);
+    my $errno = $linux->SUPER::_misfit($call, $found);
+    return $by->{'open-socket'} && $errno eq 'EOPNOTSUPP' ? 'ENXIO' : $errno;
 }
 
 sub _symlink {

@@ -107,8 +107,19 @@ my %MISFITS = (
     fchown     => { missing => 'ENOENT' },
 );
 
+# A socket, fifo or device is as a file is, but that no socket is opened, and none but a socket is connected to.
+for my $call (keys %MISFITS) {
+    my $of_file = $MISFITS{$call}{file};
+    @{ $MISFITS{$call} }{qw(sock fifo dev)} = ($of_file) x 3 if $of_file;
+}
+$MISFITS{$_}{sock} = 'EOPNOTSUPP' for qw(open-r open-w open-rw create create-rw fchmod fchown);
+$MISFITS{connect}{$_} = 'ENOTSOCK' for qw(plain fifo dev);
+
 # The requests beside the calls on one path, and symlink, which has a target too: each is a method of its name.
 my %REQUESTS = map { $_ => "_$_" } qw(symlink rename link pledge unveil fork exit uses hold close fchdir take chroot);
+
+# What calls make, but for files: by OpenBSD's rules these are plain ones.
+my %MADE = (mkdir => 'dir', bind => 'sock', mknod => 'fifo');
 
 # For which letters a call opens what is held.
 my %OPENED = ('open-r' => 'r', 'open-w' => 'w', 'open-rw' => 'rw');
@@ -223,7 +234,8 @@ sub _veiled {
 # Why what was found does not suit a call; nothing where it does.
 sub _misfit {
     my ($model, $call, $found) = @_;
-    my $errno = $MISFITS{$call}{ $model->_kind($found) } || '';
+    my $is_plain = defined $found->{node} && $model->{plain}{ $found->{node} };
+    my $errno = $is_plain && $MISFITS{$call}{plain} || $MISFITS{$call}{ $model->_kind($found) } || '';
     return $errno unless $errno eq 'way';
     return 'EBUSY' if $found->{way} eq '';
     return 'EINVAL' if $found->{way} eq '.' || $found->{way} eq '..' && !$model->{openbsd};
@@ -279,7 +291,7 @@ sub _call {
     my ($model, $process, $call, $path) = @_;
     my ($answer, $found) = $model->_decided($process, $call, unspelled($path));
     return $answer if $answer;
-    $model->_make($call eq 'mkdir' ? 'dir' : 'file', $found)
+    $model->_make($MADE{$call} || ($model->{openbsd} ? 'plain' : 'file'), $found)
         if $call =~ /\A(?:create|create-rw|mkdir|bind|mknod)\z/ && $model->_kind($found) eq 'missing';
     $model->_cut(@{ $model->{above}{ $found->{dir} } }) if $call eq 'rmdir';
     $model->_cut($found->{in}, $found->{name}) if $call eq 'unlink';

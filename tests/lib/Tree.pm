@@ -2,7 +2,7 @@
 # names in it. Written from docs/DEFINITIONS.md and man/pua.1 alone. A listing is one without faults.
 #
 # It has kinds, targets and rows: {kind}{NODE}, {target}{NODE}, {rows}{DIRECTORY}{NAME} = NODE; and of each directory
-# but the root its place, {above}{NODE} = [DIRECTORY, NAME].
+# but the root its place, {above}{NODE} = [DIRECTORY, NAME]. A file that is known to be a plain one is {plain}{NODE}.
 #
 # What a path names (a *found*) is a directory, {dir => NODE, way => how it was named at last}, or a name in a
 # directory, {in => DIRECTORY, name => NAME, node => NODE or undef}.
@@ -20,9 +20,9 @@ my $MOST_COMPONENT = 255;
 # The tree of a listing.
 sub new {
     my ($class, $listing) = @_;
-    my $tree = bless { kind => { 0 => 'dir' }, target => {}, rows => { 0 => {} }, above => {}, next => 1 }, $class;
-    my (undef, undef, @lines) = split /\r?\n/, $listing;
-    $tree->_list(split / /) for @lines;
+    my $tree = bless { kind => { 0 => 'dir' }, plain => {}, target => {}, rows => { 0 => {} }, above => {}, next => 1 }, $class;
+    my ($header, undef, @lines) = split /\r?\n/, $listing;
+    $tree->_list($header eq 'tree 3', split / /) for @lines;
     return $tree;
 }
 
@@ -44,7 +44,9 @@ sub spelled {
 
 # Makes the node, or the further name, of a line of a listing.
 sub _list {
-    my ($tree, $number, $kind, $parent, $name, $end) = @_;
+    my ($tree, $has_types, $number, $word, $parent, $name, $end) = @_;
+    my $kind = $word eq 'any' ? 'file' : $word;
+    $tree->{plain}{$number} = 1 if $has_types && $word eq 'file';
     $name = unspelled($name);
     $tree->{next} = $number + 1;
     return $tree->_tie($parent, $name, $end) if $kind eq 'hard';
@@ -64,6 +66,8 @@ sub _add {
 # Makes a new node, whose number nothing had before.
 sub _make {
     my ($tree, $kind, $found, $target) = @_;
+    $tree->{plain}{ $tree->{next} } = 1 if $kind eq 'plain';
+    $kind = 'file' if $kind eq 'plain';
     $tree->_add($tree->{next}++, $kind, $found->{in}, $found->{name}, $target);
     return;
 }
@@ -89,7 +93,7 @@ sub _cut {
     my ($tree, $dir, $name) = @_;
     my $node = $tree->_untie($dir, $name);
     return if grep { $_ == $node } map { values %$_ } values %{ $tree->{rows} };
-    delete $tree->{$_}{$node} for qw(kind target rows);
+    delete $tree->{$_}{$node} for qw(kind plain target rows);
     return;
 }
 

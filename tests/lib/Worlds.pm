@@ -26,6 +26,9 @@ my @NAMES = ('a', 'b', 'c', 'd', 'e', 'f\040g');
 # What a line of a listing may add. A directory that is drawn more often makes deeper trees.
 my @KINDS = qw(dir dir dir dir file file prog link link hard);
 
+# Where types of files are known.
+my @TYPED_KINDS = (@KINDS, qw(dir file any sock sock fifo dev));
+
 # Parts of targets and of paths beside names.
 my @STEPS = qw(. .. ..);
 
@@ -207,7 +210,8 @@ sub listing {
     my $first = $worlds->number(3);
     $worlds->{names} = [ @NAMES[ $first .. $first + 2 + $worlds->number(2) ] ];
     @$worlds{qw(paths of)} = (['/'], { dir => [''] });
-    my $tree = { dirs => { 0 => '' }, others => [], taken => {}, lines => [], header => 'tree 1' };
+    my $header = $worlds->number(3) ? 'tree 1' : 'tree 3';
+    my $tree = { dirs => { 0 => '' }, others => [], taken => {}, lines => [], header => $header };
     my ($number, $most) = (0, 8 + $worlds->number(13));
     for (1 .. 10 * $most) {
         last if @{ $tree->{lines} } == $most;
@@ -225,11 +229,11 @@ sub listing {
 sub _add_line {
     my ($worlds, $tree, $number) = @_;
     my $parent = $worlds->pick(sort { $a <=> $b } keys %{ $tree->{dirs} });
-    my ($kind, $name) = ($worlds->pick(@KINDS), $worlds->name);
+    my ($kind, $name) = ($worlds->pick($tree->{header} eq 'tree 3' ? @TYPED_KINDS : @KINDS), $worlds->name);
     my $path = "$tree->{dirs}{$parent}/$name";
     return if $tree->{taken}{$path} || $kind eq 'hard' && !@{ $tree->{others} };
     $tree->{taken}{$path} = 1;
-    $tree->{header} = 'tree 2' if $kind eq 'hard';
+    $tree->{header} = 'tree 2' if $kind eq 'hard' && $tree->{header} eq 'tree 1';
     $tree->{dirs}{$number} = $path if $kind eq 'dir';
     my @end = $kind eq 'link' ? $worlds->_target : $kind eq 'hard' ? $worlds->pick(@{ $tree->{others} }) : ();
     push @{ $tree->{others} }, $number unless $kind eq 'dir' || $kind eq 'hard';
@@ -469,7 +473,7 @@ sub _drawn {
         : $word eq 'LEAF'         ? $worlds->_path_of('leaf')
         : $word eq 'JAIL'         ? $worlds->jail
         : $word eq 'PROG'         ? $worlds->_path_of('prog')
-        : $word eq 'FILE'         ? $worlds->_path_of('file', 'prog', 'link', 'hard')
+        : $word eq 'FILE'         ? $worlds->_path_of(qw(file any sock fifo dev prog link hard))
         : $word eq 'NEW'          ? $worlds->_new_path
         : $word eq 'PERMISSIONS'  ? $worlds->pick(@PERMISSIONS)
         : $word eq 'MILD'         ? $worlds->promises(@MILD)

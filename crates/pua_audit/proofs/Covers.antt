@@ -3,6 +3,7 @@ use Rattle.pua_audit.proofs.Common.{true, ℕ, ◌≡◌, List, Option, Some, No
 use Rattle.pua_audit.proofs.Common.{Tree, WellFormed, above, is_dir, FoundsFit, StandsAsNamed, Errno, Found, Whole, Slot, follow, last}
 use Rattle.pua_audit.proofs.Common.{Kept, Part, Top, cover_in, ProcessState, perms_kept, CallTable, cover, is_allowed, Call, allowed_within}
 use Rattle.pua_audit.proofs.Common.{found_of, leads_to, RootedTree, seen_by, Bool, false, not, ◌&&◌, ◌==◌, if◌then◌else◌, refl, eqb-true}
+use Rattle.std.specs.Prelude.{unwrap_or}
 use Rattle.pua_path.specs.Fits.{FoundFits}
 use Rattle.pua_path.specs.Resolution.{above_in}
 use Rattle.pua_path.specs.declared.found.Part.TheVariants as parts
@@ -65,11 +66,18 @@ pub both_lead : {A : Type 0} {P Q R : A → Type 0} → ((x : A) → P x → Q x
 both_lead leads None is too = tt
 both_lead leads (Some x) is too = leads x is too
 
--- which is what `..` names: at the root itself
+-- `..` names what is above a directory, but at the root itself
+pub above_in_is : (t : RootedTree) (dir : ℕ) → is_dir t.tree dir ≡ true →
+    above_in t dir ≡ (if not (t.root == 0) && (dir == t.root) then t.root else above t.tree dir)
+above_in_is t dir =
+    ap (λ b. if not (t.root == 0) && (dir == t.root) then t.root else unwrap_or (if b then Some (above t.tree dir) else None) 0)
+
+-- so the cover that is handed up is what it names
 pub handed_over : (t : Tree) (h : ProcessState) (fits : WellFormed t) (found : Found) (fit : FoundFits t found) (from : ℕ) (left : Cover) →
-    left ≡ cover_in t h from → left ≡ cover_in t h (above t from) → found ≡ Whole (above_in (seen_by t h) from) DotDot →
+    is_dir t from ≡ true → left ≡ cover_in t h from → left ≡ cover_in t h (above t from) → found ≡ Whole (above_in (seen_by t h) from) DotDot →
     left ≡ cover t h found
-handed_over t h fits found fit from left here over = by (not (root == 0)) (from == root) refl
+handed_over t h fits found fit from left living here over dots =
+    by (not (root == 0)) (from == root) refl (dots ∙ ap (λ dir. Whole dir DotDot) (above_in_is (seen_by t h) from living))
   where
     root : ℕ
     root = (seen_by t h).root

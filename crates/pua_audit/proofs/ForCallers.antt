@@ -9,3 +9,5 @@ pub use Rattle.pua_audit.proofs.Paths.{IsPiece, letter_is_piece, path_is}
 pub use Rattle.pua_audit.proofs.SubLists.{fewer_reach_less}
 -- a reach asks a tree for its rows and nodes alone
 pub use Rattle.pua_audit.proofs.Renumbering.{reach_needs_rows}
+-- `..` names what is above a directory, but at the root itself
+pub use Rattle.pua_audit.proofs.Covers.{above_in_is}

@@ -3,8 +3,8 @@ use Rattle.pua_audit.proofs.Common.{◌≡◌, ℕ, zero, suc, List, [], ◌∷�
 use Rattle.pua_audit.proofs.Common.{Err, filter, ◌>>=◌, Tree, above, Errno, Ending, Part, Last, Found, Whole}
 use Rattle.pua_audit.proofs.Common.{Slot, CallTable, rule_of, last_of, ProcessState, perms_kept, may_any, IsMissing, cover, verdict_of}
 use Rattle.pua_audit.proofs.Common.{is_allowed, Call, Scope, is_reached, pairs, reach, path_of, RootedTree, rooted}
-use Rattle.std.specs.Prelude.{Option, Some, None, ◌==◌, if◌then◌else◌}
-use Rattle.pua_tree.specs.Tree.{look, climb_within}
+use Rattle.std.specs.Prelude.{Option, Some, None, ◌==◌, if◌then◌else◌, unwrap_or}
+use Rattle.pua_tree.specs.Tree.{is_dir, look, climb_within}
 use Rattle.pua_path.specs.Paths.{parts_of, path_fault}
 use Rattle.pua_path.specs.Resolution.{Resolved, Standing, Directory, Linked, Plain, Nothing, standing_at, is_followed, slot_or, walk}
 use Rattle.pua_path.specs.Resolution.{start_of, resolve_parts, resolution, resolution_of_text, most_links, above_in, seen_from, starts}
@@ -45,7 +45,8 @@ module _ (t : Tree) (n room : ℕ) where
       by (Some x) e = rw e refl
 
   same_above_in : (root d : ℕ) → above_in (rooted v root) d ≡ above_in (rooted t root) d
-  same_above_in root d = ap (λ up. if not (root == 0) && (d == root) then root else up) (same_above d)
+  same_above_in root d =
+      ap (λ up. if not (root == 0) && (d == root) then root else unwrap_or (if is_dir t d then Some up else None) 0) (same_above d)
 
   -- what a name leads to, in a walk
   abbrev met : RootedTree → Last → ℕ → (ℕ → List ℕ → List Part → Resolved) → ℕ → List ℕ → List Part → Standing → Resolved

@@ -12,7 +12,9 @@ use Rattle.pua_path.specs.declared.found.Found.TheVariants.{Whole, Slot}
 use Rattle.pua_calls.specs.Calls.{CallTable, last_of}
 use Rattle.pua_calls.specs.CallSets.{has}
 use Rattle.pua_policy.specs.States.{ProcessState}
-use Rattle.pua_policy.specs.Verdict.{Object, IsMissing, IsFile, IsProg, cover, covered_verdict, verdict_of, is_allowed}
+use Rattle.pua_tree.specs.declared.node.Kind.TheVariants.{Known}
+use Rattle.pua_tree.specs.declared.node.FileType.TheVariants.{Plain, Sock, Fifo, Dev}
+use Rattle.pua_policy.specs.Verdict.{Object, Is, IsMissing, IsFile, IsProg, cover, covered_verdict, verdict_of, is_allowed}
 use Rattle.pua_calls.specs.declared.call.Call.{Call}
 use Rattle.pua_audit.specs.Judge.{Below, judge_of, seen_by}
 use Rattle.pua_audit.specs.Spots.{AreUnveiled}
@@ -55,6 +57,10 @@ pub record AreWithin (t : Tree) (table : CallTable) (h : ProcessState) (dir : �
   pub missing : (call : Call) → has w.missing call ≡ allowed_within t table h dir IsMissing call
   pub file : (call : Call) → has w.file call ≡ allowed_within t table h dir IsFile call
   pub program : (call : Call) → has w.program call ≡ allowed_within t table h dir IsProg call
+  pub plain : (call : Call) → has w.plain call ≡ allowed_within t table h dir (Is (Known Plain)) call
+  pub socket : (call : Call) → has w.socket call ≡ allowed_within t table h dir (Is (Known Sock)) call
+  pub fifo : (call : Call) → has w.fifo call ≡ allowed_within t table h dir (Is (Known Fifo)) call
+  pub device : (call : Call) → has w.device call ≡ allowed_within t table h dir (Is (Known Dev)) call
   pub bare : w.veiled ≡ false → AreUnveiled h dir
 
 -- what the letter is, for each number of links used before

@@ -14,11 +14,13 @@ use Rattle.pua_calls.specs.declared.rules.Rules.{Rules}
 use Rattle.pua_calls.specs.declared.rules.Rules.TheVariants.{Standard, Openbsd}
 use Rattle.pua_calls.specs.declared.fits.Misfit.TheVariants.{Exists, IsDirectory, IsNoFile, IsNoDirectory, IsNoLink, IsNoProgram}
 use Rattle.pua_calls.specs.declared.fits.Misfit.TheVariants.{IsNoSocket, InUse}
-use Rattle.pua_calls.specs.Misfits.{each_standing, none_standing, free_names}
+use Rattle.pua_calls.specs.Misfits.{each_standing, each_opened, none_standing, free_names}
 use Rattle.pua_calls.specs.declared.fits.Fits.{Fits}
 use Rattle.pua_calls.specs.declared.effect.Effect.{Effect}
 use Rattle.pua_calls.specs.declared.effect.Effect.TheVariants.{Looks, Makes, Removes, Enters, Starts}
-use Rattle.pua_tree.specs.declared.node.Kind.TheVariants.{File, Dir, Link}
+use Rattle.pua_tree.specs.declared.node.Kind.{Kind}
+use Rattle.pua_tree.specs.declared.node.Kind.TheVariants.{File, Dir, Link, Known}
+use Rattle.pua_tree.specs.declared.node.FileType.TheVariants.{Plain, Sock, Fifo}
 use Rattle.pua_calls.specs.declared.call.Call.{Call}
 use Rattle.pua_calls.specs.declared.call.Call.TheVariants.{Stat, Lstat, Readlink, OpenRead, OpenWrite, OpenBoth, Create, Mkdir, Rmdir}
 use Rattle.pua_calls.specs.declared.call.Call.TheVariants.{Unlink, Symlink, Chmod, Chdir, Exec, Connect, Bind, Mknod, Chown, CreateBoth, Fchmod, Fchown}
@@ -99,7 +101,7 @@ about OpenRead = record {
   perms = reading;
   last = Followed;
   ending = Dot;
-  fits = each_standing;
+  fits = each_opened;
   effect = Looks;
   turns = false;
 }
@@ -111,7 +113,7 @@ about OpenWrite = record {
   perms = writing;
   last = Followed;
   ending = Dot;
-  fits = record each_standing { directory = Some IsDirectory };
+  fits = record each_opened { directory = Some IsDirectory };
   effect = Looks;
   turns = true;
 }
@@ -123,7 +125,7 @@ about OpenBoth = record {
   perms = reading + writing;
   last = Followed;
   ending = Dot;
-  fits = record each_standing { directory = Some IsDirectory };
+  fits = record each_opened { directory = Some IsDirectory };
   effect = Looks;
   turns = true;
 }
@@ -135,7 +137,7 @@ about Create = record {
   perms = writing + creating;
   last = Followed;
   ending = Dot;
-  fits = record each_standing { directory = Some IsDirectory; missing = None };
+  fits = record each_opened { directory = Some IsDirectory; missing = None };
   effect = Makes File;
   turns = true;
 }
@@ -231,7 +233,7 @@ about Connect = record {
   perms = writing;
   last = Followed;
   ending = Dot;
-  fits = record (none_standing IsNoSocket) { file = None };
+  fits = record (none_standing IsNoSocket) { file = None; socket = None };
   effect = Looks;
   turns = false;
 }
@@ -244,7 +246,7 @@ about Bind = record {
   last = Kept;
   ending = Dot;
   fits = free_names InUse;
-  effect = Makes File;
+  effect = Makes (Known Sock);
   turns = false;
 }
 about Mknod = record {
@@ -256,7 +258,7 @@ about Mknod = record {
   last = Kept;
   ending = Dot;
   fits = free_names Exists;
-  effect = Makes File;
+  effect = Makes (Known Fifo);
   turns = false;
 }
 about Chown = record {
@@ -279,7 +281,7 @@ about CreateBoth = record {
   perms = reading + writing + creating;
   last = Followed;
   ending = Dot;
-  fits = record each_standing { directory = Some IsDirectory; missing = None };
+  fits = record each_opened { directory = Some IsDirectory; missing = None };
   effect = Makes File;
   turns = true;
 }
@@ -291,7 +293,7 @@ about Fchmod = record {
   perms = reading;
   last = Followed;
   ending = Dot;
-  fits = each_standing;
+  fits = each_opened;
   effect = Looks;
   turns = true;
 }
@@ -303,7 +305,7 @@ about Fchown = record {
   perms = reading;
   last = Followed;
   ending = Dot;
-  fits = each_standing;
+  fits = each_opened;
   effect = Looks;
   turns = false;
 }
@@ -394,12 +396,13 @@ openbsd_link = record {
 abbrev pub openbsd_table : CallTable
 openbsd_table = record { rules = map openbsd_rule calls; rename = openbsd_rename; link = openbsd_link; whose = Openbsd }
 
--- what is said of a set of rules, in one place: the word that names it in commands; what calls need; what an exec leaves of
--- execpromises; the promises of which a call needs one where it changes the tree, or of which one opens it; whether lists say whose rules
--- they are; and whether promises open paths by themselves
+-- what is said of a set of rules, in one place: the word that names it in commands; what calls need; what a file is that a call makes;
+-- what an exec leaves of execpromises; the promises of which a call needs one where it changes the tree, or of which one opens it;
+-- whether lists say whose rules they are; and whether promises open paths by themselves
 pub record AboutRules : Type 0 where
   pub word : List ℕ
   pub table : CallTable
+  pub file : Kind
   pub execpromises : ExecPromises
   pub changing : List ℕ
   pub is_told : Bool
@@ -409,6 +412,7 @@ abbrev pub about_rules : Rules → AboutRules
 about_rules Standard = record {
   word = codes "profile";
   table = standard_table;
+  file = File;
   execpromises = Unset;
   changing = cpath ∷ [];
   is_told = false;
@@ -417,6 +421,7 @@ about_rules Standard = record {
 about_rules Openbsd = record {
   word = codes "openbsd";
   table = openbsd_table;
+  file = Known Plain;
   execpromises = Stay;
   changing = cpath ∷ unix ∷ dpath ∷ tmppath ∷ [];
   is_told = true;
@@ -425,6 +430,10 @@ about_rules Openbsd = record {
 
 abbrev pub table_by_rules : Rules → CallTable
 table_by_rules rules = (about_rules rules).table
+
+-- the kind of a file that a call makes
+abbrev pub file_by_rules : Rules → Kind
+file_by_rules rules = (about_rules rules).file
 
 -- what an exec leaves of execpromises
 abbrev pub execpromises_by : Rules → ExecPromises

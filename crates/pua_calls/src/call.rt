@@ -10,7 +10,7 @@ use crate::perms::{Letters, Perms};
 use crate::promises::{Keywords, Promises};
 use crate::rules::Rules;
 use pua_path::{Ending, Last};
-use pua_tree::Kind;
+use pua_tree::{FileType, Kind};
 
 /// A call with one path, in the order of the calls' numbers.
 #[derive(Clone, Copy, Debug, PartialEq, Eq, PartialOrd, Ord, Hash)]
@@ -154,7 +154,7 @@ static FACTS: [Facts; Call::COUNT] = [
         perms: Letters::READ,
         last: Last::Followed,
         ending: Ending::Dot,
-        fits: Fits::STANDING,
+        fits: Fits::OPENABLE,
         effect: Effect::Looks,
         turns: false,
     },
@@ -323,7 +323,7 @@ static FACTS: [Facts; Call::COUNT] = [
         last: Last::Kept,
         ending: Ending::Dot,
         fits: Fits::BINDABLE,
-        effect: Effect::Makes(Kind::File),
+        effect: Effect::Makes(Kind::Known(FileType::Sock)),
         turns: false,
     },
     Facts {
@@ -337,7 +337,7 @@ static FACTS: [Facts; Call::COUNT] = [
         last: Last::Kept,
         ending: Ending::Dot,
         fits: Fits::FREE,
-        effect: Effect::Makes(Kind::File),
+        effect: Effect::Makes(Kind::Known(FileType::Fifo)),
         turns: false,
     },
     Facts {
@@ -378,7 +378,7 @@ static FACTS: [Facts; Call::COUNT] = [
         perms: Letters::READ,
         last: Last::Followed,
         ending: Ending::Dot,
-        fits: Fits::STANDING,
+        fits: Fits::OPENABLE,
         effect: Effect::Looks,
         turns: true,
     },
@@ -392,7 +392,7 @@ static FACTS: [Facts; Call::COUNT] = [
         perms: Letters::READ,
         last: Last::Followed,
         ending: Ending::Dot,
-        fits: Fits::STANDING,
+        fits: Fits::OPENABLE,
         effect: Effect::Looks,
         turns: false,
     },

@@ -11,7 +11,8 @@ pub enum Effect {
     /// It changes nothing that is kept here: neither names, nor kinds of nodes, nor what a process
     /// is.
     Looks,
-    /// It makes a node of this kind, where nothing has the name.
+    /// It makes a node of this kind, where nothing has the name; of a file, whatever the rules know
+    /// of one that is made (`Rules::file`).
     Makes(Kind),
     /// It takes the name away.
     Removes,

@@ -4,7 +4,7 @@ ghost use Rattle.std.specs.Prelude.{◌≡◌};
 ghost use Rattle.pua_calls.specs.Misfits.{misfit_errno, fits_on};
 
 use pua_path::Errno;
-use pua_tree::Kind;
+use pua_tree::{FileType, Kind};
 
 /// What is wrong with what a path named, for a call.
 #[derive(Clone, Copy)]
@@ -31,14 +31,17 @@ pub enum Misfit {
     ByDotDot,
     /// It was named by no part.
     ByNothing,
-    /// It is no file, so it is no socket.
+    /// It is a socket, and is to be opened.
+    IsSocket,
+    /// It is no socket: no file, or one of another type.
     IsNoSocket,
     /// Something has the name to which a socket is to be bound.
     InUse,
 }
 
 impl Misfit {
-    /// The error of a call on such an object (this profile).
+    /// The error of a call on such an object (this profile, but EOPNOTSUPP is open(2)'s and ENOTSOCK
+    /// connect(2)'s).
     pub fn errno(self) -> Errno
         ensures { result ≡ misfit_errno self }
     {
@@ -52,6 +55,7 @@ impl Misfit {
             Misfit::IsNoProgram => Errno::EACCES,
             Misfit::IsNotEmpty => Errno::ENOTEMPTY,
             Misfit::ByNothing => Errno::EBUSY,
+            Misfit::IsSocket => Errno::EOPNOTSUPP,
             Misfit::IsNoSocket => Errno::ENOTSOCK,
             Misfit::InUse => Errno::EADDRINUSE,
         }
@@ -65,8 +69,12 @@ pub struct Fits {
     pub directory: Option<Misfit>,
     /// Whether a directory may be wrong besides by how it was named, or since it has rows.
     pub by_way: bool,
-    /// With a file, which may be a socket.
+    /// With a file of which no more is known: it may be a socket.
     pub file: Option<Misfit>,
+    /// With a socket.
+    pub socket: Option<Misfit>,
+    /// With a file of another known type: a plain file, a fifo or a device.
+    pub no_socket: Option<Misfit>,
     /// With a program.
     pub program: Option<Misfit>,
     /// With a link that is not followed.
@@ -82,6 +90,8 @@ macro_rules! none_standing {
             directory: Some($misfit),
             by_way: false,
             file: Some($misfit),
+            socket: Some($misfit),
+            no_socket: Some($misfit),
             program: Some($misfit),
             link: Some($misfit),
             missing: Some(Misfit::Missing),
@@ -101,6 +111,8 @@ impl Fits {
             Kind::File => self.file,
             Kind::Prog => self.program,
             Kind::Link => self.link,
+            Kind::Known(FileType::Sock) => self.socket,
+            Kind::Known(FileType::Plain | FileType::Fifo | FileType::Dev) => self.no_socket,
         }
     }
 
@@ -109,15 +121,23 @@ impl Fits {
         directory: None,
         by_way: false,
         file: None,
+        socket: None,
+        no_socket: None,
         program: None,
         link: None,
         missing: Some(Misfit::Missing),
     };
 
+    /// Of a call that opens what stands: no socket is opened (open(2)).
+    pub(crate) const OPENABLE: Fits = Fits {
+        socket: Some(Misfit::IsSocket),
+        ..Fits::STANDING
+    };
+
     /// Of a call that writes what stands.
     pub(crate) const WRITABLE: Fits = Fits {
         directory: Some(Misfit::IsDirectory),
-        ..Fits::STANDING
+        ..Fits::OPENABLE
     };
 
     /// Of one that writes it, or makes it.
@@ -156,9 +176,10 @@ impl Fits {
         ..none_standing!(Misfit::IsNoProgram)
     };
 
-    /// Of a call on files, which may be sockets.
+    /// Of a call on sockets, and on files that may be sockets.
     pub(crate) const SOCKETS: Fits = Fits {
         file: None,
+        socket: None,
         ..none_standing!(Misfit::IsNoSocket)
     };
 

@@ -1,5 +1,7 @@
 //! Whose rules are asked, and what an exec leaves of execpromises by them.
 
+use pua_tree::{FileType, Kind};
+
 /// Whose rules a command goes by: what calls need, and what an exec leaves of execpromises.
 #[derive(Clone, Copy, PartialEq, Eq)]
 pub enum Rules {
@@ -13,13 +15,14 @@ pub enum Rules {
 #[derive(Clone, Copy)]
 struct AboutRules {
     word: &'static str,
+    file: Kind,
     execpromises: ExecPromises,
     is_told: bool,
     has_openings: bool,
 }
 
 ghost use Rattle.std.specs.Prelude.{◌≡◌, option_map};
-ghost use Rattle.pua_calls.specs.Calls.{about_rules, execpromises_by, rules_named};
+ghost use Rattle.pua_calls.specs.Calls.{about_rules, execpromises_by, file_by_rules, rules_named};
 
 impl Rules {
     /// All rules that a command can name.
@@ -28,6 +31,7 @@ impl Rules {
     /// What is said of these rules. Their table is `CallTable::of`.
     fn about(self) -> AboutRules
         ensures word { result.word.now ≡ (about_rules self).word }
+        ensures file { result.file ≡ (about_rules self).file }
         ensures left { result.execpromises ≡ (about_rules self).execpromises }
         ensures told { result.is_told ≡ (about_rules self).is_told }
         ensures openings { result.has_openings ≡ (about_rules self).has_openings }
@@ -35,12 +39,14 @@ impl Rules {
         match self {
             Rules::Standard => AboutRules {
                 word: "profile",
+                file: Kind::File,
                 execpromises: ExecPromises::Unset,
                 is_told: false,
                 has_openings: false,
             },
             Rules::Openbsd => AboutRules {
                 word: "openbsd",
+                file: Kind::Known(FileType::Plain),
                 execpromises: ExecPromises::Stay,
                 is_told: true,
                 has_openings: true,
@@ -53,6 +59,14 @@ impl Rules {
         ensures { result.now ≡ (about_rules self).word }
     {
         self.about().word
+    }
+
+    /// The kind of a file that a call makes: by OpenBSD's rules it is known to be a plain one
+    /// (open(2)).
+    pub fn file(self) -> Kind
+        ensures { result ≡ file_by_rules self }
+    {
+        self.about().file
     }
 
     /// What an exec leaves of execpromises that were given.

@@ -7,7 +7,7 @@ use Rattle.pua_calls.specs.Calls.{calls}
 use Rattle.pua_calls.specs.declared.call.Call.TheVariants as call
 use Rattle.pua_policy.specs.States.{Moved, ToDir}
 use Rattle.pua_script.specs.Confinement.{changes_names}
-use Rattle.pua_script.specs.Decide.{NoChange, AddNode, CutRow, BeginProgram, AddEvent, plain_node, made_by}
+use Rattle.pua_script.specs.Decide.{NoChange, AddNode, CutRow, BeginProgram, AddEvent, made_as, plain_node, made_by}
 use Rattle.pua_script.proofs.ForCallers.{by_making, by_cutting, adding_changes}
 use Rattle.pua_objects.proofs.ForCallers.{one_of_calls}
 use Rattle.pua_ever.specs.Ever.{edit_calls}
@@ -26,5 +26,5 @@ by_calling table P stays call.Unlink adds cuts goes starts x =
 by_calling table P stays call.Chdir adds cuts goes starts x = by_going P stays x goes
 by_calling table P stays call.Exec adds cuts goes starts x = starts refl
 by_calling table P stays c adds cuts goes starts x =
-    by_making P stays (made_by c) (spot_named x) (node_named x)
-    (λ what s made at. adds (among_edits c (adding_changes c (ap is_some made))) s (plain_node what))
+    by_making P stays table.whose (made_by c) (spot_named x) (node_named x)
+    (λ what s made at. adds (among_edits c (adding_changes c (ap is_some made))) s (plain_node (made_as table.whose what)))

@@ -60,8 +60,8 @@ pub use Rattle.pua_tree.specs.Tree.{node_at, Spot, spot_cmp, Tree, WellFormed}
 pub use Rattle.pua_tree.specs.declared.node.Kind.{Kind}
 pub use Rattle.pua_ever.specs.Ever.{all_new, can_empty, can_link, can_make, Comes, dir_covers, directories, ever, ever_line, EverLine}
 pub use Rattle.pua_ever.specs.Ever.{file_covers, has_c_outside, has_ever_calls, is_allowed_under, is_below, is_ever_allowed, is_free}
-pub use Rattle.pua_ever.specs.Ever.{is_named_way, is_yes, lasting_dir, is_made_by, may_edit, name_covers, New, new_line, NewDir, NewFile}
-pub use Rattle.pua_ever.specs.Ever.{NewLink, NewOthers, own_spot, removable_dir, row_cover, some_dir_moves, Stands, subjects_of}
+pub use Rattle.pua_ever.specs.Ever.{is_named_way, is_yes, lasting_dir, is_made_by, may_edit, name_covers, New, new_line, NewDir, NewFifo, NewFile}
+pub use Rattle.pua_ever.specs.Ever.{NewLink, NewOthers, NewSock, own_spot, removable_dir, row_cover, some_dir_moves, Stands, subjects_of}
 pub use Rattle.pua_ever.specs.Ever.{can_move, may_rename, open_covers}
 pub use Rattle.pua_ever.specs.EverLines.{both_of, ever_lines_of, made_left}
 pub use Rattle.pua_ever.specs.Laws.{EditsNeedC, VeilsStand}

@@ -262,7 +262,7 @@ module _ (table : CallTable) (w : World) (well : WellFormed w.tree) (root : ℕ)
   fine_call call.Chdir object exec inner = fine_going object inner
   fine_call call.Exec object exec inner = exec refl
   fine_call c object exec inner =
-      by_making Fine tt (made_by c) (spot_named object) (node_named object) (λ what s made at. inner.spot s at)
+      by_making Fine tt table.whose (made_by c) (spot_named object) (node_named object) (λ what s made at. inner.spot s at)
 
   fine_filing : (number : ℕ) (c : Call) (o : Option ℕ) → ((x : ℕ) → o ≡ Some x → stays_in t root x ≡ true) → Fine (filing number (file_opened t c o))
   fine_filing number c None stays = tt

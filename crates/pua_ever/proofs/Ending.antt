@@ -10,7 +10,7 @@ use Rattle.pua_ever.proofs.Common.{object_of_kind, object_fault, cover, cover_fa
 use Rattle.pua_ever.proofs.Common.{verdict_of, is_allowed, Call, Cover, May, Word, Subject, At, Others, Item, items, cover_in}
 use Rattle.pua_ever.proofs.Common.{own_or, Among, among_left, among_right, among_map, among_filter, contained, covers_descend}
 use Rattle.pua_ever.proofs.Common.{named_within_text, row_cover, is_free, can_empty, dir_covers, file_covers, may_edit, can_link, can_move}
-use Rattle.pua_ever.proofs.Common.{removable_dir, is_named_way, is_allowed_under, ever_line, New, NewDir, NewOthers, NewFile, NewLink}
+use Rattle.pua_ever.proofs.Common.{removable_dir, is_named_way, is_allowed_under, ever_line, New, NewDir, NewOthers, NewFile, NewLink, NewSock, NewFifo}
 use Rattle.pua_ever.proofs.Common.{same_Some, eqb-true, can_make, Stands, Comes, EverLine, subjects_of, all_new, new_line, has_ever_calls, ever, VeilsStand}
 use Rattle.std.proofs.Math.Bool.{or-true}
 use Rattle.std.specs.Prelude.{◌∷◌}
@@ -22,7 +22,7 @@ use Rattle.pua_path.specs.declared.errno.Errno.{Errno}
 use Rattle.pua_path.specs.declared.found.Last.{Last}
 use Rattle.pua_path.specs.declared.found.Last.TheVariants.{Kept}
 use Rattle.pua_calls.specs.Calls.{ending_of, last_of}
-use Rattle.pua_policy.specs.Verdict.{Is, IsFile, IsLink, rmdir_fault}
+use Rattle.pua_policy.specs.Verdict.{Is, rmdir_fault}
 use Rattle.pua_policy.specs.Verdict.{verdict}
 use Rattle.pua_calls.specs.declared.call.Call.TheVariants as call
 use Rattle.pua_policy.specs.declared.place.Place.TheVariants as place
@@ -35,9 +35,11 @@ use Rattle.pua_objects.proofs.ForCallers.{has_item, found_dir}
 use Rattle.pua_objects.proofs.ForCallers.{one_of_calls, some_of, failed}
 use Rattle.pua_ever.specs.Ever.{ever_covers, named_covers}
 use Rattle.pua_ever.specs.Ever.{can_allow, can_allow_new, covers_of, covers_of_dir, ever_object, ever_calls, is_ever_allowed, is_turned}
-use Rattle.pua_ever.specs.Ever.{new_covers, new_object, is_new_named, new_calls, Thing}
+use Rattle.pua_ever.specs.Ever.{may_start, may_start_at, new_covers, new_object, is_new_named, new_calls, starts_under, Thing, turning_calls}
 use Rattle.pua_ever.specs.Ever.{names_to_free}
-use Rattle.pua_ever.specs.Laws.{IsLineOf, of_dir, of_new_dir, of_row, of_new_file, of_new_link, of_name, of_others}
+use Rattle.pua_ever.specs.Laws.{IsLineOf, of_dir, of_new_dir, of_row, of_new_file, of_new_link, of_new_sock, of_new_fifo, of_name, of_others}
+use Rattle.pua_tree.specs.declared.node.FileType.TheVariants.{Sock, Fifo}
+use Rattle.pua_ever.proofs.MadeKinds.{file_starts, file_no_dir}
 use Rattle.pua_ever.specs.Laws.{of_new_others, IsForeseen}
 use Rattle.pua_ever.proofs.Grown.{new_kind, moved_has_c}
 use Rattle.pua_ever.proofs.Ways.{any_among, way_by_c}
@@ -53,6 +55,8 @@ one_new NewDir = inl refl
 one_new NewOthers = inr (inl refl)
 one_new NewFile = inr (inr (inl refl))
 one_new NewLink = inr (inr (inr (inl refl)))
+one_new NewSock = inr (inr (inr (inr (inl refl))))
+one_new NewFifo = inr (inr (inr (inr (inr (inl refl)))))
 
 -- a link is named by the calls alone that keep it
 pub named_link : (c : Call) (mode : Last) (b : Bool) → last_of c ≡ mode → (mode ≡ Followed → b ≡ false) → (keeps_link c || not b) ≡ true
@@ -107,15 +111,24 @@ module _ (t : Tree) (table : CallTable) (h : ProcessState) (what : Option Kind) 
 -- what is allowed on a thing as it is can be allowed on it
 pub can_from : (table : CallTable) (h : ProcessState) (turned : Bool) (covers : List Cover) (object : Object) (c : Call) →
     is_allowed_under table h covers object c ≡ true → can_allow table h turned covers object c ≡ true
-can_from table h turned covers (Is kind.File) c e = or_left (is_allowed_under table h covers IsFile c) _ e
-can_from table h turned covers _ c e = e
+can_from table h turned covers (Is kind) c e = by (may_start kind)
+  where
+    by : (b : Bool) → cond b (is_allowed_under table h covers (Is kind) c
+        || ((turned || list_any (is_allowed_under table h covers (Is kind)) turning_calls) && starts_under table h covers c))
+        (is_allowed_under table h covers (Is kind) c) ≡ true
+    by true = or_left (is_allowed_under table h covers (Is kind) c) _ e
+    by false = e
+can_from table h turned covers (IsDir dir way) c e = e
+can_from table h turned covers IsMissing c e = e
 
 can_new : (t : Tree) (table : CallTable) (h : ProcessState) (made : New) (c : Call) →
-    is_allowed_under table h (new_covers t table h made) (new_object made) c ≡ true → can_allow_new t table h made c ≡ true
+    is_allowed_under table h (new_covers t table h made) (new_object table made) c ≡ true → can_allow_new t table h made c ≡ true
 can_new t table h NewDir c e = e
 can_new t table h NewOthers c e = e
-can_new t table h NewFile c e = or_left (is_allowed_under table h (file_covers t table h) IsFile c) _ e
+can_new t table h NewFile c e = or_left (is_allowed_under table h (file_covers t table h) (new_object table NewFile) c) _ e
 can_new t table h NewLink c e = e
+can_new t table h NewSock c e = e
+can_new t table h NewFifo c e = e
 
 module _ (table : CallTable) (t0 : Tree) (h : ProcessState) where
   -- the calls of a line
@@ -206,7 +219,7 @@ module _ (table : CallTable) (t0 : Tree) (h : ProcessState) (well0 : WellFormed 
       ) a (inr (among_map (λ s. (item.word, s)) (names_to_free t0 table h item.subject) subject b))
 
   new_among : (made : New) (c : Call) → may_edit table h ≡ true → can_make t0 table h made ≡ true → is_new_named made c ≡ true →
-      is_allowed_under table h (new_covers t0 table h made) (new_object made) c ≡ true
+      is_allowed_under table h (new_covers t0 table h made) (new_object table made) c ≡ true
       → Among (new_calls t0 table h made) c
   new_among made c edits can named allowed =
       let P : Bool → Type 0 =
@@ -318,12 +331,14 @@ module _ (table : CallTable) (t0 : Tree) (h : ProcessState) (well0 : WellFormed 
         made_dir : (d : ℕ) → t0.next ≤ d → is_dir u d ≡ true → is_living u d ≡ true → can_make t0 table h NewDir ≡ true
         made_dir d from is lives = let known = k.young d from lives in by known.made (sym (ap is_dir_kind known.kinds) ∙ is) known.can
           where
-            by : (made : New) → is_dir_kind (Some (new_kind made)) ≡ true → can_make t0 table h made ≡ true →
+            by : (made : New) → is_dir_kind (Some (new_kind table made)) ≡ true → can_make t0 table h made ≡ true →
                 can_make t0 table h NewDir ≡ true
             by NewDir is can = can
             by NewOthers is can = can
-            by NewFile is can = absurd (false≢true is)
+            by NewFile is can = absurd (false≢true (sym (file_no_dir table.whose) ∙ is))
             by NewLink is can = absurd (false≢true is)
+            by NewSock is can = absurd (false≢true is)
+            by NewFifo is can = absurd (false≢true is)
 
     pub slot_of : (s : Spot) (x : ℕ) → is_dir u x ≡ false → row_cover u h s x ≡ cover u h (Slot s.0 s.1 (Some x))
     slot_of s x other = ap (λ b. cover u h (cond b (Whole x (Named s.0 s.1)) (Slot s.0 s.1 (Some x)))) other
@@ -467,22 +482,36 @@ module _ (table : CallTable) (t0 : Tree) (h : ProcessState) (well0 : WellFormed 
             kept_link Kept is unlinked kinds = ap is_kept is
             kept_link Followed is unlinked kinds = absurd (false≢true (sym (unlinked refl) ∙ ap is_link_kind kinds))
 
-            by : (made : New) → kind_at u x ≡ Some (new_kind made) → can_make t0 table h made ≡ true → Hit (Slot s.0 s.1 (Some x))
+            -- what was made as such a kind is allowed where it can come
+            as_made : (made : Kind) → kind_at u x ≡ Some made → is_allowed_under table h (file_covers t0 table h) (Is made) c ≡ true
+            as_made made kinds =
+                under_one table t0 h (file_covers t0 table h) (Is made) c (cover u h (Slot s.0 s.1 (Some x))) a parts.may parts.covered
+                (sym (plain_alike table.whose u c (Some made)) ∙ ap (λ o. object_fault table.whose u c (object_of_kind o)) (sym kinds)
+                ∙ parts.kind)
+
+            by : (made : New) → kind_at u x ≡ Some (new_kind table made) → can_make t0 table h made ≡ true → Hit (Slot s.0 s.1 (Some x))
             by NewDir kinds can = absurd (false≢true (sym other ∙ ap is_dir_kind kinds))
             by NewOthers kinds can = absurd (false≢true (sym other ∙ ap is_dir_kind kinds))
             by NewFile kinds can = record {
               thing = Comes NewFile;
-              listed = listed_new NewFile c (new_among NewFile c edits can refl
-                  (under_one table t0 h (file_covers t0 table h) IsFile c (cover u h (Slot s.0 s.1 (Some x))) a parts.may parts.covered
-                  (sym (plain_alike table.whose u c (Some kind.File)) ∙ ap (λ o. object_fault table.whose u c (object_of_kind o)) (sym kinds) ∙ parts.kind)));
-              about = of_new_file from kinds;
+              listed = listed_new NewFile c (new_among NewFile c edits can refl (as_made (new_kind table NewFile) kinds));
+              about = of_new_file from (ap may_start_at kinds ∙ file_starts table.whose);
             }
             by NewLink kinds can = record {
               thing = Comes NewLink;
               listed = listed_new NewLink c (new_among NewLink c edits can (kept_link (last_of c) refl followed kinds)
-                  (under_one table t0 h (file_covers t0 table h) IsLink c (cover u h (Slot s.0 s.1 (Some x))) a parts.may parts.covered
-                  (sym (plain_alike table.whose u c (Some kind.Link)) ∙ ap (λ o. object_fault table.whose u c (object_of_kind o)) (sym kinds) ∙ parts.kind)));
+                  (as_made kind.Link kinds));
               about = of_new_link from kinds;
+            }
+            by NewSock kinds can = record {
+              thing = Comes NewSock;
+              listed = listed_new NewSock c (new_among NewSock c edits can refl (as_made (kind.Known Sock) kinds));
+              about = of_new_sock from kinds;
+            }
+            by NewFifo kinds can = record {
+              thing = Comes NewFifo;
+              listed = listed_new NewFifo c (new_among NewFifo c edits can refl (as_made (kind.Known Fifo) kinds));
+              about = of_new_fifo from kinds;
             }
 
     hit_missing : (dir : ℕ) (name : List ℕ) → is_dir u dir ≡ true → look u dir name ≡ None →
@@ -577,12 +606,14 @@ module _ (table : CallTable) (t0 : Tree) (h : ProcessState) (well0 : WellFormed 
                   })
             ]
           where
-            made_other : (made : New) → is_dir_kind (Some (new_kind made)) ≡ true → can_make t0 table h made ≡ true →
+            made_other : (made : New) → is_dir_kind (Some (new_kind table made)) ≡ true → can_make t0 table h made ≡ true →
                 can_make t0 table h NewOthers ≡ true
             made_other NewDir is can = can
             made_other NewOthers is can = can
-            made_other NewFile is can = absurd (false≢true is)
+            made_other NewFile is can = absurd (false≢true (sym (file_no_dir table.whose) ∙ is))
             made_other NewLink is can = absurd (false≢true is)
+            made_other NewSock is can = absurd (false≢true is)
+            made_other NewFifo is can = absurd (false≢true is)
 
     -- whatever was found
     pub hit : (object : Found) → IsOf u (last_of c) object → verdict u table h c object ≡ Allowed → Hit object

@@ -54,6 +54,8 @@ pub use Rattle.pua_ever.proofs.Quiet.{below_self, below_up, above_row, root_belo
 pub use Rattle.pua_ever.proofs.Ending.{named_link, one_new, parts_of, Parts}
 pub use Rattle.pua_ever.proofs.KindFaults.{plain_alike}
 pub use Rattle.pua_ever.proofs.Ways.{all_among}
+-- what is made as a file may be a plain one
+pub use Rattle.pua_ever.proofs.MadeKinds.{startable, file_starts, file_no_dir, file_no_link, start_no_dir, start_no_link}
 pub use Rattle.pua_ever.proofs.ExecCalls.{exec_or_other}
 -- rows of items and of their names, one after another
 pub use Rattle.pua_ever.proofs.Lined.{freed_name}

@@ -7,7 +7,7 @@ use Rattle.pua_ever.proofs.Common.{is_kept, ProcessState, may_any, start, IsMiss
 use Rattle.pua_ever.proofs.Common.{object_fault, allowed_unless, if_promised, is_allowed, Call, Asked, most_processes, World, Fails, Copies}
 use Rattle.pua_ever.proofs.Common.{change_effect, kept_at, apply, tree_left, Action, OnPath, Symlink, Rename, Link, Pledge, Unveil, Lock}
 use Rattle.pua_ever.proofs.Common.{Fork, Exit, Uses, Hold, Close, Fchdir, Take, Comment, has_c, Change, CopyAs, change_by, by_going, covers_descend, named_within_text}
-use Rattle.pua_ever.proofs.Common.{row_cover, is_yes, can_link, can_move, may_rename, New, NewDir, NewFile, NewLink, EditsNeedC, List, FoundFits}
+use Rattle.pua_ever.proofs.Common.{row_cover, is_yes, can_link, can_move, may_rename, New, NewDir, NewFile, NewLink, NewSock, NewFifo, EditsNeedC, List, FoundFits}
 use Rattle.std.proofs.Common.{not}
 use Rattle.std.specs.Prelude.{length}
 use Rattle.std.proofs.lemmas.Bool.{not-false}
@@ -24,6 +24,8 @@ use Rattle.pua_calls.specs.declared.call.Call.TheVariants as call
 use Rattle.pua_policy.specs.declared.answer.May.TheVariants as may
 use Rattle.pua_script.specs.Judged.{NameFits}
 use Rattle.pua_script.specs.Confinement.{TakingNeedsC, changes_names}
+use Rattle.pua_tree.specs.declared.node.FileType.TheVariants.{Sock, Fifo}
+use Rattle.pua_calls.specs.Calls.{file_by_rules}
 use Rattle.pua_script.specs.Decide.{NoChange, AddNode, CutRow, ShiftRow, TieRow, adding, making, made_by, shifting, fault_if}
 use Rattle.pua_script.specs.Decide.{is_whole, plain_node, link_node, kinds_fault}
 use Rattle.pua_script.specs.Guards.{IsGranted, IsShift}
@@ -68,12 +70,12 @@ module _ (table : CallTable) (needs : EditsNeedC table) (t : Tree) (h : ProcessS
 
   -- what is asked of a change, so that what it leaves has grown so
   abbrev Grows : Change → Type 0
-  Grows (AddNode s node) = (new : New) × (node.kind ≡ new_kind new) × IsMade new s
+  Grows (AddNode s node) = (new : New) × (node.kind ≡ new_kind table new) × IsMade new s
   Grows (ShiftRow s r) = (x : ℕ) × (look t s.0 s.1 ≡ Some x) × (is_dir t r.0 ≡ true) × Written table t h r x × From table t h x
   Grows (TieRow s x) = (is_dir t s.0 ≡ true) × Written table t h s x × From table t h x
   Grows _ = Unit {0}
 
-  by_added : (new : New) (maker : Call) → IsMaker new maker → (node : Node) → node.kind ≡ new_kind new →
+  by_added : (new : New) (maker : Call) → IsMaker new maker → (node : Node) → node.kind ≡ new_kind table new →
       object_fault table.whose empty_tree maker IsMissing ≡ None → holds (rule_of table maker).perms creating ≡ true
       → (x : Found) → may_any h (rule_of table maker).alternatives ≡ may.Yes →
       cover_fault (cover t h x) (rule_of table maker).perms ≡ None → Grows (adding node x)
@@ -101,17 +103,18 @@ module _ (table : CallTable) (needs : EditsNeedC table) (t : Tree) (h : ProcessS
 
   by_made : (c : Call) (x : Found) → may_any h (rule_of table c).alternatives ≡ may.Yes →
       cover_fault (cover t h x) (rule_of table c).perms ≡ None → (made : Option Kind) → makes_well c made ≡ true →
-      Grows (making made (spot_named x) (node_named x))
+      Grows (making table.whose made (spot_named x) (node_named x))
   by_made c x granted covered None is = tt
   by_made c x granted covered (Some kind.File) is =
       let parts = and_parts (is_none (object_fault table.whose empty_tree c IsMissing)) (is_some_file (made_by c) && changes_names c) is in
       let more = and_parts (is_some_file (made_by c)) (changes_names c) parts.1 in
       let among = among_filter (λ maker. is_some_file (made_by maker)) calls c more.0 (one_of_calls c) in
-      by_added NewFile c (λ passes e. any_among passes file_makers c among e) (plain_node kind.File) refl
+      by_added NewFile c (λ passes e. any_among passes file_makers c among e) (plain_node (file_by_rules table.whose)) refl
       (none_is (object_fault table.whose empty_tree c IsMissing) parts.0) (needs.calls c more.1) x granted covered
   by_made c x granted covered (Some kind.Dir) is = absurd (false≢true is)
   by_made c x granted covered (Some kind.Prog) is = absurd (false≢true is)
   by_made c x granted covered (Some kind.Link) is = absurd (false≢true is)
+  by_made c x granted covered (Some (kind.Known type)) is = absurd (false≢true is)
 
   by_call : (c : Call) (x : Found) → may_any h (rule_of table c).alternatives ≡ may.Yes →
       cover_fault (cover t h x) (rule_of table c).perms ≡ None → Grows (change_by table c x)
@@ -121,6 +124,10 @@ module _ (table : CallTable) (needs : EditsNeedC table) (t : Tree) (h : ProcessS
   by_call call.Unlink x granted covered = by_cutting Grows tt (spot_named x) (node_named x) (λ s is. tt)
   by_call call.Chdir x granted covered = by_going Grows tt x (λ dir. tt)
   by_call call.Exec x granted covered = tt
+  by_call call.Bind x granted covered =
+      by_added NewSock call.Bind (λ passes e. e) (plain_node (kind.Known Sock)) refl refl (needs.calls call.Bind refl) x granted covered
+  by_call call.Mknod x granted covered =
+      by_added NewFifo call.Mknod (λ passes e. e) (plain_node (kind.Known Fifo)) refl refl (needs.calls call.Mknod refl) x granted covered
   by_call c x granted covered = by_made c x granted covered (made_by c) refl
 
   -- what stands at the spot by whose name something was found

@@ -58,7 +58,7 @@ module _ (table : CallTable) (t : Tree) (h : ProcessState) where
   pub record Born (u : Tree) (x : ℕ) : Type 0 where
     pub new : x ≡ t.next
     pub made : New
-    pub kinds : kind_at u x ≡ Some (new_kind made)
+    pub kinds : kind_at u x ≡ Some (new_kind table made)
     pub makes : Makes made
 
   -- each row and each node of the later tree is one of the earlier, or came so
@@ -94,7 +94,7 @@ module _ (table : CallTable) (t : Tree) (h : ProcessState) where
   pub at_or_not : (s spot : Spot) → (s ≡ spot) ⊎ (s ≢ spot)
   at_or_not s spot = elim (same_or_other spot_cmp spots_total exact_spots s spot) [ inl same ↦ inl same.0 | inr other ↦ inr other.0 ]
 
-  pub grown_add : (made : New) (maker : Call) → IsMaker made maker → (dir : ℕ) (name : List ℕ) (node : Node) → node.kind ≡ new_kind made
+  pub grown_add : (made : New) (maker : Call) → IsMaker made maker → (dir : ℕ) (name : List ℕ) (node : Node) → node.kind ≡ new_kind table made
       → is_allowed (covered_verdict empty_tree table h maker (name_cover (dir, name)) IsMissing) ≡ true →
       has_c (name_cover (dir, name)) ≡ true
       → Grown (tree_left t (edit_effect h (add t dir name node)))

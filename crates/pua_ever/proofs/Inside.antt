@@ -21,6 +21,7 @@ use Rattle.pua_path.specs.declared.found.Part.TheVariants as parts
 use Rattle.pua_path.specs.declared.found.Start.{Start}
 use Rattle.pua_path.specs.declared.text.Ending.{Ending}
 use Rattle.pua_path.specs.declared.text.Ending.TheVariants as ending
+use Rattle.pua_audit.proofs.ForCallers.{above_in_is}
 use Rattle.pua_objects.specs.Roots.{stays_in}
 use Rattle.pua_ever.proofs.Origin.{below_over}
 use Rattle.pua_ever.proofs.Quiet.{above_row, below_self, below_up, root_below}
@@ -42,6 +43,7 @@ module _ (t : Tree) (well : WellFormed t) where
   of_kind x node kinds.Link e is = rw is tt
   of_kind x node kinds.File e is = rw is tt
   of_kind x node kinds.Prog e is = rw is tt
+  of_kind x node (kinds.Known type) e is = rw is tt
 
   of_node : (x : ℕ) (o : Option Node) → node_at t x ≡ o → InItsRow (Some x) (standing_of x o)
   of_node x None e = tt
@@ -96,7 +98,7 @@ module _ (t : Tree) (well : WellFormed t) where
 
     -- where node 0 is the root, all is below it
     above_within : (d : ℕ) → Within d → Within (above_in seen d)
-    above_within d within = by (root == 0) (d == root) refl refl
+    above_within d within = subst Within (sym (above_in_is seen d (lives_within d within))) (by (root == 0) (d == root) refl refl)
       where
         by : (top same : Bool) → (root == 0) ≡ top → (d == root) ≡ same → Within (if not top && same then root else above t d)
         by false true no_top is = root_within

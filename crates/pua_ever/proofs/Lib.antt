@@ -32,6 +32,7 @@ pub mod Under
 pub mod Refused
 pub mod Lined
 pub mod Prospected
+pub mod MadeKinds
 pub mod Named
 pub mod KindsKept
 pub mod Holding

@@ -43,7 +43,7 @@ module _ (table : CallTable) (t0 : Tree) (h : ProcessState) (well0 : WellFormed 
 
   pub record Known (u : Tree) (x : ℕ) : Type 0 where
     pub made : New
-    pub kinds : kind_at u x ≡ Some (new_kind made)
+    pub kinds : kind_at u x ≡ Some (new_kind table made)
     pub can : can_make t0 table h made ≡ true
 
   pub record Stays (u : Tree) : Type 0 where

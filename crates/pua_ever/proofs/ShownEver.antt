@@ -24,7 +24,7 @@ use Rattle.pua_ever.specs.EnclosedForEver.{EverInside, ForeseesInside, IsEnclose
 use Rattle.pua_ever.specs.ShownForEver.{is_inside, only_inside}
 use Rattle.pua_objects.specs.Roots.{stays_in}
 use Rattle.pua_ever.specs.Ever.{Thing, named_covers}
-use Rattle.pua_ever.specs.Laws.{IsForeseenIn, IsLineOf, MembersEdit, NoExecLoosens, of_dir, of_name, of_new_dir, of_new_file, of_new_link, of_new_others}
+use Rattle.pua_ever.specs.Laws.{IsForeseenIn, IsLineOf, MembersEdit, NoExecLoosens, of_dir, of_name, of_new_dir, of_new_file, of_new_fifo, of_new_link, of_new_sock, of_new_others}
 use Rattle.pua_ever.specs.Laws.{of_others, of_row}
 use Rattle.pua_ever.proofs.Along.{stays_along}
 use Rattle.pua_ever.proofs.Complete.{all_within}
@@ -59,6 +59,8 @@ module _ (table : CallTable) (t0 : Tree) (h : ProcessState) (well0 : WellFormed 
   inside_about thing object (of_new_dir from) inner young = refl
   inside_about thing object (of_new_file from kinds) inner young = refl
   inside_about thing object (of_new_link from kinds) inner young = refl
+  inside_about thing object (of_new_sock from kinds) inner young = refl
+  inside_about thing object (of_new_fifo from kinds) inner young = refl
   inside_about thing object (of_new_others from) inner young = refl
 
   record InsideHit (object : Found) : Type 0 where

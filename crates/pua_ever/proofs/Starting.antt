@@ -5,13 +5,16 @@ use Rattle.pua_ever.proofs.Common.{or_left, or_right, Tree, WellFormed, Spot, is
 use Rattle.pua_ever.proofs.Common.{is_link_kind, Slot, CallTable, calls, rule_of, ProcessState, veils, may_any, Object, object_of_kind}
 use Rattle.pua_ever.proofs.Common.{object_fault, cover, cover_fault, Cover, Call, Subject, At, items, Among, map_among, among_filter}
 use Rattle.pua_ever.proofs.Common.{filter_among, among_right, among_map, contained, among_contained, may_edit, file_covers, is_allowed_under}
-use Rattle.pua_ever.proofs.Common.{is_ever_allowed, can_make, New, NewDir, NewOthers, NewFile, NewLink, Stands, Comes, EverLine, ever_line}
+use Rattle.pua_ever.proofs.Common.{is_ever_allowed, can_make, New, NewDir, NewOthers, NewFile, NewLink, NewSock, NewFifo, Stands, Comes, EverLine, ever_line}
 use Rattle.pua_ever.proofs.Common.{new_line, subjects_of, all_new, has_ever_calls, ever, VeilsStand}
 use Rattle.std.specs.List.{Contains}
 use Rattle.pua_tree.specs.declared.node.Kind.TheVariants as kind
 use Rattle.pua_calls.specs.Calls.{about}
 use Rattle.pua_calls.specs.declared.call.Call.TheVariants as call
-use Rattle.pua_policy.specs.Verdict.{IsFile, IsProg}
+use Rattle.pua_policy.specs.Verdict.{Is, IsProg}
+use Rattle.pua_tree.specs.declared.node.Kind.{Kind}
+use Rattle.pua_ever.specs.Ever.{may_start, may_start_at, new_object, starts_under}
+use Rattle.pua_ever.proofs.MadeKinds.{startable}
 use Rattle.pua_objects.proofs.ForCallers.{among_either, one_of_calls, some_of}
 use Rattle.pua_objects.specs.Objects.{is_named_by}
 use Rattle.pua_ever.specs.Ever.{can_allow, ever_calls, is_exec_call, is_new_allowed, is_turned_held, named_covers, new_calls, Thing, turning_calls}
@@ -85,11 +88,25 @@ module _ (table : CallTable) (t : Tree) (h : ProcessState) where
 
 module _ (table : CallTable) (t0 : Tree) (h : ProcessState) (well0 : WellFormed t0) (stand : VeilsStand t0 h) (u : Tree)
     (k : Stays table t0 h well0 stand u) (edit : (may_edit table h ≡ true) ⊎ (u ≡ t0)) where
-  module _ (dir : ℕ) (name : List ℕ) (x : ℕ) (here : look u dir name ≡ Some x) (kinds : kind_at u x ≡ Some kind.File)
+  module _ (dir : ℕ) (name : List ℕ) (x : ℕ) (here : look u dir name ≡ Some x) (kinds : may_start_at (kind_at u x) ≡ true)
       (parts : Parts (may_any h (rule_of table call.Exec).alternatives)
       (cover_fault (cover u h (Slot dir name (Some x))) (rule_of table call.Exec).perms) (object_fault table.whose u call.Exec IsProg)) where
+    -- what it is
+    as_is : (k : Kind) × (kind_at u x ≡ Some k) × (may_start k ≡ true)
+    as_is = startable (kind_at u x) kinds
+
+    abbrev is : Kind
+    is = as_is.0
+
+    plain_kind : (k : Kind) → may_start k ≡ true → (is_dir_kind (Some k) ≡ false) × (is_link_kind (Some k) ≡ false)
+    plain_kind kind.Dir e = cc
+    plain_kind kind.File e = (refl, refl)
+    plain_kind kind.Prog e = cc
+    plain_kind kind.Link e = cc
+    plain_kind (kind.Known type) e = (refl, refl)
+
     other : is_dir u x ≡ false
-    other = ap is_dir_kind kinds
+    other = ap is_dir_kind as_is.1 ∙ (plain_kind is as_is.2).0
 
     lives : is_living u x ≡ true
     lives = (row_says u (sound_from u k.well) (dir, name) x here).2
@@ -103,26 +120,38 @@ module _ (table : CallTable) (t0 : Tree) (h : ProcessState) (well0 : WellFormed 
     abbrev covers_from : Spot → List Cover
     covers_from r = named_covers t0 table h (kind_at t0 x) (cover t0 h (Slot r.0 r.1 (Some x)))
 
+    -- what can be allowed on it: as it is, or as a program
+    abbrev as_either : List Cover → Call → Bool
+    as_either covers c =
+        is_allowed_under table h covers (Is is) c
+        || ((is_turned_held h x || list_any (is_allowed_under table h covers (Is is)) turning_calls) && starts_under table h covers c)
+
+    can_is : (covers : List Cover) (c : Call) → can_allow table h (is_turned_held h x) covers (Is is) c ≡ as_either covers c
+    can_is covers c = ap (λ b. cond b (as_either covers c) (is_allowed_under table h covers (Is is) c)) as_is.2
+
+    if_starts : (covers : List Cover) (c : Call) → as_either covers c ≡ true → can_allow table h (is_turned_held h x) covers (Is is) c ≡ true
+    if_starts covers c e = can_is covers c ∙ e
+
     -- such a file has exec, where it can come to be a program
-    started : (r : Spot) → kind_at t0 x ≡ Some kind.File → Among (covers_from r) (cover u h (Slot dir name (Some x))) →
-        (is_turned_held h x || list_any (is_allowed_under table h (covers_from r) IsFile) turning_calls) ≡ true →
+    started : (r : Spot) → kind_at t0 x ≡ Some is → Among (covers_from r) (cover u h (Slot dir name (Some x))) →
+        (is_turned_held h x || list_any (is_allowed_under table h (covers_from r) (Is is)) turning_calls) ≡ true →
         Among (ever_calls t0 table h (At (Slot r.0 r.1 (Some x)))) call.Exec
     started r was a turns =
         among_filter (is_ever_allowed t0 table h (At (Slot r.0 r.1 (Some x)))) calls call.Exec
-        (and_from (is_named_by t0 call.Exec (At (Slot r.0 r.1 (Some x)))) _ (ap not (ap is_link_kind was))
+        (and_from (is_named_by t0 call.Exec (At (Slot r.0 r.1 (Some x)))) _ (ap not (ap is_link_kind was ∙ (plain_kind is as_is.2).1))
         (subst (λ (object : Object). can_allow table h (is_turned_held h x) (covers_from r) object call.Exec ≡ true)
         (sym (ap object_of_kind was))
-        (or_right (is_allowed_under table h (covers_from r) IsFile call.Exec) _
-        (and_from (is_turned_held h x || list_any (is_allowed_under table h (covers_from r) IsFile) turning_calls) _ turns
-        (runs (covers_from r) a)))))
+        (if_starts (covers_from r) call.Exec (or_right (is_allowed_under table h (covers_from r) (Is is) call.Exec) _
+        (and_from (is_turned_held h x || list_any (is_allowed_under table h (covers_from r) (Is is)) turning_calls) _ turns
+        (runs (covers_from r) a))))))
         (one_of_calls call.Exec)
 
     -- by a call in its line
-    turned : (r : Spot) → kind_at t0 x ≡ Some kind.File → Among (covers_from r) (cover u h (Slot dir name (Some x))) →
+    turned : (r : Spot) → kind_at t0 x ≡ Some is → Among (covers_from r) (cover u h (Slot dir name (Some x))) →
         (turning : Call) → Among turning_calls turning → Among (ever_calls t0 table h (At (Slot r.0 r.1 (Some x)))) turning →
         Among (ever_calls t0 table h (At (Slot r.0 r.1 (Some x)))) call.Exec
     turned r was a turning one has =
-        started r was a (or_right (is_turned_held h x) _ (any_among (is_allowed_under table h covers IsFile) turning_calls turning one turns))
+        started r was a (or_right (is_turned_held h x) _ (any_among (is_allowed_under table h covers (Is is)) turning_calls turning one turns))
       where
         subject : Subject
         subject = At (Slot r.0 r.1 (Some x))
@@ -130,19 +159,19 @@ module _ (table : CallTable) (t0 : Tree) (h : ProcessState) (well0 : WellFormed 
         covers : List Cover
         covers = covers_from r
 
-        is_file : object_of_kind (kind_at t0 x) ≡ IsFile
+        is_file : object_of_kind (kind_at t0 x) ≡ Is is
         is_file = ap object_of_kind was
 
-        allowed : can_allow table h (is_turned_held h x) covers IsFile turning ≡ true
-        allowed = ap (λ (object : Object). can_allow table h (is_turned_held h x) covers object turning) (sym is_file) ∙
+        allowed : as_either covers turning ≡ true
+        allowed = sym (can_is covers turning) ∙ ap (λ (object : Object). can_allow table h (is_turned_held h x) covers object turning) (sym is_file) ∙
             (and_parts (is_named_by t0 turning subject) _ (filter_among (is_ever_allowed t0 table h subject) calls turning has).1).1
 
-        turns : is_allowed_under table h covers IsFile turning ≡ true
-        turns = plainly (is_allowed_under table h covers IsFile turning)
-            (is_turned_held h x || list_any (is_allowed_under table h covers IsFile) turning_calls)
+        turns : is_allowed_under table h covers (Is is) turning ≡ true
+        turns = plainly (is_allowed_under table h covers (Is is) turning)
+            (is_turned_held h x || list_any (is_allowed_under table h covers (Is is)) turning_calls)
             (is_allowed_under table h covers IsProg turning)
-            (ap (λ b. is_allowed_under table h covers IsFile turning
-            || ((is_turned_held h x || list_any (is_allowed_under table h covers IsFile) turning_calls)
+            (ap (λ b. is_allowed_under table h covers (Is is) turning
+            || ((is_turned_held h x || list_any (is_allowed_under table h covers (Is is)) turning_calls)
             && (b && is_allowed_under table h covers IsProg turning)))
             (sym (no_exec turning one)) ∙ allowed)
 
@@ -150,7 +179,7 @@ module _ (table : CallTable) (t0 : Tree) (h : ProcessState) (well0 : WellFormed 
     old below =
         let home = home_of table t0 h well0 stand u k edit call.Exec (dir, name) x here other below in
         let subject : Subject = At (Slot home.row.0 home.row.1 (Some x)) in
-        let was : kind_at t0 x ≡ Some kind.File = ap (option_map (λ n. n.kind)) (sym (k.old x below lives)) ∙ kinds in
+        let was : kind_at t0 x ≡ Some is = ap (option_map (λ n. n.kind)) (sym (k.old x below lives)) ∙ as_is.1 in
         record {
           thing = Stands subject;
           about = of_row home.row home.at home.own;
@@ -160,9 +189,9 @@ module _ (table : CallTable) (t0 : Tree) (h : ProcessState) (well0 : WellFormed 
               (contained (ever_calls t0 table h subject) call.Exec
               (turned home.row was home.under turning (among_contained turning_calls turning one)
               (among_contained (ever_calls t0 table h subject) turning (subst (λ cs. Contains cs turning) calls_are has))));
-          held = λ is.
-              let there = row_listed table t0 h well0 stand home.row x home.at (ap is_dir_kind was) call.Exec
-              (started home.row was home.under (or_left (is_turned_held h x) _ is)) in (
+          held = λ held.
+              let there = row_listed table t0 h well0 stand home.row x home.at (ap is_dir_kind was ∙ (plain_kind is as_is.2).0) call.Exec
+              (started home.row was home.under (or_left (is_turned_held h x) _ held)) in (
                 there.line,
                 contained (ever t0 table h) there.line there.among,
                 there.about,
@@ -186,25 +215,27 @@ module _ (table : CallTable) (t0 : Tree) (h : ProcessState) (well0 : WellFormed 
         line : EverLine
         line = new_line t0 table h NewFile
 
-        made_file : (made : New) → Some (new_kind made) ≡ Some kind.File → can_make t0 table h made ≡ true →
+        made_file : (made : New) → may_start (new_kind table made) ≡ true → can_make t0 table h made ≡ true →
             can_make t0 table h NewFile ≡ true
         made_file NewDir e can = cc
         made_file NewOthers e can = cc
         made_file NewFile e can = can
         made_file NewLink e can = cc
+        made_file NewSock e can = cc
+        made_file NewFifo e can = cc
 
         known : Known table t0 h well0 stand u x
         known = k.young x from lives
 
         makes : (may_edit table h && can_make t0 table h NewFile) ≡ true
         makes = and_from (may_edit table h) _ (edits_if_young table t0 h well0 stand u k edit call.Exec x from lives)
-            (made_file known.made (sym known.kinds ∙ kinds) known.can)
+            (made_file known.made (ap may_start_at (sym known.kinds) ∙ kinds) known.can)
 
         starts : Among (new_calls t0 table h NewFile) call.Exec
         starts =
             subst (λ b. Among (cond b (filter (is_new_allowed t0 table h NewFile) calls) []) call.Exec) (sym makes)
             (among_filter (is_new_allowed t0 table h NewFile) calls call.Exec
-            (or_right (is_allowed_under table h (file_covers t0 table h) IsFile call.Exec) _
+            (or_right (is_allowed_under table h (file_covers t0 table h) (new_object table NewFile) call.Exec) _
             (runs (file_covers t0 table h) (young_cover_at table t0 h well0 stand u k edit call.Exec (dir, name) x here other from)))
             (one_of_calls call.Exec))
 

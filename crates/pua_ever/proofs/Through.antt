@@ -7,7 +7,7 @@ use Rattle.pua_ever.proofs.Common.{Asked, World, apply, world_after, is_member, 
 use Rattle.pua_ever.proofs.Common.{TreesAlong, IsWithin, Members, first_tree, EditsNeedC, VeilsStand}
 use Rattle.pua_ever.proofs.Common.{among_map, map_among, among_filter, filter_among, contained, among_contained, ever, has_ever_calls, EverLine, May}
 use Rattle.pua_ever.proofs.Common.{◌≤◌, is_some, option_map, Node, Kind, is_dir, is_dir_kind, is_living, node_at, kind_at, Whole, Slot, Option, None}
-use Rattle.pua_ever.proofs.Common.{named_within_text, resolutions_fit, New, NewDir, NewOthers, NewFile, NewLink, is_made_by}
+use Rattle.pua_ever.proofs.Common.{named_within_text, resolutions_fit, New, NewDir, NewOthers, NewFile, NewLink, NewSock, NewFifo, is_made_by}
 use Rattle.pua_tree.specs.declared.node.Kind.TheVariants as kind
 use Rattle.pua_path.specs.Fits.{found_fits}
 use Rattle.std.specs.Prelude.{bit_or}
@@ -32,11 +32,15 @@ use Rattle.pua_objects.proofs.ForCallers.{some_of}
 use Rattle.pua_script.specs.Family.{family, HasKept}
 use Rattle.pua_ever.specs.Ever.{Thing, is_exec_call}
 use Rattle.pua_ever.specs.Laws.{IsForeseen, IsForeseenIn, IsStartForeseen, IsStartForeseenIn, ForeseesIn, ForeseesStartsIn, IsLineOf, of_dir}
-use Rattle.pua_ever.specs.Laws.{of_row, of_name, of_others, of_new_dir, of_new_file, of_new_link, of_new_others, MembersEdit, NoExecLoosens}
+use Rattle.pua_ever.specs.Laws.{of_row, of_name, of_others, of_new_dir, of_new_file, of_new_link, of_new_sock, of_new_fifo, of_new_others, MembersEdit, NoExecLoosens}
 use Rattle.pua_ever.specs.Laws.{NoLineHasExec}
 use Rattle.pua_ever.specs.Through.{is_promised_by, is_promised_by_one, can_come, let_through, ever_lasting, ever_through, has_exec}
 use Rattle.pua_ever.specs.Through.{is_bounded, AreWithin, GoesAlong, GoAlong, EverThroughExecs, StartsThroughExecs, EverLasts}
+use Rattle.pua_tree.specs.declared.node.FileType.TheVariants.{Sock, Fifo}
 use Rattle.pua_ever.proofs.Grown.{Grown, new_kind}
+use Rattle.pua_ever.proofs.MadeKinds.{file_starts, file_no_dir, file_no_link, startable}
+use Rattle.pua_ever.specs.Ever.{may_start_at}
+use Rattle.pua_path.specs.Fits.{is_link_kind}
 use Rattle.pua_ever.proofs.Chosen.{bound_too, lasting_alone, lasting_through}
 use Rattle.pua_ever.proofs.Covers.{living_dir, below_next}
 use Rattle.pua_ever.proofs.Growing.{requests_grow}
@@ -97,6 +101,8 @@ module _ (now : ProcessState) (given : ℕ) where
   line_too t later thing object (of_new_dir from) = of_new_dir from
   line_too t later thing object (of_new_file from kinds) = of_new_file from kinds
   line_too t later thing object (of_new_link from kinds) = of_new_link from kinds
+  line_too t later thing object (of_new_sock from kinds) = of_new_sock from kinds
+  line_too t later thing object (of_new_fifo from kinds) = of_new_fifo from kinds
   line_too t later thing object (of_new_others from) = of_new_others from
 
 -- the trees along the way are well formed, and so is the last
@@ -173,7 +179,7 @@ module _ (table : CallTable) (sound : NoCallNeedsError table) (needs : EditsNeed
   module _ (t0 : Tree) (well0 : WellFormed t0) where
     abbrev MadeByOne : Tree → Type 0
     MadeByOne u = (x : ℕ) → t0.next ≤ x → is_living u x ≡ true →
-        (made : New) × (kind_at u x ≡ Some (new_kind made)) × (is_made_by (is_promised_by_one tmp now given) made ≡ true)
+        (made : New) × (kind_at u x ≡ Some (new_kind table made)) × (is_made_by (is_promised_by_one tmp now given) made ≡ true)
 
     made_first : MadeByOne t0
     made_first x from lives = let below = below_next t0 now well0 x lives in absurd (omega arith)
@@ -209,26 +215,53 @@ module _ (table : CallTable) (sound : NoCallNeedsError table) (needs : EditsNeed
       lives_by_kind k None e = cc
       lives_by_kind k (Some n) e = refl
 
-      dir_by_one : (x : ℕ) (m : New) → kind_at u x ≡ Some (new_kind m) → is_made_by (is_promised_by_one tmp now given) m ≡ true →
+      dir_by_one : (x : ℕ) (m : New) → kind_at u x ≡ Some (new_kind table m) → is_made_by (is_promised_by_one tmp now given) m ≡ true →
           is_dir u x ≡ true → is_promised_by_one tmp now given call.Mkdir ≡ true
       dir_by_one x NewDir kinds one is = one
       dir_by_one x NewOthers kinds one is = one
-      dir_by_one x NewFile kinds one is = absurd (false≢true (sym (ap is_dir_kind kinds) ∙ is))
+      dir_by_one x NewFile kinds one is = absurd (false≢true (sym (ap is_dir_kind kinds ∙ file_no_dir table.whose) ∙ is))
       dir_by_one x NewLink kinds one is = absurd (false≢true (sym (ap is_dir_kind kinds) ∙ is))
+      dir_by_one x NewSock kinds one is = absurd (false≢true (sym (ap is_dir_kind kinds) ∙ is))
+      dir_by_one x NewFifo kinds one is = absurd (false≢true (sym (ap is_dir_kind kinds) ∙ is))
 
-      file_by_one : (x : ℕ) (m : New) → kind_at u x ≡ Some (new_kind m) → is_made_by (is_promised_by_one tmp now given) m ≡ true →
-          kind_at u x ≡ Some kind.File → is_made_by (is_promised_by_one tmp now given) NewFile ≡ true
+      file_by_one : (x : ℕ) (m : New) → kind_at u x ≡ Some (new_kind table m) → is_made_by (is_promised_by_one tmp now given) m ≡ true →
+          may_start_at (kind_at u x) ≡ true → is_made_by (is_promised_by_one tmp now given) NewFile ≡ true
       file_by_one x NewFile kinds one is = one
-      file_by_one x NewDir kinds one is = let never : Some kind.Dir ≡ Some kind.File = sym kinds ∙ is in cc
-      file_by_one x NewOthers kinds one is = let never : Some kind.Dir ≡ Some kind.File = sym kinds ∙ is in cc
-      file_by_one x NewLink kinds one is = let never : Some kind.Link ≡ Some kind.File = sym kinds ∙ is in cc
+      file_by_one x NewDir kinds one is = absurd (false≢true (sym (ap may_start_at kinds) ∙ is))
+      file_by_one x NewOthers kinds one is = absurd (false≢true (sym (ap may_start_at kinds) ∙ is))
+      file_by_one x NewLink kinds one is = absurd (false≢true (sym (ap may_start_at kinds) ∙ is))
+      file_by_one x NewSock kinds one is = absurd (false≢true (sym (ap may_start_at kinds) ∙ is))
+      file_by_one x NewFifo kinds one is = absurd (false≢true (sym (ap may_start_at kinds) ∙ is))
 
-      link_by_one : (x : ℕ) (m : New) → kind_at u x ≡ Some (new_kind m) → is_made_by (is_promised_by_one tmp now given) m ≡ true →
+      link_by_one : (x : ℕ) (m : New) → kind_at u x ≡ Some (new_kind table m) → is_made_by (is_promised_by_one tmp now given) m ≡ true →
           kind_at u x ≡ Some kind.Link → is_promised_by_one tmp now given call.Symlink ≡ true
       link_by_one x NewLink kinds one is = one
       link_by_one x NewDir kinds one is = let never : Some kind.Dir ≡ Some kind.Link = sym kinds ∙ is in cc
       link_by_one x NewOthers kinds one is = let never : Some kind.Dir ≡ Some kind.Link = sym kinds ∙ is in cc
-      link_by_one x NewFile kinds one is = let never : Some kind.File ≡ Some kind.Link = sym kinds ∙ is in cc
+      link_by_one x NewFile kinds one is = absurd (false≢true (sym (file_no_link table.whose) ∙ ap is_link_kind (sym kinds ∙ is)))
+      link_by_one x NewSock kinds one is = let never : Some (kind.Known Sock) ≡ Some kind.Link = sym kinds ∙ is in cc
+      link_by_one x NewFifo kinds one is = let never : Some (kind.Known Fifo) ≡ Some kind.Link = sym kinds ∙ is in cc
+
+      -- what is a socket was made as one, and so is a fifo
+      sock_is : (x : ℕ) (m : New) → kind_at u x ≡ Some (new_kind table m) → kind_at u x ≡ Some (kind.Known Sock) → m ≡ NewSock
+      sock_is x NewSock kinds is = refl
+      sock_is x NewDir kinds is = let never : Some kind.Dir ≡ Some (kind.Known Sock) = sym kinds ∙ is in cc
+      sock_is x NewOthers kinds is = let never : Some kind.Dir ≡ Some (kind.Known Sock) = sym kinds ∙ is in cc
+      sock_is x NewLink kinds is = let never : Some kind.Link ≡ Some (kind.Known Sock) = sym kinds ∙ is in cc
+      sock_is x NewFifo kinds is = let never : Some (kind.Known Fifo) ≡ Some (kind.Known Sock) = sym kinds ∙ is in cc
+      sock_is x NewFile kinds is = absurd (false≢true (ap may_start_at (sym is ∙ kinds) ∙ file_starts table.whose))
+
+      fifo_is : (x : ℕ) (m : New) → kind_at u x ≡ Some (new_kind table m) → kind_at u x ≡ Some (kind.Known Fifo) → m ≡ NewFifo
+      fifo_is x NewFifo kinds is = refl
+      fifo_is x NewDir kinds is = let never : Some kind.Dir ≡ Some (kind.Known Fifo) = sym kinds ∙ is in cc
+      fifo_is x NewOthers kinds is = let never : Some kind.Dir ≡ Some (kind.Known Fifo) = sym kinds ∙ is in cc
+      fifo_is x NewLink kinds is = let never : Some kind.Link ≡ Some (kind.Known Fifo) = sym kinds ∙ is in cc
+      fifo_is x NewSock kinds is = let never : Some (kind.Known Sock) ≡ Some (kind.Known Fifo) = sym kinds ∙ is in cc
+      fifo_is x NewFile kinds is = absurd (false≢true (ap may_start_at (sym is ∙ kinds) ∙ file_starts table.whose))
+
+      same_made : (m n : New) → m ≡ n → is_made_by (is_promised_by_one tmp now given) m ≡ true →
+          is_made_by (is_promised_by_one tmp now given) n ≡ true
+      same_made m n same one = subst (λ made. is_made_by (is_promised_by_one tmp now given) made ≡ true) same one
 
       comes_by_one : (thing : Thing) (object : Found) → found_fits u object ≡ true → IsLineOf t0 u now thing object →
           can_come (is_promised_by_one tmp now given) thing ≡ true
@@ -237,12 +270,19 @@ module _ (table : CallTable) (sound : NoCallNeedsError table) (needs : EditsNeed
           let one = made dir from (living_dir u now well dir fits) in
           dir_by_one dir one.0 one.1 one.2 fits
       comes_by_one thing (Slot dir name (Some x)) fits (of_row row at there) = refl
-      comes_by_one thing (Slot dir name (Some x)) fits (of_new_file from kinds) =
-          let one = made x from (lives_by_kind kind.File (node_at u x) kinds) in
-          file_by_one x one.0 one.1 one.2 kinds
+      comes_by_one thing (Slot dir name (Some x)) fits (of_new_file from starts) =
+          let is = startable (kind_at u x) starts in
+          let one = made x from (lives_by_kind is.0 (node_at u x) is.1) in
+          file_by_one x one.0 one.1 one.2 starts
       comes_by_one thing (Slot dir name (Some x)) fits (of_new_link from kinds) =
           let one = made x from (lives_by_kind kind.Link (node_at u x) kinds) in
           link_by_one x one.0 one.1 one.2 kinds
+      comes_by_one thing (Slot dir name (Some x)) fits (of_new_sock from kinds) =
+          let one = made x from (lives_by_kind (kind.Known Sock) (node_at u x) kinds) in
+          same_made one.0 NewSock (sock_is x one.0 one.1 kinds) one.2
+      comes_by_one thing (Slot dir name (Some x)) fits (of_new_fifo from kinds) =
+          let one = made x from (lives_by_kind (kind.Known Fifo) (node_at u x) kinds) in
+          same_made one.0 NewFifo (fifo_is x one.0 one.1 kinds) one.2
       comes_by_one thing (Slot dir name None) fits (of_name perms kept) = refl
       comes_by_one thing (Slot dir name None) fits (of_others below kept) = refl
       comes_by_one thing (Slot dir name None) fits (of_new_others from) =

@@ -18,7 +18,7 @@ use Rattle.pua_policy.specs.declared.place.Place.TheVariants as place
 use Rattle.pua_policy.specs.declared.reason.Covering.{Covering}
 use Rattle.pua_policy.specs.declared.reason.Covering.TheVariants.{By}
 use Rattle.pua_objects.specs.Objects.{At, Others, cover_in}
-use Rattle.pua_ever.specs.Ever.{NewDir, NewOthers, NewFile, NewLink, Thing, Stands, Comes, can_empty, can_link, can_move, has_c_outside}
+use Rattle.pua_ever.specs.Ever.{NewDir, NewOthers, NewFile, NewLink, NewSock, NewFifo, Thing, Stands, Comes, can_empty, can_link, can_move, has_c_outside}
 use Rattle.pua_ever.specs.Ever.{is_free, some_dir_moves}
 use Rattle.pua_ever.specs.Destinations.{can_give_way, destination}
 use Rattle.pua_ever.specs.declared.comings.Comings.{Comings}
@@ -106,6 +106,8 @@ places_on t table h (Comes NewDir) = dir_places t h
 places_on t table h (Comes NewOthers) = dir_places t h
 places_on t table h (Comes NewFile) = file_places t table h
 places_on t table h (Comes NewLink) = file_places t table h
+places_on t table h (Comes NewSock) = file_places t table h
+places_on t table h (Comes NewFifo) = file_places t table h
 
 -- Notes: what the code gathers, what it asks of directories, and what it gives.
 

@@ -9,18 +9,19 @@ use Rattle.std.specs.List.{list_any, list_all}
 use Rattle.pua_tree.specs.Tree.{Tree, Node, Spot, is_dir_kind, is_dir, look, kind_at, climb, empty_tree}
 use Rattle.pua_tree.specs.declared.node.Kind.{Kind}
 use Rattle.pua_tree.specs.declared.node.Kind.TheVariants as kind
+use Rattle.pua_tree.specs.declared.node.FileType.TheVariants as file_type
 use Rattle.pua_path.specs.Fits.{is_link_kind}
 use Rattle.pua_path.specs.declared.found.Found.TheVariants.{Whole, Slot}
 use Rattle.pua_path.specs.declared.found.Way.{Way}
 use Rattle.pua_path.specs.declared.found.Way.TheVariants.{Named, Top}
-use Rattle.pua_calls.specs.Calls.{CallTable, about, rule_of, calls, call_name}
+use Rattle.pua_calls.specs.Calls.{CallTable, about, rule_of, calls, call_name, file_by_rules}
 use Rattle.pua_calls.specs.CallSets.{keeps_link, is_kept}
 use Rattle.pua_calls.specs.Promises.{holds, fattr, writing}
 use Rattle.pua_policy.specs.States.{ProcessState, perms_kept, veils, may_any, held_set}
 use Rattle.pua_policy.specs.declared.open_file.OpenFile.{OpenFile}
 use Rattle.pua_policy.specs.declared.answer.May.{May}
 use Rattle.pua_policy.specs.declared.answer.May.TheVariants.{Yes}
-use Rattle.pua_policy.specs.Verdict.{Object, IsDir, Is, IsFile, IsProg, IsLink, IsMissing, object_of, cover, cover_fault, covered_verdict, is_allowed}
+use Rattle.pua_policy.specs.Verdict.{Object, IsDir, Is, IsProg, IsMissing, object_of, cover, cover_fault, covered_verdict, is_allowed}
 use Rattle.pua_policy.specs.declared.answer.Cover.{Cover}
 use Rattle.pua_policy.specs.declared.answer.Cover.TheVariants.{Only}
 use Rattle.pua_calls.specs.declared.call.Call.{Call}
@@ -240,12 +241,24 @@ abbrev pub is_turned : ProcessState → Subject → Bool
 is_turned h (At (Slot dir name node)) = is_turned_there h node
 is_turned h _ = false
 
+-- a file that is a plain one or may be: no kernel starts a socket, a fifo or a device, whatever is written to it
+abbrev pub may_start : Kind → Bool
+may_start kind.File = true
+may_start (kind.Known file_type.Plain) = true
+may_start _ = false
+
+abbrev pub may_start_at : Option Kind → Bool
+may_start_at None = false
+may_start_at (Some kind) = may_start kind
+
 -- a call can be allowed on such a thing under these covers: as it is, or, where it is a file that can be made a program, as
 -- that; by what is open it can, whatever covers it
 abbrev pub can_allow : CallTable → ProcessState → Bool → List Cover → Object → Call → Bool
-can_allow table h turned covers (Is kind.File) call =
-    is_allowed_under table h covers IsFile call
-    || ((turned || list_any (is_allowed_under table h covers IsFile) turning_calls) && starts_under table h covers call)
+can_allow table h turned covers (Is kind) call =
+    if may_start kind
+    then is_allowed_under table h covers (Is kind) call
+    || ((turned || list_any (is_allowed_under table h covers (Is kind)) turning_calls) && starts_under table h covers call)
+    else is_allowed_under table h covers (Is kind) call
 can_allow table h turned covers object call = is_allowed_under table h covers object call
 
 -- the calls that can ever be allowed on what stands or could stand now
@@ -257,19 +270,23 @@ is_ever_allowed t table h subject call =
 abbrev pub ever_calls : Tree → CallTable → ProcessState → Subject → List Call
 ever_calls t table h subject = filter (is_ever_allowed t table h subject) calls
 
--- what can be made: a directory, the further names of such a directory, a file, a link
+-- what can be made: a directory, the further names of such a directory, a file, a link, a socket, a fifo
 pub data New : Type 0 where
   NewDir : New
   NewOthers : New
   NewFile : New
   NewLink : New
+  NewSock : New
+  NewFifo : New
 
--- what is made, as a node
-abbrev pub new_kind : New → Kind
-new_kind NewDir = kind.Dir
-new_kind NewOthers = kind.Dir
-new_kind NewFile = kind.File
-new_kind NewLink = kind.Link
+-- what is made, as a node: of a file, what the rules of the table know of it
+abbrev pub new_kind : CallTable → New → Kind
+new_kind table NewDir = kind.Dir
+new_kind table NewOthers = kind.Dir
+new_kind table NewFile = file_by_rules table.whose
+new_kind table NewLink = kind.Link
+new_kind table NewSock = kind.Known file_type.Sock
+new_kind table NewFifo = kind.Known file_type.Fifo
 
 -- the calls that make a file
 abbrev pub is_some_file : Option Kind → Bool
@@ -285,6 +302,8 @@ is_made_by passes NewDir = passes call.Mkdir
 is_made_by passes NewOthers = passes call.Mkdir
 is_made_by passes NewFile = list_any passes file_makers
 is_made_by passes NewLink = passes call.Symlink
+is_made_by passes NewSock = passes call.Bind
+is_made_by passes NewFifo = passes call.Mknod
 
 -- the covers under which it can come, and what it is
 abbrev pub new_covers : Tree → CallTable → ProcessState → New → List Cover
@@ -292,12 +311,13 @@ new_covers t table h NewDir = dir_covers t h
 new_covers t table h NewOthers = dir_covers t h
 new_covers t table h NewFile = file_covers t table h
 new_covers t table h NewLink = file_covers t table h
+new_covers t table h NewSock = file_covers t table h
+new_covers t table h NewFifo = file_covers t table h
 
-abbrev pub new_object : New → Object
-new_object NewDir = removable_dir
-new_object NewOthers = IsMissing
-new_object NewFile = IsFile
-new_object NewLink = IsLink
+abbrev pub new_object : CallTable → New → Object
+new_object table NewDir = removable_dir
+new_object table NewOthers = IsMissing
+new_object table new = Is (new_kind table new)
 
 abbrev pub is_new_named : New → Call → Bool
 is_new_named NewLink call = keeps_link call
@@ -310,8 +330,8 @@ can_make t table h new = is_made_by (is_allowed_under table h (name_covers t h +
 -- a call can be allowed on it under these covers; a file is made with any mode, so as a program too
 abbrev pub can_allow_new : Tree → CallTable → ProcessState → New → Call → Bool
 can_allow_new t table h NewFile call =
-    is_allowed_under table h (file_covers t table h) IsFile call || starts_under table h (file_covers t table h) call
-can_allow_new t table h new call = is_allowed_under table h (new_covers t table h new) (new_object new) call
+    is_allowed_under table h (file_covers t table h) (new_object table NewFile) call || starts_under table h (file_covers t table h) call
+can_allow_new t table h new call = is_allowed_under table h (new_covers t table h new) (new_object table new) call
 
 abbrev pub is_new_allowed : Tree → CallTable → ProcessState → New → Call → Bool
 is_new_allowed t table h new call = is_new_named new call && can_allow_new t table h new call
@@ -354,7 +374,7 @@ subjects_of t table h item =
     (item.word, item.subject) ∷ map (λ subject. (item.word, subject)) (names_to_free t table h item.subject)
 
 abbrev pub all_new : List New
-all_new = NewDir ∷ NewOthers ∷ NewFile ∷ NewLink ∷ []
+all_new = NewDir ∷ NewOthers ∷ NewFile ∷ NewLink ∷ NewSock ∷ NewFifo ∷ []
 
 abbrev pub ever_line : Tree → CallTable → ProcessState → (Word × Subject) → EverLine
 ever_line t table h about =
@@ -380,6 +400,8 @@ new_word NewDir = codes "dir"
 new_word NewOthers = codes "other"
 new_word NewFile = codes "file"
 new_word NewLink = codes "link"
+new_word NewSock = codes "sock"
+new_word NewFifo = codes "fifo"
 
 abbrev pub thing_text : Tree → Word → Thing → List ℕ
 thing_text t word (Stands subject) = subject_word t subject ++ 32 ∷ printed_path Root word

@@ -7,7 +7,7 @@ use Rattle.pua_policy.specs.States.{ProcessState}
 use Rattle.pua_audit.specs.Reach.{Word}
 use Rattle.pua_objects.specs.Objects.{Item, subject_word}
 use Rattle.pua_objects.specs.Lines.{kind_word}
-use Rattle.pua_ever.specs.Ever.{Thing, Stands, Comes, EverLine, New, NewDir, NewOthers, NewFile, NewLink, new_word, names_to_free}
+use Rattle.pua_ever.specs.Ever.{Thing, Stands, Comes, EverLine, New, NewDir, NewOthers, NewFile, NewLink, NewSock, NewFifo, new_word, names_to_free}
 use Rattle.pua_ever.specs.Ever.{ever_line, new_line, has_ever_calls}
 use Rattle.pua_ever.specs.declared.line.EverLine as given
 use Rattle.pua_ever.specs.declared.line.EverThing.{EverThing}
@@ -32,14 +32,19 @@ new_of made.Dir = NewDir
 new_of made.Others = NewOthers
 new_of made.File = NewFile
 new_of made.Link = NewLink
+new_of made.Sock = NewSock
+new_of made.Fifo = NewFifo
 
 -- and what comes after it, in the order of the lines
 abbrev pub made_left : Option Made → List Left
 made_left None = []
-made_left (Some made.Dir) = Coming NewDir ∷ Coming NewOthers ∷ Coming NewFile ∷ Coming NewLink ∷ []
-made_left (Some made.Others) = Coming NewOthers ∷ Coming NewFile ∷ Coming NewLink ∷ []
-made_left (Some made.File) = Coming NewFile ∷ Coming NewLink ∷ []
-made_left (Some made.Link) = Coming NewLink ∷ []
+made_left (Some made.Dir) =
+    Coming NewDir ∷ Coming NewOthers ∷ Coming NewFile ∷ Coming NewLink ∷ Coming NewSock ∷ Coming NewFifo ∷ []
+made_left (Some made.Others) = Coming NewOthers ∷ Coming NewFile ∷ Coming NewLink ∷ Coming NewSock ∷ Coming NewFifo ∷ []
+made_left (Some made.File) = Coming NewFile ∷ Coming NewLink ∷ Coming NewSock ∷ Coming NewFifo ∷ []
+made_left (Some made.Link) = Coming NewLink ∷ Coming NewSock ∷ Coming NewFifo ∷ []
+made_left (Some made.Sock) = Coming NewSock ∷ Coming NewFifo ∷ []
+made_left (Some made.Fifo) = Coming NewFifo ∷ []
 
 -- the lines of what is to come, but for those without calls
 abbrev pub lines_about : Tree → CallTable → ProcessState → Left → List EverLine

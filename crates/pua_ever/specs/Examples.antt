@@ -1,7 +1,9 @@
 -- Worked rows on what can ever be touched, by the standard table and by OpenBSD's rules, and on where there is no list.
 use Rattle.std.specs.Prelude.{◌≡◌, ◌+◌, ℕ, true, List, [], ◌∷◌, map, Some, None, codes, refl}
 use Rattle.pua_tree.specs.Tree.{Tree, Node, empty_tree}
-use Rattle.pua_tree.specs.declared.node.Kind.TheVariants.{Dir, File, Link, Prog}
+use Rattle.pua_tree.specs.declared.node.Kind.TheVariants.{Dir, File, Link, Prog, Known}
+use Rattle.pua_tree.specs.declared.node.FileType.{FileType}
+use Rattle.pua_tree.specs.declared.node.FileType.TheVariants.{Plain, Sock, Fifo}
 use Rattle.pua_calls.specs.Promises.{rpath, wpath, cpath, dpath, fattr, exec, unix, reading, writing, executing, creating}
 use Rattle.pua_calls.specs.Calls.{CallTable, NameRule, standard_name, standard_pair, standard_table, openbsd_table}
 use Rattle.pua_policy.specs.States.{ProcessState, Filed, new_process, state_after}
@@ -369,14 +371,14 @@ pub record EverRows : Type 0 where
       ∷ codes "dir /a stat,lstat,open-r,chdir"
       ∷ codes "file /a/k stat,lstat,open-r,open-w,open-rw"
       ∷ []
-  -- each of the calls that make a file lets one come by itself
+  -- bind and mknod let a socket and a fifo come by themselves
   pub by_bind : lines_by_openbsd no_cpath_tree unix_process ≡
       codes "dir / stat,lstat,open-r,chdir"
       ∷ codes "other / bind"
       ∷ codes "dir /a stat,lstat,open-r,chdir"
       ∷ codes "other /a bind"
       ∷ codes "file /a/k stat,lstat,open-r,connect"
-      ∷ codes "file new stat,lstat,open-r,connect"
+      ∷ codes "sock new stat,lstat,connect"
       ∷ []
   pub by_mknod : lines_by_openbsd no_cpath_tree dpath_process ≡
       codes "dir / stat,lstat,open-r,chdir"
@@ -384,7 +386,7 @@ pub record EverRows : Type 0 where
       ∷ codes "dir /a stat,lstat,open-r,chdir"
       ∷ codes "other /a mknod"
       ∷ codes "file /a/k stat,lstat,open-r"
-      ∷ codes "file new stat,lstat,open-r"
+      ∷ codes "fifo new stat,lstat,open-r"
       ∷ []
   pub aliases : lines_by_openbsd aliases_tree aliases_process ≡
       codes "dir /mail stat,lstat,open-r,chdir,fchmod,fchown"
@@ -522,6 +524,12 @@ job_tree = record empty_tree {
   next = 3;
 }
 
+-- the same, where the job is a file of a known type
+abbrev typed_job_tree : FileType → Tree
+typed_job_tree type = record job_tree {
+  nodes = (0, directory) ∷ (1, directory) ∷ (2, record { kind = Known type; target = None }) ∷ [];
+}
+
 abbrev job_veils : List (Place × ℕ)
 job_veils = (place.Dir 1, reading + writing + executing + creating) ∷ []
 
@@ -578,6 +586,26 @@ pub record StartedRows : Type 0 where
       ∷ codes "file new stat,lstat,open-r,open-w,open-rw,create,unlink,chmod,exec"
       ∷ codes "link new lstat,readlink,unlink"
       ∷ []
+  -- a plain file is started as one of which no more is known; a fifo or a socket is not, whatever is written to it
+  pub plain_job : lines (typed_job_tree Plain) job_process ≡ lines job_tree job_process
+  pub fifo_job : lines (typed_job_tree Fifo) job_process ≡
+      codes "dir /tmp stat,lstat,open-r,rmdir,chmod,chdir"
+      ∷ codes "other /tmp create,mkdir,symlink"
+      ∷ codes "fifo /tmp/job stat,lstat,open-r,open-w,open-rw,create,unlink,chmod"
+      ∷ codes "dir new stat,lstat,open-r,rmdir,chmod,chdir"
+      ∷ codes "other new create,mkdir,symlink"
+      ∷ codes "file new stat,lstat,open-r,open-w,open-rw,create,unlink,chmod,exec"
+      ∷ codes "link new lstat,readlink,unlink"
+      ∷ []
+  pub sock_job : lines (typed_job_tree Sock) job_process ≡
+      codes "dir /tmp stat,lstat,open-r,rmdir,chmod,chdir"
+      ∷ codes "other /tmp create,mkdir,symlink"
+      ∷ codes "sock /tmp/job stat,lstat,unlink,chmod"
+      ∷ codes "dir new stat,lstat,open-r,rmdir,chmod,chdir"
+      ∷ codes "other new create,mkdir,symlink"
+      ∷ codes "file new stat,lstat,open-r,open-w,open-rw,create,unlink,chmod,exec"
+      ∷ codes "link new lstat,readlink,unlink"
+      ∷ []
   pub no_exec : lines job_tree no_exec_process ≡
       codes "dir /tmp stat,lstat,open-r,rmdir,chmod,chdir"
       ∷ codes "other /tmp create,mkdir,symlink"
@@ -615,6 +643,9 @@ pub record StartedRows : Type 0 where
 pub started_rows : StartedRows
 started_rows = record {
   job = refl;
+  plain_job = refl;
+  fifo_job = refl;
+  sock_job = refl;
   no_exec = refl;
   plain_file = refl;
   mode = refl;

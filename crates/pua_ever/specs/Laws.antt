@@ -3,6 +3,7 @@ use Rattle.std.specs.Prelude.{◌≡◌, ◌⊎◌, ⊤, ◌<◌, ◌≤◌, ◌
 use Rattle.std.specs.List.{Contains}
 use Rattle.pua_tree.specs.Tree.{Tree, WellFormed, Spot, look, kind_at}
 use Rattle.pua_tree.specs.declared.node.Kind.TheVariants as kind
+use Rattle.pua_tree.specs.declared.node.FileType.TheVariants as file_type
 use Rattle.pua_path.specs.Resolution.{resolution_of_text}
 use Rattle.pua_path.specs.declared.errno.Errno.{Errno}
 use Rattle.pua_path.specs.declared.found.Way.{Way}
@@ -32,7 +33,7 @@ use Rattle.pua_script.specs.OpeningLaws.{may_open}
 use Rattle.pua_script.specs.declared.request.Action.TheVariants.{OnPath}
 use Rattle.pua_script.specs.declared.answer.Answer.TheVariants.{Okay}
 use Rattle.pua_objects.specs.Objects.{At, Others, Line, objects, own_way}
-use Rattle.pua_ever.specs.Ever.{NewDir, NewOthers, NewFile, NewLink, Thing, Stands, Comes, EverLine, turning_calls, is_turned_there, ever}
+use Rattle.pua_ever.specs.Ever.{NewDir, NewOthers, NewFile, NewLink, NewSock, NewFifo, may_start_at, Thing, Stands, Comes, EverLine, turning_calls, is_turned_there, ever}
 use Rattle.pua_path.specs.declared.found.Start.{Start}
 
 -- the calls that make a name or take one away need `c`, and so do both names of rename and the new one of link: its old
@@ -71,11 +72,17 @@ pub data IsLineOf (t later : Tree) (h : ProcessState) : Thing → Found → Type
   of_new_dir : {dir : ℕ} {way : Way} →
       t.next ≤ dir → IsLineOf t later h (Comes NewDir) (Whole dir way)
   of_new_file : {dir : ℕ} {name : List ℕ} {node : ℕ} →
-      t.next ≤ node → kind_at later node ≡ Some kind.File →
+      t.next ≤ node → IsTrue (may_start_at (kind_at later node)) →
       IsLineOf t later h (Comes NewFile) (Slot dir name (Some node))
   of_new_link : {dir : ℕ} {name : List ℕ} {node : ℕ} →
       t.next ≤ node → kind_at later node ≡ Some kind.Link →
       IsLineOf t later h (Comes NewLink) (Slot dir name (Some node))
+  of_new_sock : {dir : ℕ} {name : List ℕ} {node : ℕ} →
+      t.next ≤ node → kind_at later node ≡ Some (kind.Known file_type.Sock) →
+      IsLineOf t later h (Comes NewSock) (Slot dir name (Some node))
+  of_new_fifo : {dir : ℕ} {name : List ℕ} {node : ℕ} →
+      t.next ≤ node → kind_at later node ≡ Some (kind.Known file_type.Fifo) →
+      IsLineOf t later h (Comes NewFifo) (Slot dir name (Some node))
   of_new_others : {dir : ℕ} {name : List ℕ} →
       t.next ≤ dir → IsLineOf t later h (Comes NewOthers) (Slot dir name None)
 
@@ -146,7 +153,7 @@ abbrev pub is_turned_found : ProcessState → Found → Bool
 is_turned_found h (Slot dir name node) = is_turned_there h node
 is_turned_found h (Whole dir way) = false
 
--- over a later tree: whatever path names a file on which exec would be allowed to a process, were it a program. It has a
+-- over a later tree: whatever path names a file that may be a plain one, and on which exec would be allowed to a process, were it a program. It has a
 -- line: that of a file of then has exec where it has a call by which the file can come to be a program, and that of a new
 -- file has it in any case. One that a holder of then held open, so that it could be written or its mode be set, has exec too
 pub record IsStartForeseenIn (lines : List EverLine) (t : Tree) (h holder : ProcessState) (later : Tree) (object : Found) : Type 0 where
@@ -166,7 +173,7 @@ abbrev pub ForeseesStartsIn : List EverLine → Tree → CallTable → (now hold
 ForeseesStartsIn lines t table now holder later last =
     (from : Start) (text : List ℕ) (dir : ℕ) (name : List ℕ) (node : ℕ) →
     resolution_of_text later from (ending_of call.Exec) text (last_of call.Exec) ≡ Ok (Slot dir name (Some node)) →
-    kind_at later node ≡ Some kind.File →
+    IsTrue (may_start_at (kind_at later node)) →
     covered_verdict later table last call.Exec (cover later last (Slot dir name (Some node))) IsProg ≡ Allowed →
     IsStartForeseenIn lines t now holder later (Slot dir name (Some node))
 

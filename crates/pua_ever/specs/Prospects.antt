@@ -20,7 +20,7 @@ use Rattle.pua_script.specs.Confinement.{has_c}
 use Rattle.pua_objects.specs.Objects.{At, cover_in}
 use Rattle.pua_objects.specs.declared.item.Subject as about
 use Rattle.pua_objects.specs.declared.item.Subject.TheVariants as subject
-use Rattle.pua_ever.specs.Ever.{can_empty, may_edit, may_link, named_covers}
+use Rattle.pua_ever.specs.Ever.{can_empty, may_edit, may_link, may_start, named_covers}
 use Rattle.pua_ever.specs.Ever.{can_allow, is_ever_allowed, is_turned_held, can_be_freed}
 use Rattle.pua_ever.specs.Movable.{IsMovable}
 use Rattle.pua_ever.specs.declared.prospects.Prospects.{Prospects}
@@ -54,6 +54,12 @@ own_given (subject.Name dir name) object = by object
     by see.Missing = None
     by _ = Some (dir, name.now)
 own_given _ object = None
+
+-- an object is a file that is a plain one or may be
+abbrev pub is_startable : seen.Object → Bool
+is_startable (see.Node kind) = may_start kind
+is_startable see.Missing = false
+is_startable see.Removable = false
 
 -- the calls on an object of a kind at a name, by what covers it now and whether a descriptor can make a program of it
 abbrev pub kind_covers : Tree → CallTable → ProcessState → Cover → Option Kind → List Cover

@@ -437,7 +437,7 @@ fn made_under(made: Made) -> ComesUnder
 {
     match made {
         Made::Dir | Made::Others => ComesUnder::AsDir,
-        Made::File | Made::Link => ComesUnder::AsFile(None),
+        Made::File | Made::Link | Made::Sock | Made::Fifo => ComesUnder::AsFile(None),
     }
 }
 

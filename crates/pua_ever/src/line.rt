@@ -11,14 +11,15 @@ ghost use Rattle.pua_ever.specs.Through.{can_come as comes_by, let_through as le
 use crate::made::Made;
 use pua_calls::Calls;
 use pua_objects::ObjectKind;
-use pua_tree::Kind;
+use pua_tree::{FileType, Kind};
 
 /// What a line is about.
 #[derive(Clone, Copy, PartialEq, Eq)]
 pub enum EverThing {
     /// Something that stands or could stand in the tree now.
     Stands(ObjectKind),
-    /// Whatever can be made: a directory, the further names of such a directory, a file, or a link.
+    /// Whatever can be made: a directory, the further names of such a directory, a file, a link, a
+    /// socket or a fifo.
     Comes(ObjectKind),
 }
 
@@ -41,8 +42,10 @@ fn is_made_by(kind: ObjectKind, calls: Calls) -> bool
         result ≡ comes_by (has calls) about }
 {
     match kind {
-        ObjectKind::Node(Kind::File) => Made::File.is_made_by(calls),
+        ObjectKind::Node(Kind::File | Kind::Known(FileType::Plain)) => Made::File.is_made_by(calls),
         ObjectKind::Node(Kind::Link) => Made::Link.is_made_by(calls),
+        ObjectKind::Node(Kind::Known(FileType::Sock)) => Made::Sock.is_made_by(calls),
+        ObjectKind::Node(Kind::Known(FileType::Fifo)) => Made::Fifo.is_made_by(calls),
         _ => Made::Dir.is_made_by(calls),
     }
 }

@@ -80,10 +80,11 @@ pub enum EverPlace {
 /// no exec of theirs succeeds. What stands or could stand now comes in the order of `list_items`,
 /// each followed by the name at which it stands, if it has one, as a missing one: that has calls if
 /// it has a veil of its own and can come to be free. Last comes what can be made: a directory, its
-/// names, a file and a link. Where `why_refused` has a reason, that is the fault. Else the process
-/// can put no veil any more or has ended, and the only fault is that a growth was refused. Each
-/// veil that is not at a directory is at a name. The veils are asked as by `find_movable`. The list
-/// is complete by the `with_tmppath` of the table by which the process's requests go.
+/// names, a file, a link, a socket and a fifo. Where `why_refused` has a reason, that is the fault.
+/// Else the process can put no veil any more or has ended, and the only fault is that a growth was
+/// refused. Each veil that is not at a directory is at a name. The veils are asked as by
+/// `find_movable`. The list is complete by the `with_tmppath` of the table by which the process's
+/// requests go.
 pub fn list_ever<'t, T: FileTree>(
     alloc: Global,
     tree: &'t T,

@@ -11,7 +11,7 @@ ghost use Rattle.pua_ever.specs.EverLines.{made_left, new_of};
 
 use pua_calls::{Call, Calls, Effect};
 use pua_objects::ObjectKind;
-use pua_tree::Kind;
+use pua_tree::{FileType, Kind};
 
 /// What can be made.
 #[derive(Clone, Copy)]
@@ -24,6 +24,10 @@ pub enum Made {
     File,
     /// A link.
     Link,
+    /// A socket.
+    Sock,
+    /// A fifo.
+    Fifo,
 }
 
 impl Made {
@@ -35,7 +39,9 @@ impl Made {
             Made::Dir => Some(Made::Others),
             Made::Others => Some(Made::File),
             Made::File => Some(Made::Link),
-            Made::Link => None,
+            Made::Link => Some(Made::Sock),
+            Made::Sock => Some(Made::Fifo),
+            Made::Fifo => None,
         }
     }
 
@@ -47,6 +53,8 @@ impl Made {
             Made::Dir | Made::Others => calls.contains(Call::Mkdir),
             Made::File => makes_file(calls),
             Made::Link => calls.contains(Call::Symlink),
+            Made::Sock => calls.contains(Call::Bind),
+            Made::Fifo => calls.contains(Call::Mknod),
         }
     }
 
@@ -59,6 +67,8 @@ impl Made {
             Made::Others => ObjectKind::Other,
             Made::File => ObjectKind::Node(Kind::File),
             Made::Link => ObjectKind::Node(Kind::Link),
+            Made::Sock => ObjectKind::Node(Kind::Known(FileType::Sock)),
+            Made::Fifo => ObjectKind::Node(Kind::Known(FileType::Fifo)),
         }
     }
 }

@@ -9,17 +9,17 @@ ghost use Rattle.pua_calls.specs.CallSets.{has};
 ghost use Rattle.pua_calls.specs.declared.call.Call.{Call};
 ghost use Rattle.pua_policy.specs.States.{ProcessState};
 ghost use Rattle.pua_policy.specs.Objects.{object_seen};
-ghost use Rattle.pua_policy.specs.Verdict.{Object as Judged, IsMissing, object_of_kind};
+ghost use Rattle.pua_policy.specs.Verdict.{Is, Object as Judged, IsMissing, object_of_kind};
 ghost use Rattle.pua_ever.specs.Ever.{is_allowed_under, dir_covers, name_covers, file_covers};
 ghost use Rattle.pua_ever.specs.Ever.{open_covers};
-ghost use Rattle.pua_ever.specs.Movable.{IsMovable};
+ghost use Rattle.pua_ever.specs.Movable.{IsMovable, all_destinations};
 ghost use Rattle.pua_ever.specs.Destinations.{HaveSame};
 
 use crate::destinations::{Destinations, find_destinations};
 use crate::moving::moves_any;
 use pua_calls::{CallTable, Calls};
 use pua_policy::{Cover, Object, Process, judge};
-use pua_tree::{FileTree, Kind, OutOfMemory};
+use pua_tree::{FileTree, FileType, Kind, OutOfMemory};
 use std::alloc::Global;
 
 /// The calls that can ever be allowed on what can be moved now and has no veil of its own that goes
@@ -37,6 +37,8 @@ pub struct Movable {
     /// On what is no directory, by the number of its kind: on a link, on itself or on what it leads
     /// to.
     pub nodes: [Calls; Kind::COUNT],
+    /// On a file that a call makes, as what the rules of the table know it to be.
+    pub new_file: Calls,
     /// On a name where something can be made.
     pub made: Calls,
 }
@@ -98,18 +100,54 @@ pub(crate) fn calls_by_object(process: &Process, table: &CallTable, found: &Dest
     let emptied = on_dirs(process, table, found, Object::Removable);
     let others = on_dirs(process, table, found, Object::Missing);
     let moves = moves_any(process, table, &found.dirs);
-    let dir_node = on_files(process, table, found, moves, Object::Node(Kind::Dir));
-    let file = on_files(process, table, found, moves, Object::Node(Kind::File));
-    let program = on_files(process, table, found, moves, Object::Node(Kind::Prog));
-    let link = on_files(process, table, found, moves, Object::Node(Kind::Link));
+    let nodes = calls_by_kind(process, table, found, moves);
+    let new_file = on_node(process, table, found, moves, table.rules().file());
     let made = on_names(process, table, found);
     Movable {
         dir,
         emptied,
         others,
-        nodes: [dir_node, file, program, link],
+        nodes,
+        new_file,
         made,
     }
+}
+
+/// The calls on what is of each kind, by its number, where anything but a directory can come.
+fn calls_by_kind(
+    process: &Process,
+    table: &CallTable,
+    found: &Destinations,
+    moves: bool,
+) -> [Calls; Kind::COUNT]
+    ensures { (kind : AnyKind) (call : Call) → has (slice_index result (about_kind kind).number)
+        call ≡ is_allowed_under table.now process.now
+        (all_destinations found.now moves) (Is kind) call }
+{
+    [
+        on_node(process, table, found, moves, Kind::Dir),
+        on_node(process, table, found, moves, Kind::File),
+        on_node(process, table, found, moves, Kind::Prog),
+        on_node(process, table, found, moves, Kind::Link),
+        on_node(process, table, found, moves, Kind::Known(FileType::Plain)),
+        on_node(process, table, found, moves, Kind::Known(FileType::Sock)),
+        on_node(process, table, found, moves, Kind::Known(FileType::Fifo)),
+        on_node(process, table, found, moves, Kind::Known(FileType::Dev)),
+    ]
+}
+
+/// The calls on what is of a kind, where anything but a directory can come.
+fn on_node(
+    process: &Process,
+    table: &CallTable,
+    found: &Destinations,
+    moves: bool,
+    kind: Kind,
+) -> Calls
+    ensures { (call : Call) → has result call ≡ is_allowed_under table.now process.now
+        (all_destinations found.now moves) (Is kind) call }
+{
+    on_files(process, table, found, moves, Object::Node(kind))
 }
 
 /// The calls on such an object where a directory can come.

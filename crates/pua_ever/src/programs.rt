@@ -4,9 +4,10 @@ ghost use Rattle.std.specs.Prelude.{◌≡◌, ◌&&◌, ◌||◌};
 ghost use Rattle.std.specs.List.{list_any};
 ghost use Rattle.pua_calls.specs.CallSets.{has};
 ghost use Rattle.pua_calls.specs.declared.call.Call.{Call as AnyCall};
-ghost use Rattle.pua_ever.specs.Ever.{is_exec_call, turning_calls};
+ghost use Rattle.pua_ever.specs.Ever.{is_exec_call, may_start, turning_calls};
 
 use pua_calls::{Call, Calls};
+use pua_tree::{FileType, Kind};
 
 /// The calls on a file that stands, by those on a file and those on a program under the same
 /// covers: exec too where a descriptor or one of them can make it a program.
@@ -30,6 +31,14 @@ pub fn on_new_file(as_file: Calls, as_program: Calls) -> Calls
         return as_file.with(Call::Exec);
     }
     as_file
+}
+
+/// Whether what is of this kind is a plain file or may be one: a kernel starts no other, once it is
+/// written and its mode lets it (execve(2)).
+pub fn may_start(kind: Kind) -> bool
+    ensures { result ≡ may_start kind }
+{
+    matches!(kind, Kind::File | Kind::Known(FileType::Plain))
 }
 
 /// Whether one of the calls on a file writes it or sets its mode.

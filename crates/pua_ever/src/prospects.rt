@@ -27,19 +27,19 @@ ghost use Rattle.pua_ever.specs.Ever.{is_turned_there, named_covers};
 ghost use Rattle.pua_ever.specs.EverLines.{new_of};
 ghost use Rattle.pua_ever.specs.Laws.{EditsNeedC};
 ghost use Rattle.pua_ever.specs.Prospects.{IsProspects, AreOnFreed, IsTurnedSet, own_given};
-ghost use Rattle.pua_ever.specs.Prospects.{kind_allowed, kind_covers};
+ghost use Rattle.pua_ever.specs.Prospects.{is_startable, kind_allowed, kind_covers};
 
 use crate::destinations::{find_destinations, has_c};
 use crate::made::Made;
 use crate::movable::{Movable, calls_by_object};
 use crate::moving::{can_move, may_any};
-use crate::programs::{on_file, on_new_file};
+use crate::programs::{may_start, on_file, on_new_file};
 use crate::turned::turned_nodes;
 use pua_calls::{Call, CallTable, Calls};
 use pua_objects::{Item, Subject};
 use pua_path::Last;
 use pua_policy::{Cover, Object, Place, Process, judge};
-use pua_tree::{FileTree, Kind, Name, NodeId, OutOfMemory};
+use pua_tree::{FileTree, FileType, Kind, Name, NodeId, OutOfMemory};
 use std::alloc::Global;
 use std::collections::BTreeSet;
 
@@ -211,7 +211,7 @@ impl Prospects {
             (Some kind)) call }
     {
         let calls = self.on_seen(process, table, &item.cover, item.object);
-        if item.object != Object::Node(Kind::File) {
+        if !is_startable(item.object) {
             return calls;
         }
         let as_program = self.on_seen(process, table, &item.cover, Object::Node(Kind::Prog));
@@ -283,11 +283,10 @@ impl Prospects {
         match made {
             Made::Dir => self.movable.emptied,
             Made::Others => self.movable.others,
-            Made::File => on_new_file(
-                self.movable.on_node(Kind::File),
-                self.movable.on_node(Kind::Prog),
-            ),
+            Made::File => on_new_file(self.movable.new_file, self.movable.on_node(Kind::Prog)),
             Made::Link => self.movable.on_node(Kind::Link).keeping(),
+            Made::Sock => self.movable.on_node(Kind::Known(FileType::Sock)),
+            Made::Fifo => self.movable.on_node(Kind::Known(FileType::Fifo)),
         }
     }
 
@@ -324,6 +323,16 @@ impl Prospects {
         } else {
             object
         }
+    }
+}
+
+/// Whether an object is a file that is a plain one or may be.
+fn is_startable(object: Object) -> bool
+    ensures { result ≡ is_startable object }
+{
+    match object {
+        Object::Node(kind) => may_start(kind),
+        Object::Missing | Object::Removable => false,
     }
 }
 

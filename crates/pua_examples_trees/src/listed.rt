@@ -114,5 +114,6 @@ fn kind_word(kind: Kind) -> &'static str {
         Kind::File => "file",
         Kind::Prog => "prog",
         Kind::Link => "link",
+        Kind::Known(_) => kind.word(),
     }
 }

@@ -9,4 +9,4 @@ pub use Rattle.pua_how.proofs.Lived.{shown_lives}
 pub use Rattle.pua_how.proofs.Unlaid.{nothing_comes}
 -- the names of a line lead to what it is about, and what they mean by its kind is that alone
 pub use Rattle.pua_how.proofs.NamesLeadToThing.{IsDirBy, IsPlaced, shown_placed, spot_by, spot_in}
-pub use Rattle.pua_how.proofs.Means.{kind_is, meant, node_kind}
+pub use Rattle.pua_how.proofs.Means.{by_its_word, meant, node_kind}

@@ -4,6 +4,7 @@ use Rattle.std.specs.List.{Contains, list_any}
 use Rattle.std.specs.Prelude.{◌&&◌, ◌||◌, filter, is_some, option_and_then, unwrap_or}
 use Rattle.pua_tree.specs.Tree.{Tree, WellFormed, is_dir, look}
 use Rattle.pua_tree.specs.declared.node.Kind.TheVariants as node
+use Rattle.pua_tree.specs.declared.node.FileType.TheVariants.{Plain, Sock, Fifo, Dev}
 use Rattle.pua_tree.proofs.ForCallers.{None≢Some, is_living_dir, row_says, same_Some, sound_from}
 use Rattle.pua_policy.specs.States.{ProcessState, perms_kept}
 use Rattle.pua_policy.specs.declared.place.Place.TheVariants as place
@@ -11,7 +12,7 @@ use Rattle.pua_calls.specs.declared.call.Call.{Call}
 use Rattle.pua_objects.specs.declared.kind.ObjectKind.{ObjectKind}
 use Rattle.pua_objects.specs.declared.kind.ObjectKind.TheVariants as kind
 use Rattle.pua_objects.proofs.ForCallers.{Among, among_contained, among_either, filter_among}
-use Rattle.pua_ever.specs.Ever.{EverLine, Thing, Stands, Comes, NewDir, NewOthers, NewFile, NewLink}
+use Rattle.pua_ever.specs.Ever.{EverLine, Thing, Stands, Comes, NewDir, NewOthers, NewFile, NewLink, NewSock, NewFifo}
 use Rattle.pua_ever.proofs.ForCallers.{below_next}
 use Rattle.pua_how.specs.PathQuestion.{PathQuestion, Standing, Making, may_be_of, named_at, own_name, standing_at, targets_asked, targets_at, targets_by, targets_in}
 use Rattle.pua_how.specs.PathQuestion.{targets_new, targets_of}
@@ -99,7 +100,9 @@ module _ (t : Tree) (h : ProcessState) (well : WellFormed t) where
   asked_given last above Making thing (inr (inl e)) = subst (IsGiven t) e above
   asked_given last above Making thing (inr (inr (inl e))) = subst (IsGiven t) e above
   asked_given last above Making thing (inr (inr (inr (inl e)))) = subst (IsGiven t) e above
-  asked_given last above Making thing (inr (inr (inr (inr a)))) = absurd a
+  asked_given last above Making thing (inr (inr (inr (inr (inl e))))) = subst (IsGiven t) e above
+  asked_given last above Making thing (inr (inr (inr (inr (inr (inl e)))))) = subst (IsGiven t) e above
+  asked_given last above Making thing (inr (inr (inr (inr (inr (inr a)))))) = absurd a
 
   -- each thing that may be meant was given, or is made after all that lives
   pub all_given : (last : ℕ) → IsLast t last → (asking : PathQuestion) (kind : Option ObjectKind) (thing : Target) →
@@ -117,6 +120,8 @@ module _ (last other : ℕ) where
   about_directory (Comes NewOthers) = refl
   about_directory (Comes NewFile) = refl
   about_directory (Comes NewLink) = refl
+  about_directory (Comes NewSock) = refl
+  about_directory (Comes NewFifo) = refl
 
   about_others : (thing : Thing) → is_about (target.NewOthers last) thing ≡ is_about (target.NewOthers other) thing
   about_others (Stands subject) = refl
@@ -124,6 +129,8 @@ module _ (last other : ℕ) where
   about_others (Comes NewOthers) = refl
   about_others (Comes NewFile) = refl
   about_others (Comes NewLink) = refl
+  about_others (Comes NewSock) = refl
+  about_others (Comes NewFifo) = refl
 
   about_file : (thing : Thing) → is_about (target.NewFile last) thing ≡ is_about (target.NewFile other) thing
   about_file (Stands subject) = refl
@@ -131,6 +138,8 @@ module _ (last other : ℕ) where
   about_file (Comes NewOthers) = refl
   about_file (Comes NewFile) = refl
   about_file (Comes NewLink) = refl
+  about_file (Comes NewSock) = refl
+  about_file (Comes NewFifo) = refl
 
   about_link : (thing : Thing) → is_about (target.NewLink last) thing ≡ is_about (target.NewLink other) thing
   about_link (Stands subject) = refl
@@ -138,6 +147,26 @@ module _ (last other : ℕ) where
   about_link (Comes NewOthers) = refl
   about_link (Comes NewFile) = refl
   about_link (Comes NewLink) = refl
+  about_link (Comes NewSock) = refl
+  about_link (Comes NewFifo) = refl
+
+  about_sock : (thing : Thing) → is_about (target.NewSock last) thing ≡ is_about (target.NewSock other) thing
+  about_sock (Stands subject) = refl
+  about_sock (Comes NewDir) = refl
+  about_sock (Comes NewOthers) = refl
+  about_sock (Comes NewFile) = refl
+  about_sock (Comes NewLink) = refl
+  about_sock (Comes NewSock) = refl
+  about_sock (Comes NewFifo) = refl
+
+  about_fifo : (thing : Thing) → is_about (target.NewFifo last) thing ≡ is_about (target.NewFifo other) thing
+  about_fifo (Stands subject) = refl
+  about_fifo (Comes NewDir) = refl
+  about_fifo (Comes NewOthers) = refl
+  about_fifo (Comes NewFile) = refl
+  about_fifo (Comes NewLink) = refl
+  about_fifo (Comes NewSock) = refl
+  about_fifo (Comes NewFifo) = refl
 
   module _ (lines : List EverLine) (call : Call) where
     alike : (a b : Target) → ((thing : Thing) → is_about a thing ≡ is_about b thing) → is_listed lines a call ≡ is_listed lines b call
@@ -152,13 +181,19 @@ module _ (last other : ℕ) where
         alike (target.NewDirectory last) (target.NewDirectory other) about_directory i
         || (alike (target.NewOthers last) (target.NewOthers other) about_others i
         || (alike (target.NewFile last) (target.NewFile other) about_file i
-        || (alike (target.NewLink last) (target.NewLink other) about_link i || false)))
+        || (alike (target.NewLink last) (target.NewLink other) about_link i
+        || (alike (target.NewSock last) (target.NewSock other) about_sock i
+        || (alike (target.NewFifo last) (target.NewFifo other) about_fifo i || false)))))
     new_listed t (Some (kind.Node node.Dir)) = λ i. alike (target.NewDirectory last) (target.NewDirectory other) about_directory i || false
     new_listed t (Some kind.Other) = λ i. alike (target.NewOthers last) (target.NewOthers other) about_others i || false
     new_listed t (Some (kind.Node node.File)) = λ i. alike (target.NewFile last) (target.NewFile other) about_file i || false
     new_listed t (Some (kind.Node node.Link)) = λ i. alike (target.NewLink last) (target.NewLink other) about_link i || false
     new_listed t (Some kind.Missing) = refl
     new_listed t (Some (kind.Node node.Prog)) = refl
+    new_listed t (Some (kind.Node (node.Known Plain))) = λ i. alike (target.NewFile last) (target.NewFile other) about_file i || false
+    new_listed t (Some (kind.Node (node.Known Sock))) = λ i. alike (target.NewSock last) (target.NewSock other) about_sock i || false
+    new_listed t (Some (kind.Node (node.Known Fifo))) = λ i. alike (target.NewFifo last) (target.NewFifo other) about_fifo i || false
+    new_listed t (Some (kind.Node (node.Known Dev))) = refl
 
     pub listed_alike : (t : Tree) (h : ProcessState) (asking : PathQuestion) (kind : Option ObjectKind) →
         any_listed (targets_of t h last asking kind) ≡ any_listed (targets_of t h other asking kind)

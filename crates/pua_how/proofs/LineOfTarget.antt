@@ -1,5 +1,5 @@
 -- What is asked about, and the line of the list for ever that is about it.
-use Rattle.std.proofs.Common.{◌≡◌, ℕ, ◌<◌, ◌≤◌, true, List, refl, sym, ap, ◌∙◌, arith}
+use Rattle.std.proofs.Common.{◌≡◌, ℕ, ◌<◌, ◌≤◌, Bool, false, true, List, refl, sym, ap, ◌∙◌, arith}
 use Rattle.std.proofs.Common.{Option, Some, None}
 use Rattle.std.proofs.lemmas.Bool.{and_parts, and_from, eqb-true, eq-eqb, false≢true, ltb-true}
 use Rattle.std.specs.Prelude.{◌==◌, ◌&&◌, nat_lt, is_some, is_none, option_map}
@@ -8,6 +8,7 @@ use Rattle.pua_tree.specs.Names.{same_bytes}
 use Rattle.pua_tree.specs.Tree.{Tree, WellFormed, Node, is_dir, is_dir_kind, is_living, kind_at, node_at}
 use Rattle.pua_tree.specs.declared.node.Kind.{Kind}
 use Rattle.pua_tree.specs.declared.node.Kind.TheVariants as kind
+use Rattle.pua_tree.specs.declared.node.FileType.TheVariants.{Plain, Sock, Fifo, Dev}
 use Rattle.pua_tree.proofs.ForCallers.{None≢Some, Some≢None, row_says, sound_from}
 use Rattle.pua_path.specs.Fits.{is_link_kind}
 use Rattle.pua_path.specs.declared.found.Found.{Found}
@@ -19,9 +20,9 @@ use Rattle.pua_policy.specs.declared.place.Place.{Place}
 use Rattle.pua_policy.specs.declared.place.Place.TheVariants as place
 use Rattle.pua_objects.proofs.ForCallers.{among_contained}
 use Rattle.pua_ever.proofs.ForCallers.{any_among}
-use Rattle.pua_ever.specs.Ever.{EverLine, Thing}
-use Rattle.pua_ever.specs.Laws.{IsLineOf, of_dir, of_row, of_name, of_others, of_new_dir, of_new_file, of_new_link, of_new_others}
-use Rattle.pua_how.specs.Targets.{is_of, is_about, is_file_kind, IsLast, IsGiven, has_call, line_has, is_listed}
+use Rattle.pua_ever.specs.Ever.{EverLine, Thing, may_start_at}
+use Rattle.pua_ever.specs.Laws.{IsLineOf, of_dir, of_row, of_name, of_others, of_new_dir, of_new_file, of_new_link, of_new_sock, of_new_fifo, of_new_others}
+use Rattle.pua_how.specs.Targets.{is_of, is_about, is_sock_kind, is_fifo_kind, IsLast, IsGiven, has_call, line_has, is_listed}
 use Rattle.pua_how.specs.declared.target.Target.{Target}
 use Rattle.pua_how.specs.declared.target.Target.TheVariants as target
 use Rattle.pua_how.proofs.Lived.{LivesThing}
@@ -68,11 +69,22 @@ none_some : (o : Option ℕ) → o ≡ None → is_some o ≡ true → ⊥
 none_some None is some = false≢true some
 none_some (Some other) is some = Some≢None other is
 
-file_no_link : (o : Option Kind) → o ≡ Some kind.Link → is_file_kind o ≡ true → ⊥
-file_no_link o is file = false≢true (sym (ap is_file_kind is) ∙ file)
+-- what is of one kind is of no other
+apart : (test : Option Kind → Bool) (one : Kind) (o : Option Kind) → o ≡ Some one → test (Some one) ≡ false → test o ≡ true → ⊥
+apart test one o is other so = false≢true (sym (ap test is ∙ other) ∙ so)
 
-link_no_file : (o : Option Kind) → o ≡ Some kind.File → is_link_kind o ≡ true → ⊥
-link_no_file o is link = false≢true (sym (ap is_link_kind is) ∙ link)
+-- nor is a file that may be a plain one
+file_apart : (o : Option Kind) → may_start_at o ≡ true →
+    (is_link_kind o ≡ false) × (is_sock_kind o ≡ false) × (is_fifo_kind o ≡ false)
+file_apart None e = absurd (false≢true e)
+file_apart (Some kind.File) e = (refl, refl, refl)
+file_apart (Some (kind.Known Plain)) e = (refl, refl, refl)
+file_apart (Some (kind.Known Sock)) e = absurd (false≢true e)
+file_apart (Some (kind.Known Fifo)) e = absurd (false≢true e)
+file_apart (Some (kind.Known Dev)) e = absurd (false≢true e)
+file_apart (Some kind.Dir) e = absurd (false≢true e)
+file_apart (Some kind.Prog) e = absurd (false≢true e)
+file_apart (Some kind.Link) e = absurd (false≢true e)
 
 -- the line of what a path named is about what was asked, if that is what it named
 pub line_about : (t later : Tree) (h : ProcessState) → WellFormed t → (asked : Target) → IsGiven t asked → (thing : Thing) →
@@ -96,6 +108,10 @@ line_about t later h well (target.Node asked) given thing lives (Slot dir name (
 line_about t later h well (target.Node asked) given thing lives (Slot dir name (Some node)) (of_new_file new kinds) e =
     absurd (given_is asked node t.next given new e)
 line_about t later h well (target.Node asked) given thing lives (Slot dir name (Some node)) (of_new_link new kinds) e =
+    absurd (given_is asked node t.next given new e)
+line_about t later h well (target.Node asked) given thing lives (Slot dir name (Some node)) (of_new_sock new kinds) e =
+    absurd (given_is asked node t.next given new e)
+line_about t later h well (target.Node asked) given thing lives (Slot dir name (Some node)) (of_new_fifo new kinds) e =
     absurd (given_is asked node t.next given new e)
 line_about t later h well (target.Name asked asked_name) given thing lives (Whole dir way) line e = absurd (false≢true e)
 line_about t later h well (target.Name asked asked_name) given thing lives (Slot dir name (Some node)) line e = absurd (false≢true e)
@@ -123,14 +139,44 @@ line_about t later h well (target.NewFile last) given thing lives (Slot dir name
     absurd (node_is t last node (row_says t (sound_from t well) row node at).2 given (and_parts (nat_lt last node) _ e).0)
 line_about t later h well (target.NewFile last) given thing lives (Slot dir name (Some node)) (of_new_file new kinds) e = refl
 line_about t later h well (target.NewFile last) given thing lives (Slot dir name (Some node)) (of_new_link new kinds) e =
-    absurd (file_no_link (kind_at later node) kinds (and_parts (nat_lt last node) _ e).1)
+    absurd (apart may_start_at kind.Link (kind_at later node) kinds refl (and_parts (nat_lt last node) _ e).1)
+line_about t later h well (target.NewFile last) given thing lives (Slot dir name (Some node)) (of_new_sock new kinds) e =
+    absurd (apart may_start_at (kind.Known Sock) (kind_at later node) kinds refl (and_parts (nat_lt last node) _ e).1)
+line_about t later h well (target.NewFile last) given thing lives (Slot dir name (Some node)) (of_new_fifo new kinds) e =
+    absurd (apart may_start_at (kind.Known Fifo) (kind_at later node) kinds refl (and_parts (nat_lt last node) _ e).1)
 line_about t later h well (target.NewLink last) given thing lives (Whole dir way) line e = absurd (false≢true e)
 line_about t later h well (target.NewLink last) given thing lives (Slot dir name None) line e = absurd (false≢true e)
 line_about t later h well (target.NewLink last) given thing lives (Slot dir name (Some node)) (of_row row at there) e =
     absurd (node_is t last node (row_says t (sound_from t well) row node at).2 given (and_parts (nat_lt last node) _ e).0)
-line_about t later h well (target.NewLink last) given thing lives (Slot dir name (Some node)) (of_new_link new kinds) e = refl
 line_about t later h well (target.NewLink last) given thing lives (Slot dir name (Some node)) (of_new_file new kinds) e =
-    absurd (link_no_file (kind_at later node) kinds (and_parts (nat_lt last node) _ e).1)
+    absurd (false≢true (sym (file_apart (kind_at later node) kinds).0 ∙ (and_parts (nat_lt last node) _ e).1))
+line_about t later h well (target.NewLink last) given thing lives (Slot dir name (Some node)) (of_new_link new kinds) e = refl
+line_about t later h well (target.NewLink last) given thing lives (Slot dir name (Some node)) (of_new_sock new kinds) e =
+    absurd (apart is_link_kind (kind.Known Sock) (kind_at later node) kinds refl (and_parts (nat_lt last node) _ e).1)
+line_about t later h well (target.NewLink last) given thing lives (Slot dir name (Some node)) (of_new_fifo new kinds) e =
+    absurd (apart is_link_kind (kind.Known Fifo) (kind_at later node) kinds refl (and_parts (nat_lt last node) _ e).1)
+line_about t later h well (target.NewSock last) given thing lives (Whole dir way) line e = absurd (false≢true e)
+line_about t later h well (target.NewSock last) given thing lives (Slot dir name None) line e = absurd (false≢true e)
+line_about t later h well (target.NewSock last) given thing lives (Slot dir name (Some node)) (of_row row at there) e =
+    absurd (node_is t last node (row_says t (sound_from t well) row node at).2 given (and_parts (nat_lt last node) _ e).0)
+line_about t later h well (target.NewSock last) given thing lives (Slot dir name (Some node)) (of_new_file new kinds) e =
+    absurd (false≢true (sym (file_apart (kind_at later node) kinds).1 ∙ (and_parts (nat_lt last node) _ e).1))
+line_about t later h well (target.NewSock last) given thing lives (Slot dir name (Some node)) (of_new_link new kinds) e =
+    absurd (apart is_sock_kind kind.Link (kind_at later node) kinds refl (and_parts (nat_lt last node) _ e).1)
+line_about t later h well (target.NewSock last) given thing lives (Slot dir name (Some node)) (of_new_sock new kinds) e = refl
+line_about t later h well (target.NewSock last) given thing lives (Slot dir name (Some node)) (of_new_fifo new kinds) e =
+    absurd (apart is_sock_kind (kind.Known Fifo) (kind_at later node) kinds refl (and_parts (nat_lt last node) _ e).1)
+line_about t later h well (target.NewFifo last) given thing lives (Whole dir way) line e = absurd (false≢true e)
+line_about t later h well (target.NewFifo last) given thing lives (Slot dir name None) line e = absurd (false≢true e)
+line_about t later h well (target.NewFifo last) given thing lives (Slot dir name (Some node)) (of_row row at there) e =
+    absurd (node_is t last node (row_says t (sound_from t well) row node at).2 given (and_parts (nat_lt last node) _ e).0)
+line_about t later h well (target.NewFifo last) given thing lives (Slot dir name (Some node)) (of_new_file new kinds) e =
+    absurd (false≢true (sym (file_apart (kind_at later node) kinds).2 ∙ (and_parts (nat_lt last node) _ e).1))
+line_about t later h well (target.NewFifo last) given thing lives (Slot dir name (Some node)) (of_new_link new kinds) e =
+    absurd (apart is_fifo_kind kind.Link (kind_at later node) kinds refl (and_parts (nat_lt last node) _ e).1)
+line_about t later h well (target.NewFifo last) given thing lives (Slot dir name (Some node)) (of_new_sock new kinds) e =
+    absurd (apart is_fifo_kind (kind.Known Sock) (kind_at later node) kinds refl (and_parts (nat_lt last node) _ e).1)
+line_about t later h well (target.NewFifo last) given thing lives (Slot dir name (Some node)) (of_new_fifo new kinds) e = refl
 
 -- only the veils of a process are asked
 pub same_veils_same : (t : Tree) (a b : ProcessState) → ((at : Place) → perms_kept a at ≡ perms_kept b at) → (asked : Target) (object : Found) →
@@ -160,3 +206,9 @@ same_veils_same t a b same (target.NewFile last) (Slot dir name (Some node)) = r
 same_veils_same t a b same (target.NewLink last) (Whole dir way) = refl
 same_veils_same t a b same (target.NewLink last) (Slot dir name None) = refl
 same_veils_same t a b same (target.NewLink last) (Slot dir name (Some node)) = refl
+same_veils_same t a b same (target.NewSock last) (Whole dir way) = refl
+same_veils_same t a b same (target.NewSock last) (Slot dir name None) = refl
+same_veils_same t a b same (target.NewSock last) (Slot dir name (Some node)) = refl
+same_veils_same t a b same (target.NewFifo last) (Whole dir way) = refl
+same_veils_same t a b same (target.NewFifo last) (Slot dir name None) = refl
+same_veils_same t a b same (target.NewFifo last) (Slot dir name (Some node)) = refl

@@ -5,6 +5,7 @@ use Rattle.std.specs.Prelude.{◌==◌, filter, if◌then◌else◌, is_some, op
 use Rattle.pua_tree.specs.Tree.{Node, Tree, is_dir, is_dir_kind, kind_at, look, node_at}
 use Rattle.pua_tree.specs.declared.node.Kind.{Kind}
 use Rattle.pua_tree.specs.declared.node.Kind.TheVariants as node
+use Rattle.pua_tree.specs.declared.node.FileType.TheVariants.{Plain, Sock, Fifo, Dev}
 use Rattle.pua_path.specs.declared.found.Way.{Way}
 use Rattle.pua_path.specs.declared.found.Way.TheVariants.{Named, Top}
 use Rattle.pua_path.specs.declared.found.Found.TheVariants.{Whole, Slot}
@@ -16,8 +17,8 @@ use Rattle.pua_objects.specs.Lines.{kind_word}
 use Rattle.pua_objects.specs.Objects.{At, Others}
 use Rattle.pua_objects.specs.declared.kind.ObjectKind.{ObjectKind}
 use Rattle.pua_objects.specs.declared.kind.ObjectKind.TheVariants as kind
-use Rattle.pua_ever.specs.Ever.{Thing, Stands, Comes, New, NewDir, NewOthers, NewFile, NewLink, new_word}
-use Rattle.pua_how.specs.PathQuestion.{question_by, directory_at_name, is_of_kind, own_name, targets_at, targets_by, targets_in, targets_new}
+use Rattle.pua_ever.specs.Ever.{Thing, Stands, Comes, New, NewDir, NewOthers, NewFile, NewLink, NewSock, NewFifo, new_word}
+use Rattle.pua_how.specs.PathQuestion.{question_by, directory_at_name, is_of_kind, is_same_kind, own_name, targets_at, targets_by, targets_in, targets_new}
 use Rattle.pua_how.specs.PathQuestion.{targets_of, thing_word}
 use Rattle.pua_ever.specs.ShownForEver.{shown_lasting}
 use Rattle.pua_ever.specs.Through.{ever_lasting}
@@ -29,37 +30,92 @@ use Rattle.pua_how.proofs.NamesLeadToThing.{IsDirBy, IsPlaced, lasting_placed, s
 
 -- ---- kinds
 
--- a kind by the first letter of its word
+-- a kind by the third letter of its word, which all have apart; of a plain file, what it has in common with any file
 abbrev kind_by : ℕ → ObjectKind
 kind_by letter =
-    if letter == 100 then kind.Node node.Dir
-    else (if letter == 102 then kind.Node node.File
-    else (if letter == 112 then kind.Node node.Prog
-    else (if letter == 108 then kind.Node node.Link
-    else (if letter == 109 then kind.Missing else kind.Other))))
+    if letter == 114 then kind.Node node.Dir
+    else (if letter == 108 then kind.Node node.File
+    else (if letter == 111 then kind.Node node.Prog
+    else (if letter == 110 then kind.Node node.Link
+    else (if letter == 99 then kind.Node (node.Known Sock)
+    else (if letter == 102 then kind.Node (node.Known Fifo)
+    else (if letter == 118 then kind.Node (node.Known Dev)
+    else (if letter == 115 then kind.Missing else kind.Other)))))))
 
 abbrev kind_of_word : List ℕ → ObjectKind
-kind_of_word [] = kind.Other
-kind_of_word (letter ∷ more) = kind_by letter
+kind_of_word (first ∷ second ∷ third ∷ more) = kind_by third
+kind_of_word _ = kind.Other
 
-its_kind : (one : ObjectKind) → kind_of_word (kind_word one) ≡ one
+abbrev by_word : ObjectKind → ObjectKind
+by_word (kind.Node (node.Known Plain)) = kind.Node node.File
+by_word one = one
+
+its_kind : (one : ObjectKind) → kind_of_word (kind_word one) ≡ by_word one
 its_kind (kind.Node node.Dir) = refl
 its_kind (kind.Node node.File) = refl
 its_kind (kind.Node node.Prog) = refl
 its_kind (kind.Node node.Link) = refl
+its_kind (kind.Node (node.Known Plain)) = refl
+its_kind (kind.Node (node.Known Sock)) = refl
+its_kind (kind.Node (node.Known Fifo)) = refl
+its_kind (kind.Node (node.Known Dev)) = refl
 its_kind kind.Missing = refl
 its_kind kind.Other = refl
 
--- kinds of one word are one
-pub kind_is : (one other : ObjectKind) → kind_word one ≡ kind_word other → one ≡ other
-kind_is one other same = sym (its_kind one) ∙ ap kind_of_word same ∙ its_kind other
+same_plain : (o : Option Kind) → is_same_kind node.File o ≡ is_same_kind (node.Known Plain) o
+same_plain None = refl
+same_plain (Some node.Dir) = refl
+same_plain (Some node.File) = refl
+same_plain (Some node.Prog) = refl
+same_plain (Some node.Link) = refl
+same_plain (Some (node.Known Plain)) = refl
+same_plain (Some (node.Known Sock)) = refl
+same_plain (Some (node.Known Fifo)) = refl
+same_plain (Some (node.Known Dev)) = refl
+
+-- what is of a plain file's kind is of a file's
+plain_too : (t : Tree) (thing : Target) → is_of_kind t (kind.Node node.File) thing ≡ is_of_kind t (kind.Node (node.Known Plain)) thing
+plain_too t (target.Directory asked) = refl
+plain_too t (target.Others asked) = refl
+plain_too t (target.Node asked) = same_plain (kind_at t asked)
+plain_too t (target.Name asked name) = refl
+plain_too t (target.NewDirectory last) = refl
+plain_too t (target.NewOthers last) = refl
+plain_too t (target.NewFile last) = refl
+plain_too t (target.NewLink last) = refl
+plain_too t (target.NewSock last) = refl
+plain_too t (target.NewFifo last) = refl
+
+-- what is so of a file as of a plain one is so of all kinds of one word alike
+pub by_its_word : (A : Type 0) (f : ObjectKind → A) → f (kind.Node node.File) ≡ f (kind.Node (node.Known Plain)) → (one other : ObjectKind) →
+    kind_word one ≡ kind_word other → f one ≡ f other
+by_its_word A f plain one other same =
+    sym (its one) ∙ ap f (sym (its_kind one) ∙ ap kind_of_word same ∙ its_kind other) ∙ its other
+  where
+    its : (k : ObjectKind) → f (by_word k) ≡ f k
+    its (kind.Node node.Dir) = refl
+    its (kind.Node node.File) = refl
+    its (kind.Node node.Prog) = refl
+    its (kind.Node node.Link) = refl
+    its (kind.Node (node.Known Plain)) = plain
+    its (kind.Node (node.Known Sock)) = refl
+    its (kind.Node (node.Known Fifo)) = refl
+    its (kind.Node (node.Known Dev)) = refl
+    its kind.Missing = refl
+    its kind.Other = refl
+
+-- by kinds of one word the same is meant
+pub same_meant : (t : Tree) (one other : ObjectKind) → kind_word one ≡ kind_word other → (things : List Target) →
+    filter (is_of_kind t one) things ≡ filter (is_of_kind t other) things
+same_meant t one other same things =
+    by_its_word (List Target) (λ k. filter (is_of_kind t k) things) (λ i. filter (λ thing. plain_too t thing i) things) one other same
 
 -- what lives has a kind, which its word tells
 pub node_kind : (one : ObjectKind) (o : Option Node) → is_some o ≡ true →
     kind_word one ≡ object_word (object_of_kind (option_map (λ (n : Node). n.kind) o)) →
-    (own : Kind) × (option_map (λ (n : Node). n.kind) o ≡ Some own) × (one ≡ kind.Node own)
+    (own : Kind) × (option_map (λ (n : Node). n.kind) o ≡ Some own) × (kind_word one ≡ kind_word (kind.Node own))
 node_kind one None lives told = absurd (false≢true lives)
-node_kind one (Some n) lives told = (n.kind, refl, kind_is one (kind.Node n.kind) told)
+node_kind one (Some n) lives told = (n.kind, refl, told)
 
 -- ---- what is meant
 
@@ -122,21 +178,31 @@ module _ (t : Tree) (h : ProcessState) where
   of_node x node.File at other = rw at refl
   of_node x node.Prog at other = rw at refl
   of_node x node.Link at other = rw at refl
+  of_node x (node.Known Plain) at other = rw at refl
+  of_node x (node.Known Sock) at other = rw at refl
+  of_node x (node.Known Fifo) at other = rw at refl
+  of_node x (node.Known Dev) at other = rw at refl
 
   of_name : (own : Kind) (dir : ℕ) (name : List ℕ) → is_of_kind t (kind.Node own) (target.Name dir name) ≡ false
   of_name node.Dir dir name = refl
   of_name node.File dir name = refl
   of_name node.Prog dir name = refl
   of_name node.Link dir name = refl
+  of_name (node.Known Plain) dir name = refl
+  of_name (node.Known Sock) dir name = refl
+  of_name (node.Known Fifo) dir name = refl
+  of_name (node.Known Dev) dir name = refl
 
   abbrev NewMeans : ℕ → New → ObjectKind → Type 0
   NewMeans last new one = filter (is_of_kind t one) (targets_new last) ≡ target_about last (Comes new) ∷ []
 
   new_meant : (last : ℕ) (new : New) (one : ObjectKind) → kind_word one ≡ new_word new → NewMeans last new one
-  new_meant last NewDir one told = subst (NewMeans last NewDir) (sym (kind_is one (kind.Node node.Dir) told)) refl
-  new_meant last NewOthers one told = subst (NewMeans last NewOthers) (sym (kind_is one kind.Other told)) refl
-  new_meant last NewFile one told = subst (NewMeans last NewFile) (sym (kind_is one (kind.Node node.File) told)) refl
-  new_meant last NewLink one told = subst (NewMeans last NewLink) (sym (kind_is one (kind.Node node.Link) told)) refl
+  new_meant last NewDir one told = same_meant t one (kind.Node node.Dir) told (targets_new last)
+  new_meant last NewOthers one told = same_meant t one kind.Other told (targets_new last)
+  new_meant last NewFile one told = same_meant t one (kind.Node node.File) told (targets_new last)
+  new_meant last NewLink one told = same_meant t one (kind.Node node.Link) told (targets_new last)
+  new_meant last NewSock one told = same_meant t one (kind.Node (node.Known Sock)) told (targets_new last)
+  new_meant last NewFifo one told = same_meant t one (kind.Node (node.Known Fifo)) told (targets_new last)
 
   -- ---- what a line is about
 
@@ -175,18 +241,16 @@ module _ (t : Tree) (h : ProcessState) where
   pub meant : (word : Word) (thing : Thing) → IsPlaced t h word thing → (one : ObjectKind) → kind_word one ≡ thing_word t thing → (last : ℕ) →
       targets_of t h last (question_by word thing) (Some one) ≡ target_about last thing ∷ []
   meant word (Stands (At (Whole dir way))) placed one told last =
-      subst (λ (k : ObjectKind). Means k word (target.Directory dir)) (sym (kind_is one (kind.Node node.Dir) told))
-      (dir_meant word dir way placed.0 placed.1).0
+      same_meant t one (kind.Node node.Dir) told (unwrap_or (targets_by t h word) []) ∙ (dir_meant word dir way placed.0 placed.1).0
   meant word (Stands (Others dir)) placed one told last =
-      subst (λ (k : ObjectKind). Means k word (target.Others dir)) (sym (kind_is one kind.Other told))
-      (dir_meant word dir placed.0.0 placed.0.1 placed.1).1
+      same_meant t one kind.Other told (unwrap_or (targets_by t h word) []) ∙ (dir_meant word dir placed.0.0 placed.0.1 placed.1).1
   meant word (Stands (At (Slot dir name (Some x)))) placed one told last =
       let own = node_kind one (node_at t x) placed.3 told in
-      subst (λ (k : ObjectKind). Means k word (target.Node x)) (sym own.2)
-      (node_meant own.0 word dir name x placed.0 placed.1 placed.2 own.1)
+      same_meant t one (kind.Node own.0) own.2 (unwrap_or (targets_by t h word) [])
+      ∙ node_meant own.0 word dir name x placed.0 placed.1 placed.2 own.1
   meant word (Stands (At (Slot dir name None))) placed one told last =
-      subst (λ (k : ObjectKind). Means k word (target.Name dir name)) (sym (kind_is one kind.Missing told))
-      (meant_at kind.Missing word dir name (target.Name dir name) placed.0 (own_alone dir name placed.1))
+      same_meant t one kind.Missing told (unwrap_or (targets_by t h word) [])
+      ∙ meant_at kind.Missing word dir name (target.Name dir name) placed.0 (own_alone dir name placed.1)
   meant word (Comes new) placed one told last = new_meant last new one told
 
 pub lasting_mean_their_own : LinesMeanTheirOwn ever_lasting

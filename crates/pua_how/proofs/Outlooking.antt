@@ -15,7 +15,7 @@ use Rattle.pua_calls.specs.declared.call.Call.TheVariants as call
 use Rattle.pua_calls.proofs.ForCallers.{same_bit}
 use Rattle.pua_audit.specs.Reach.{Word}
 use Rattle.pua_objects.specs.Objects.{At, Others}
-use Rattle.pua_ever.specs.Ever.{EverLine, Thing, Stands, Comes, NewDir, NewOthers, NewFile, NewLink, has_ever_calls}
+use Rattle.pua_ever.specs.Ever.{EverLine, Thing, Stands, Comes, NewDir, NewOthers, NewFile, NewLink, NewSock, NewFifo, has_ever_calls}
 use Rattle.pua_ever.specs.EverList.{AreEverTold, word_of_row}
 use Rattle.pua_ever.specs.declared.list.EverRow.{EverRow}
 use Rattle.pua_how.specs.Outlooks.{row_has, same_target}
@@ -83,6 +83,10 @@ about_same (target.NewFile before) last (Comes NewFile) = refl
 about_same _ last (Comes NewFile) = refl
 about_same (target.NewLink before) last (Comes NewLink) = refl
 about_same _ last (Comes NewLink) = refl
+about_same (target.NewSock before) last (Comes NewSock) = refl
+about_same _ last (Comes NewSock) = refl
+about_same (target.NewFifo before) last (Comes NewFifo) = refl
+about_same _ last (Comes NewFifo) = refl
 
 pub some_about : (asked : Target) (last : ℕ) (o : Option Thing) →
     is_some_by (same_target asked) (option_map (target_about last) o) ≡ is_some_by (is_about asked) o

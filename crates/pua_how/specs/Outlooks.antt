@@ -30,6 +30,8 @@ same_target (target.NewDirectory one) (target.NewDirectory other) = true
 same_target (target.NewOthers one) (target.NewOthers other) = true
 same_target (target.NewFile one) (target.NewFile other) = true
 same_target (target.NewLink one) (target.NewLink other) = true
+same_target (target.NewSock one) (target.NewSock other) = true
+same_target (target.NewFifo one) (target.NewFifo other) = true
 same_target _ _ = false
 
 -- what is shown of the list that holds longest has of some things

@@ -1,5 +1,5 @@
 -- What the words of a question are about: a path as a list prints it, or what can be made.
-use Rattle.std.specs.Prelude.{ℕ, Bool, true, false, ◌==◌, if◌then◌else◌, List, [], ◌∷◌, ◌++◌, filter, Option, Some, None, option_map, option_and_then, is_some}
+use Rattle.std.specs.Prelude.{ℕ, Bool, true, false, ◌&&◌, ◌||◌, ◌==◌, if◌then◌else◌, List, [], ◌∷◌, ◌++◌, filter, Option, Some, None, option_map, option_and_then, is_some}
 use Rattle.std.specs.Prelude.{Result, Ok, Err, codes, unwrap_or}
 use Rattle.std.specs.List.{slice_split}
 use Rattle.pua_tree.specs.Names.{same_bytes}
@@ -9,13 +9,14 @@ use Rattle.pua_tree.specs.Tree.{Tree, is_dir, kind_at, look}
 use Rattle.pua_tree.specs.declared.fault.NameFault.{NameFault}
 use Rattle.pua_tree.specs.declared.node.Kind.{Kind}
 use Rattle.pua_tree.specs.declared.node.Kind.TheVariants as node
+use Rattle.pua_tree.specs.declared.node.FileType.TheVariants.{Sock, Fifo}
 use Rattle.pua_policy.specs.States.{ProcessState, perms_kept}
 use Rattle.pua_policy.specs.declared.place.Place.TheVariants as place
 use Rattle.pua_audit.specs.Reach.{Word}
 use Rattle.pua_objects.specs.Objects.{subject_word}
 use Rattle.pua_objects.specs.declared.kind.ObjectKind.{ObjectKind}
 use Rattle.pua_objects.specs.declared.kind.ObjectKind.TheVariants as kind
-use Rattle.pua_ever.specs.Ever.{Thing, Stands, Comes, new_word}
+use Rattle.pua_ever.specs.Ever.{Thing, Stands, Comes, may_start, new_word}
 use Rattle.pua_how.specs.declared.target.Target.{Target}
 use Rattle.pua_how.specs.declared.target.Target.TheVariants as target
 
@@ -69,12 +70,14 @@ targets_by t h (name ∷ more) = targets_in t h 0 name more
 
 -- what can be made, by the last number before
 abbrev pub targets_new : ℕ → List Target
-targets_new last = target.NewDirectory last ∷ target.NewOthers last ∷ target.NewFile last ∷ target.NewLink last ∷ []
+targets_new last =
+    target.NewDirectory last ∷ target.NewOthers last ∷ target.NewFile last ∷ target.NewLink last ∷ target.NewSock last
+    ∷ target.NewFifo last ∷ []
 
--- it is of a kind
+-- it is of a kind, by its word, which a plain file has and a file of which no more is known
 abbrev pub is_same_kind : Kind → Option Kind → Bool
 is_same_kind one None = false
-is_same_kind one (Some other) = (about_kind one).number == (about_kind other).number
+is_same_kind one (Some other) = (about_kind one).number == (about_kind other).number || (may_start one && may_start other)
 
 abbrev pub is_of_kind : Tree → ObjectKind → Target → Bool
 is_of_kind t (kind.Node node.Dir) (target.Directory asked) = true
@@ -82,8 +85,10 @@ is_of_kind t (kind.Node node.Dir) (target.NewDirectory last) = true
 is_of_kind t kind.Other (target.Others asked) = true
 is_of_kind t kind.Other (target.NewOthers last) = true
 is_of_kind t kind.Missing (target.Name asked name) = true
-is_of_kind t (kind.Node node.File) (target.NewFile last) = true
+is_of_kind t (kind.Node one) (target.NewFile last) = may_start one
 is_of_kind t (kind.Node node.Link) (target.NewLink last) = true
+is_of_kind t (kind.Node (node.Known Sock)) (target.NewSock last) = true
+is_of_kind t (kind.Node (node.Known Fifo)) (target.NewFifo last) = true
 is_of_kind t (kind.Node node.Dir) (target.Node asked) = false
 is_of_kind t (kind.Node one) (target.Node asked) = is_same_kind one (kind_at t asked)
 is_of_kind t _ _ = false

@@ -5,6 +5,7 @@ use Rattle.pua_tree.specs.Names.{same_bytes}
 use Rattle.pua_tree.specs.Tree.{Tree, kind_at}
 use Rattle.pua_tree.specs.declared.node.Kind.{Kind}
 use Rattle.pua_tree.specs.declared.node.Kind.TheVariants as kind
+use Rattle.pua_tree.specs.declared.node.FileType.TheVariants.{Sock, Fifo}
 use Rattle.pua_path.specs.Fits.{is_link_kind}
 use Rattle.pua_path.specs.declared.found.Found.{Found}
 use Rattle.pua_path.specs.declared.found.Found.TheVariants.{Whole, Slot}
@@ -13,15 +14,19 @@ use Rattle.pua_policy.specs.declared.place.Place.TheVariants as place
 use Rattle.pua_calls.specs.Calls.{call_number}
 use Rattle.pua_calls.specs.declared.call.Call.{Call}
 use Rattle.pua_objects.specs.Objects.{At, Others}
-use Rattle.pua_ever.specs.Ever.{EverLine, Thing, Stands, Comes, NewDir, NewOthers, NewFile, NewLink}
+use Rattle.pua_ever.specs.Ever.{EverLine, Thing, Stands, Comes, NewDir, NewOthers, NewFile, NewLink, NewSock, NewFifo, may_start_at}
 use Rattle.pua_how.specs.declared.target.Target.{Target}
 use Rattle.pua_how.specs.declared.target.Target.TheVariants as target
 
-abbrev pub is_file_kind : Option Kind → Bool
-is_file_kind (Some kind.File) = true
-is_file_kind _ = false
+abbrev pub is_sock_kind : Option Kind → Bool
+is_sock_kind (Some (kind.Known Sock)) = true
+is_sock_kind _ = false
 
--- in a tree: a directory is itself by whichever name, a file, program or link its node by whichever name; a missing name is
+abbrev pub is_fifo_kind : Option Kind → Bool
+is_fifo_kind (Some (kind.Known Fifo)) = true
+is_fifo_kind _ = false
+
+-- in a tree: a directory is itself by whichever name, what is none its node by whichever name; a missing name is
 -- asked about by itself where it has a veil of its own, and else as one of the further names of its directory; and what is made
 -- has a number above the last one before
 abbrev pub is_of : Tree → ProcessState → Target → Found → Bool
@@ -32,8 +37,10 @@ is_of t h (target.Name asked asked_name) (Slot dir name None) =
     dir == asked && (same_bytes name asked_name && is_some (perms_kept h (place.Slot dir name)))
 is_of t h (target.NewDirectory last) (Whole dir way) = nat_lt last dir
 is_of t h (target.NewOthers last) (Slot dir name None) = nat_lt last dir && is_none (perms_kept h (place.Slot dir name))
-is_of t h (target.NewFile last) (Slot dir name (Some node)) = nat_lt last node && is_file_kind (kind_at t node)
+is_of t h (target.NewFile last) (Slot dir name (Some node)) = nat_lt last node && may_start_at (kind_at t node)
 is_of t h (target.NewLink last) (Slot dir name (Some node)) = nat_lt last node && is_link_kind (kind_at t node)
+is_of t h (target.NewSock last) (Slot dir name (Some node)) = nat_lt last node && is_sock_kind (kind_at t node)
+is_of t h (target.NewFifo last) (Slot dir name (Some node)) = nat_lt last node && is_fifo_kind (kind_at t node)
 is_of t h _ _ = false
 
 -- the numbers of all nodes that live are this one or below
@@ -50,6 +57,8 @@ IsGiven t (target.NewDirectory last) = IsLast t last
 IsGiven t (target.NewOthers last) = IsLast t last
 IsGiven t (target.NewFile last) = IsLast t last
 IsGiven t (target.NewLink last) = IsLast t last
+IsGiven t (target.NewSock last) = IsLast t last
+IsGiven t (target.NewFifo last) = IsLast t last
 
 -- a line of a list for ever is about it
 abbrev pub is_about : Target → Thing → Bool
@@ -61,6 +70,8 @@ is_about (target.NewDirectory last) (Comes NewDir) = true
 is_about (target.NewOthers last) (Comes NewOthers) = true
 is_about (target.NewFile last) (Comes NewFile) = true
 is_about (target.NewLink last) (Comes NewLink) = true
+is_about (target.NewSock last) (Comes NewSock) = true
+is_about (target.NewFifo last) (Comes NewFifo) = true
 is_about _ _ = false
 
 -- what a line is about, as a way is asked for to it; what is made has a number above this one
@@ -73,6 +84,8 @@ target_about last (Comes NewDir) = target.NewDirectory last
 target_about last (Comes NewOthers) = target.NewOthers last
 target_about last (Comes NewFile) = target.NewFile last
 target_about last (Comes NewLink) = target.NewLink last
+target_about last (Comes NewSock) = target.NewSock last
+target_about last (Comes NewFifo) = target.NewFifo last
 
 -- some line about it has the call
 abbrev pub has_call : List Call → Call → Bool

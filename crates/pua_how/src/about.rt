@@ -58,5 +58,7 @@ fn coming(made: Made, last: NodeId) -> Target
         Made::Others => Target::NewOthers(last),
         Made::File => Target::NewFile(last),
         Made::Link => Target::NewLink(last),
+        Made::Sock => Target::NewSock(last),
+        Made::Fifo => Target::NewFifo(last),
     }
 }

@@ -99,7 +99,9 @@ fn is_same(asked: &Target, own: &Target) -> bool
         (Target::NewDirectory(_), Target::NewDirectory(_))
         | (Target::NewOthers(_), Target::NewOthers(_))
         | (Target::NewFile(_), Target::NewFile(_))
-        | (Target::NewLink(_), Target::NewLink(_)) => true,
+        | (Target::NewLink(_), Target::NewLink(_))
+        | (Target::NewSock(_), Target::NewSock(_))
+        | (Target::NewFifo(_), Target::NewFifo(_)) => true,
         _ => false,
     }
 }

@@ -16,9 +16,10 @@ ghost use Rattle.pua_how.specs.Targets.{IsLast};
 ghost use Rattle.pua_how.specs.Asked.{IsAskedBy, asking_given};
 
 use crate::target::Target;
+use pua_ever::may_start;
 use pua_objects::ObjectKind;
 use pua_policy::{Place, Process};
-use pua_tree::{FileTree, Kind, LentRow, Name, NodeId, OutOfMemory};
+use pua_tree::{FileTree, FileType, Kind, LentRow, Name, NodeId, OutOfMemory};
 use std::alloc::{AllocError, Global};
 
 /// What is asked about.
@@ -161,11 +162,13 @@ fn highest(rows: &[LentRow<'_>]) -> NodeId
 fn making(alloc: Global, last: NodeId) -> Result<Vec<Target>, AllocError>
     ensures { IfOk result (λ targets. targets.items ≡ targets_new last) }
 {
-    let mut targets = Vec::with_capacity(alloc, 4)?;
+    let mut targets = Vec::with_capacity(alloc, 6)?;
     targets.push(Target::NewDirectory(last))?;
     targets.push(Target::NewOthers(last))?;
     targets.push(Target::NewFile(last))?;
     targets.push(Target::NewLink(last))?;
+    targets.push(Target::NewSock(last))?;
+    targets.push(Target::NewFifo(last))?;
     Ok(targets)
 }
 
@@ -312,20 +315,23 @@ fn is_of_kind<T: FileTree>(tree: &T, kind: ObjectKind, target: &Target) -> bool
         (ObjectKind::Node(Kind::Dir), Target::Directory(_) | Target::NewDirectory(_)) => true,
         (ObjectKind::Other, Target::Others(_) | Target::NewOthers(_)) => true,
         (ObjectKind::Missing, Target::Name(_, _)) => true,
-        (ObjectKind::Node(Kind::File), Target::NewFile(_)) => true,
+        (ObjectKind::Node(kind), Target::NewFile(_)) => may_start(kind),
         (ObjectKind::Node(Kind::Link), Target::NewLink(_)) => true,
+        (ObjectKind::Node(Kind::Known(FileType::Sock)), Target::NewSock(_)) => true,
+        (ObjectKind::Node(Kind::Known(FileType::Fifo)), Target::NewFifo(_)) => true,
         (ObjectKind::Node(Kind::Dir), Target::Node(_)) => false,
         (ObjectKind::Node(kind), Target::Node(node)) => is_same_kind(kind, tree.kind(*node)),
         _ => false,
     }
 }
 
-/// Whether what was found is of a kind.
+/// Whether what was found is of a kind, by its word: of a plain file, and of a file of which no more
+/// is known, that is the same.
 fn is_same_kind(kind: Kind, found: Option<Kind>) -> bool
     ensures { result ≡ is_same_kind kind found }
 {
     match found {
-        Some(found) => kind.number() == found.number(),
+        Some(found) => { kind.number() == found.number() || (may_start(kind) && may_start(found)) }
         None => false,
     }
 }

@@ -15,7 +15,7 @@ use crate::way::BestPlans;
 pub use planner::Planner;
 use pua_calls::{Call, Effect};
 use pua_policy::{Cover, Object};
-use pua_tree::{Kind, Name, NodeId};
+use pua_tree::{FileType, Kind, Name, NodeId};
 use std::alloc::AllocError;
 
 /// A search for plans for a call on one target.
@@ -76,6 +76,8 @@ impl<'p> Search<'p, '_> {
             Target::NewDirectory(_) | Target::NewOthers(_) => self.add_made(Kind::Dir),
             Target::NewFile(_) => self.add_made(Kind::File),
             Target::NewLink(_) => self.add_made(Kind::Link),
+            Target::NewSock(_) => self.add_made(Kind::Known(FileType::Sock)),
+            Target::NewFifo(_) => self.add_made(Kind::Known(FileType::Fifo)),
         }
     }
 

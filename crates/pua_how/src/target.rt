@@ -5,11 +5,13 @@ ghost use Rattle.pua_tree.specs.Tree.{Tree};
 ghost use Rattle.pua_path.specs.declared.found.Found.TheVariants as found;
 ghost use Rattle.pua_path.specs.declared.found.Way.{Way};
 ghost use Rattle.pua_policy.specs.States.{ProcessState};
+ghost use Rattle.pua_ever.specs.Ever.{may_start_at};
 ghost use Rattle.pua_how.specs.Targets.{is_of};
 
+use pua_ever::may_start;
 use pua_path::Found;
 use pua_policy::{Place, Process};
-use pua_tree::{FileTree, Kind, Name, NodeId};
+use pua_tree::{FileTree, FileType, Kind, Name, NodeId};
 
 /// A thing that is asked about.
 #[derive(Clone, Copy)]
@@ -18,12 +20,12 @@ pub enum Target {
     Directory(NodeId),
     /// The further names of a directory: those where nothing stands, without veils of their own.
     Others(NodeId),
-    /// A file, program or link, by any of its names.
+    /// What is no directory, by any of its names.
     Node(NodeId),
     /// A name in a directory that has a veil of its own, while nothing stands there.
     Name(NodeId, Name),
     /// A directory that is made: its number is above this one, the last of those that live before.
-    /// This number means the same in the three below.
+    /// This number means the same in those below.
     NewDirectory(NodeId),
     /// The further names of a directory that is made.
     NewOthers(NodeId),
@@ -31,6 +33,10 @@ pub enum Target {
     NewFile(NodeId),
     /// A link that is made.
     NewLink(NodeId),
+    /// A socket that is made.
+    NewSock(NodeId),
+    /// A fifo that is made.
+    NewFifo(NodeId),
 }
 
 impl Target {
@@ -64,17 +70,20 @@ impl Target {
         }
     }
 
-    /// Whether it is this file, program or link.
+    /// Whether it is this, which is no directory.
     fn is_node<T: FileTree>(&self, tree: &T, node: NodeId) -> bool
         ensures { (h : ProcessState) (dir : ℕ) (name : List ℕ) →
             result ≡ is_of (T.content tree.now) h self.now (found.Slot dir name (Some node)) }
     {
         match self {
             Target::Node(asked) => node == *asked,
-            Target::NewFile(last) => is_new(*last, node)
-                && matches!(tree.kind(node), Some(Kind::File)),
+            Target::NewFile(last) => is_new(*last, node) && is_startable(tree.kind(node)),
             Target::NewLink(last) => is_new(*last, node)
                 && matches!(tree.kind(node), Some(Kind::Link)),
+            Target::NewSock(last) => is_new(*last, node)
+                && matches!(tree.kind(node), Some(Kind::Known(FileType::Sock))),
+            Target::NewFifo(last) => is_new(*last, node)
+                && matches!(tree.kind(node), Some(Kind::Known(FileType::Fifo))),
             _ => false,
         }
     }
@@ -93,6 +102,16 @@ impl Target {
             Target::NewOthers(last) => is_new(*last, dir) && kept.is_none(),
             _ => false,
         }
+    }
+}
+
+/// Whether what stands somewhere is a plain file, or may be one.
+fn is_startable(kind: Option<Kind>) -> bool
+    ensures { result ≡ may_start_at kind }
+{
+    match kind {
+        Some(kind) => may_start(kind),
+        None => false,
     }
 }
 

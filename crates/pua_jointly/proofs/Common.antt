@@ -26,7 +26,7 @@ pub use Rattle.pua_script.specs.Tightening.{NoCallNeedsError}
 pub use Rattle.pua_tree.proofs.ForCallers.{exact_spots, None≢Some, Reaches, row_of, row_says, same_Some, Some≢None, sound_from, spots_total}
 pub use Rattle.pua_tree.specs.Tree.{above, empty_tree, is_dir, is_dir_kind, kind_at, look, Spot, spot_cmp, Tree, WellFormed}
 pub use Rattle.pua_tree.specs.declared.node.Kind.{Kind}
-pub use Rattle.pua_ever.specs.Ever.{all_new, Comes, is_below, lasting_dir, New, NewDir, NewFile, NewLink, NewOthers, own_spot}
+pub use Rattle.pua_ever.specs.Ever.{all_new, Comes, is_below, lasting_dir, New, NewDir, NewFifo, NewFile, NewLink, NewOthers, NewSock, own_spot}
 pub use Rattle.pua_ever.specs.Ever.{removable_dir, Stands, can_move}
 pub use Rattle.pua_ever.specs.EverLines.{both_of, made_left}
 pub use Rattle.pua_ever.specs.Laws.{VeilsStand}

@@ -82,6 +82,16 @@ module _ (follows : Step) (told : List ℕ) (at word : ℕ) (low : at < length t
       ≡ sum_by (λ w. 4294967295 - w) told + (4294967295 - now) = sum_by-set (λ w. 4294967295 - w) told at now 0 low in
       omega (arith, sums, more, other, small)
 
+  -- and never more
+  pub room_kept : room gained ≤ room told
+  room_kept =
+      let now = bit_or (get_or told at 0) word in
+      let was = get_or told at 0 in
+      let more : was ≤ now = le_or_l was word in
+      let sums : sum_by (λ w. 4294967295 - w) (set told at now) + (4294967295 - was)
+      ≡ sum_by (λ w. 4294967295 - w) told + (4294967295 - now) = sum_by-set (λ w. 4294967295 - w) told at now 0 low in
+      omega (arith, sums, more)
+
 -- what is so of a number and of all below it is so of all up to it
 pub up_to : (P : ℕ → Type 0) (k : ℕ) → P k → ((a : ℕ) → a < k → P a) → (a : ℕ) → a < k + 1 → P a
 up_to P k here below a high = by (a == k) refl

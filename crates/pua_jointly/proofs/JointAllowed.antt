@@ -1,18 +1,18 @@
 -- The calls that the table of a crew gives one process are those that can ever be allowed to it.
 use Rattle.pua_jointly.proofs.Common.{◌≡◌, ◌≢◌, ◌<◌, ◌⊎◌, ◌∙◌, ◌||◌, ◌&&◌, ℕ, Bool, true, false, List, refl, sym, ap, subst, inl, inr, not}
 use Rattle.pua_jointly.proofs.Common.{Option, Some, None, ProcessState, Cover, Only, Tree, CallTable, Call, Object, At, Others, Whole, Slot, Way}
-use Rattle.pua_jointly.proofs.Common.{Stands, Comes, NewDir, NewOthers, NewFile, NewLink, covered_verdict, is_allowed, empty_tree, false≢true, has}
+use Rattle.pua_jointly.proofs.Common.{Stands, Comes, NewDir, NewOthers, NewFile, NewLink, NewSock, NewFifo, Kind, covered_verdict, is_allowed, empty_tree, false≢true, has}
 use Rattle.pua_jointly.proofs.Common.{IsMissing, is_dir, kind_at, keeps_link, list_any, look, object_of_kind, perms_kept, or_left, or_right, and_from, and_parts}
 use Rattle.pua_jointly.proofs.Common.{lasting_dir, removable_dir}
 use Rattle.pua_calls.specs.declared.call.Call.TheVariants as call
-use Rattle.pua_policy.specs.Verdict.{IsFile, IsLink, IsProg}
+use Rattle.pua_policy.specs.Verdict.{Is, IsLink, IsProg}
 use Rattle.pua_policy.specs.declared.place.Place.TheVariants as place
-use Rattle.pua_ever.specs.Ever.{Thing, is_exec_call}
+use Rattle.pua_ever.specs.Ever.{Thing, is_exec_call, may_start, new_object}
 use Rattle.pua_jointly.specs.JointCalls.{AreAllowedOf, AreCallsOf, AreFreeCalls, free_allows}
 use Rattle.pua_jointly.specs.JointCovers.{allows_under, numbered}
 use Rattle.pua_jointly.specs.Jointly.{Seat, Old, Made, Source, Row, Maker, Can, DirCover, NameCover, Free, StandsAt, IsJointlyAllowed, Shows, is_link_thing}
 use Rattle.pua_jointly.specs.Jointly.{shows_dir, shows_emptied, shows_others, shows_row, shows_name, shows_new_dir, shows_new_others, shows_new_file}
-use Rattle.pua_jointly.specs.Jointly.{shows_new_link, CanTurn, IsJointlyStarted}
+use Rattle.pua_jointly.specs.Jointly.{shows_new_link, shows_new_sock, shows_new_fifo, CanTurn, IsJointlyStarted}
 use Rattle.pua_jointly.specs.Closing.{has_bit}
 use Rattle.pua_jointly.specs.JointPlace.{cover_bit}
 use Rattle.pua_ever.proofs.ForCallers.{exec_or_other}
@@ -42,8 +42,10 @@ module _ (t : Tree) (table : CallTable) (crew : List ProcessState) (a : ProcessS
   ShownAs (Stands (Others d)) k o = Can t table crew (DirCover a (Old d) k) × (o ≡ IsMissing)
   ShownAs (Comes NewDir) k o = (m : ProcessState) × Can t table crew (DirCover a (Made m) k) × (o ≡ removable_dir)
   ShownAs (Comes NewOthers) k o = (m : ProcessState) × Can t table crew (DirCover a (Made m) k) × (o ≡ IsMissing)
-  ShownAs (Comes NewFile) k o = (m : ProcessState) × Comes_as (Maker NewFile m) k × (o ≡ IsFile)
+  ShownAs (Comes NewFile) k o = (m : ProcessState) × Comes_as (Maker NewFile m) k × (o ≡ new_object table NewFile)
   ShownAs (Comes NewLink) k o = (m : ProcessState) × Comes_as (Maker NewLink m) k × (o ≡ IsLink)
+  ShownAs (Comes NewSock) k o = (m : ProcessState) × Comes_as (Maker NewSock m) k × (o ≡ new_object table NewSock)
+  ShownAs (Comes NewFifo) k o = (m : ProcessState) × Comes_as (Maker NewFifo m) k × (o ≡ new_object table NewFifo)
 
   pub shown : {thing : Thing} {k : Cover} {o : Object} → Shows t table crew a thing k o → ShownAs thing k o
   shown (shows_dir can) = (can, inl refl)
@@ -55,6 +57,8 @@ module _ (t : Tree) (table : CallTable) (crew : List ProcessState) (a : ProcessS
   shown (shows_new_others m can) = (m, can, refl)
   shown (shows_new_file m d name stands over) = (m, record { dir = d; name = name; stands = stands; over = over }, refl)
   shown (shows_new_link m d name stands over) = (m, record { dir = d; name = name; stands = stands; over = over }, refl)
+  shown (shows_new_sock m d name stands over) = (m, record { dir = d; name = name; stands = stands; over = over }, refl)
+  shown (shows_new_fifo m d name stands over) = (m, record { dir = d; name = name; stands = stands; over = over }, refl)
 
   -- calls on a thing that shows itself as an object, under some covers
   pub record TellsUnder (thing : Thing) (object : Object) (calls : ℕ) : Type 0 where
@@ -210,18 +214,19 @@ module _ (t : Tree) (table : CallTable) (crew : List ProcessState) (a : ProcessS
     pub all : IsJointlyStarted t table crew a thing → has started call.Exec ≡ true
     pub only : has started call.Exec ≡ true → IsJointlyStarted t table crew a thing
 
-  pub under_starts : (thing : Thing) (covers started : ℕ) →
+  pub under_starts : (thing : Thing) (as_file : Kind) (covers started : ℕ) → may_start as_file ≡ true →
       ((call : Call) → has started call ≡ list_any (allows_under table a covers IsProg call) (numbered 18)) →
-      ((k : Cover) → cover_bit k < 18 → has_bit covers (cover_bit k) → Shows t table crew a thing k IsFile) →
-      ((k : Cover) → Shows t table crew a thing k IsFile → (cover_bit k < 18) × has_bit covers (cover_bit k)) → TellsStarts thing started
-  under_starts thing covers started under means holds = record {
+      ((k : Cover) → cover_bit k < 18 → has_bit covers (cover_bit k) → Shows t table crew a thing k (Is as_file)) →
+      ((k : Cover) (is : Kind) → may_start is ≡ true → Shows t table crew a thing k (Is is) →
+      (cover_bit k < 18) × has_bit covers (cover_bit k)) → TellsStarts thing started
+  under_starts thing as_file covers started starts under means holds = record {
     all = λ is.
-        let held = holds is.cover is.shows in
+        let held = holds is.cover is.is is.starts is.shows in
         under call.Exec ∙ under_has table a covers IsProg call.Exec
         (record { cover = is.cover; small = held.0; has = held.1; allowed = is.allowed });
     only = λ e.
         let one = under_means table a covers IsProg call.Exec (sym (under call.Exec) ∙ e) in
-        record { cover = one.cover; shows = means one.cover one.small one.has; allowed = one.allowed };
+        record { cover = one.cover; is = as_file; starts = starts; shows = means one.cover one.small one.has; allowed = one.allowed };
   }
 
   -- what can't be made a program has no more calls

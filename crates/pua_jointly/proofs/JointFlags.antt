@@ -1,6 +1,6 @@
 -- Words that are put together of covers and single bits.
 use Rattle.pua_jointly.proofs.Common.{◌≡◌, ◌≢◌, ◌<◌, ◌≤◌, ◌⊎◌, ◌∙◌, ◌==◌, ◌∷◌, ◌++◌, [], ℕ, zero, suc, Bool, true, false, List, map, refl, sym}
-use Rattle.pua_jointly.proofs.Common.{ap, subst, inl, inr, arith, Some, option_map, None≢Some, same_Some, Cover, New, NewDir, NewOthers, NewFile, NewLink, all_new}
+use Rattle.pua_jointly.proofs.Common.{ap, subst, inl, inr, arith, Some, option_map, None≢Some, same_Some, Cover, New, NewDir, NewOthers, NewFile, NewLink, NewSock, NewFifo, all_new}
 use Rattle.pua_jointly.proofs.Common.{false≢true, eqb-true, eq-eqb, or_left, or_right}
 use Rattle.std.specs.Prelude.{slice_get, min, ◌+◌}
 use Rattle.std.specs.Int.{bit_at}
@@ -128,7 +128,7 @@ module _ (f : Cover → Kept) (Now : Kept → Type 0) (word : ℕ)
       ];
     }
 
--- four bits, of all that can be made
+-- six bits, of all that can be made
 module _ (p : New → Bool) (base : ℕ) where
   abbrev pub new_flag : New → ℕ
   new_flag new = flag (p new) (base + new_bit new)
@@ -139,35 +139,50 @@ module _ (p : New → Bool) (base : ℕ) where
   abbrev pub others_word : ℕ
   others_word = bit_or (new_flag NewFile) (new_flag NewLink)
 
+  abbrev pub typed_word : ℕ
+  typed_word = bit_or (new_flag NewSock) (new_flag NewFifo)
+
+  abbrev pub plain_word : ℕ
+  plain_word = bit_or dirs_word others_word
+
   abbrev pub news_word : ℕ
-  news_word = bit_or dirs_word others_word
+  news_word = bit_or plain_word typed_word
 
   one_new : (bit : ℕ) (new : New) → has_bit (new_flag new) bit → (n : New) × (p n ≡ true) × (bit ≡ base + new_bit n)
   one_new bit new held = let f = flag_means (p new) (base + new_bit new) bit held in (new, f.0, f.1)
 
+  -- one of two bits
+  one_of_two : (bit : ℕ) (a b : New) → has_bit (bit_or (new_flag a) (new_flag b)) bit →
+      (new : New) × (p new ≡ true) × (bit ≡ base + new_bit new)
+  one_of_two bit a b held =
+      elim (either_true (has_one (new_flag a) bit) _ (sym (has_or (new_flag a) (new_flag b) bit) ∙ held)) [
+        | inl one ↦ one_new bit a one
+        | inr two ↦ one_new bit b two
+      ]
+
   pub news_mean : (bit : ℕ) → has_bit news_word bit → (new : New) × (p new ≡ true) × (bit ≡ base + new_bit new)
-  news_mean bit held = elim (either_true (has_one dirs_word bit) (has_one others_word bit) (sym (has_or dirs_word others_word bit) ∙ held)) [
-    | inl a ↦ elim (either_true (has_one (new_flag NewDir) bit) _ (sym (has_or (new_flag NewDir) (new_flag NewOthers) bit) ∙ a)) [
-      | inl b ↦ one_new bit NewDir b
-      | inr b ↦ one_new bit NewOthers b
+  news_mean bit held = elim (either_true (has_one plain_word bit) (has_one typed_word bit) (sym (has_or plain_word typed_word bit) ∙ held)) [
+    | inl plain ↦ elim (either_true (has_one dirs_word bit) (has_one others_word bit) (sym (has_or dirs_word others_word bit) ∙ plain)) [
+      | inl dirs ↦ one_of_two bit NewDir NewOthers dirs
+      | inr others ↦ one_of_two bit NewFile NewLink others
     ]
-    | inr a ↦ elim (either_true (has_one (new_flag NewFile) bit) _ (sym (has_or (new_flag NewFile) (new_flag NewLink) bit) ∙ a)) [
-      | inl b ↦ one_new bit NewFile b
-      | inr b ↦ one_new bit NewLink b
-    ]
+    | inr typed ↦ one_of_two bit NewSock NewFifo typed
   ]
-
-  in_dirs : (bit : ℕ) → has_bit dirs_word bit → has_bit news_word bit
-  in_dirs bit held = has_or dirs_word others_word bit ∙ or_left (has_one dirs_word bit) (has_one others_word bit) held
-
-  in_others : (bit : ℕ) → has_bit others_word bit → has_bit news_word bit
-  in_others bit held = has_or dirs_word others_word bit ∙ or_right (has_one dirs_word bit) (has_one others_word bit) held
 
   first : (a b bit : ℕ) → has_bit a bit → has_bit (bit_or a b) bit
   first a b bit held = has_or a b bit ∙ or_left (has_one a bit) (has_one b bit) held
 
   second : (a b bit : ℕ) → has_bit b bit → has_bit (bit_or a b) bit
   second a b bit held = has_or a b bit ∙ or_right (has_one a bit) (has_one b bit) held
+
+  in_dirs : (bit : ℕ) → has_bit dirs_word bit → has_bit news_word bit
+  in_dirs bit held = first plain_word typed_word bit (first dirs_word others_word bit held)
+
+  in_others : (bit : ℕ) → has_bit others_word bit → has_bit news_word bit
+  in_others bit held = first plain_word typed_word bit (second dirs_word others_word bit held)
+
+  in_typed : (bit : ℕ) → has_bit typed_word bit → has_bit news_word bit
+  in_typed bit held = second plain_word typed_word bit held
 
   set_new : (new : New) → p new ≡ true → has_bit (new_flag new) (base + new_bit new)
   set_new new e = flag_has (p new) (base + new_bit new) e
@@ -177,6 +192,8 @@ module _ (p : New → Bool) (base : ℕ) where
   news_have NewOthers e = in_dirs (base + 1) (second (new_flag NewDir) (new_flag NewOthers) (base + 1) (set_new NewOthers e))
   news_have NewFile e = in_others (base + 2) (first (new_flag NewFile) (new_flag NewLink) (base + 2) (set_new NewFile e))
   news_have NewLink e = in_others (base + 3) (second (new_flag NewFile) (new_flag NewLink) (base + 3) (set_new NewLink e))
+  news_have NewSock e = in_typed (base + 4) (first (new_flag NewSock) (new_flag NewFifo) (base + 4) (set_new NewSock e))
+  news_have NewFifo e = in_typed (base + 5) (second (new_flag NewSock) (new_flag NewFifo) (base + 5) (set_new NewFifo e))
 
 -- alone
 pub news_say : (f : New → Kept) (Now : Kept → Type 0) (p : New → Bool) → ((new : New) → p new ≡ true → Now (f new)) →

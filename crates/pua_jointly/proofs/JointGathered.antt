@@ -20,6 +20,8 @@ use Rattle.pua_jointly.specs.JointMembers.{file_now, kind_number, same_file, sam
 use Rattle.pua_policy.specs.declared.open_file.OpenFile.{OpenFile}
 use Rattle.pua_tree.specs.declared.node.Kind.{Kind}
 use Rattle.pua_tree.specs.declared.node.Kind.TheVariants as kind
+use Rattle.pua_tree.specs.declared.node.FileType.{FileType}
+use Rattle.pua_tree.specs.declared.node.FileType.TheVariants.{Plain, Sock, Fifo, Dev}
 use Rattle.pua_jointly.specs.JointPlace.{Once}
 use Rattle.pua_jointly.specs.JointSetting.{AreMarksOf, AreWatched, IsMarkOf, is_watched, mark_spot, row_number, veil_number}
 use Rattle.pua_ever.specs.Laws.{dir_of_place}
@@ -75,15 +77,23 @@ same_veils a b e =
     subst (λ x. same_veil a x ≡ true) e (and_from (same_place a.0 a.0) _ (same_place_refl a.0) (eq-eqb a.1 a.1 refl))
 
 -- open files that are the same
+type_from : ℕ → FileType
+type_from n = cond (n == 4) Plain (cond (n == 5) Sock (cond (n == 6) Fifo Dev))
+
 kind_from : ℕ → Kind
-kind_from n = cond (n == 0) kind.Dir (cond (n == 1) kind.File (cond (n == 2) kind.Prog kind.Link))
+kind_from n =
+    cond (n == 0) kind.Dir (cond (n == 1) kind.File (cond (n == 2) kind.Prog (cond (n == 3) kind.Link (kind.Known (type_from n)))))
 
 kind_back : (a : Kind) → kind_from (kind_number a) ≡ a
-unfolding kind_from
+unfolding kind_from type_from
 kind_back kind.Dir = refl
 kind_back kind.File = refl
 kind_back kind.Prog = refl
 kind_back kind.Link = refl
+kind_back (kind.Known Plain) = refl
+kind_back (kind.Known Sock) = refl
+kind_back (kind.Known Fifo) = refl
+kind_back (kind.Known Dev) = refl
 
 pub file_same : (a b : ℕ × OpenFile) → same_file a b ≡ true → a ≡ b
 file_same a b e =

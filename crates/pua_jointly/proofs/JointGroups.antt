@@ -10,7 +10,7 @@ use Rattle.pua_ever.specs.Ever.{Thing}
 use Rattle.pua_jointly.specs.JointCalls.{AreCallsOf, AreCallsOfOne, AreOwnCalls, AreOwnCallsOfOne, HasAgents, IsGroupIn, IsOf}
 use Rattle.pua_jointly.specs.JointFound.{AreFacts}
 use Rattle.pua_jointly.specs.Jointly.{IsJointlyListed, agents_of, as_started}
-use Rattle.pua_jointly.specs.declared.crew.Agent.{Agent}
+use Rattle.pua_jointly.specs.declared.agent.Agent.{Agent}
 use Rattle.pua_jointly.specs.declared.crew.Group.{Group}
 use Rattle.pua_jointly.specs.declared.facts.Facts.{Facts}
 use Rattle.pua_jointly.proofs.JointTold.{agent_is}

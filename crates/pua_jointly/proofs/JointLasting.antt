@@ -18,7 +18,7 @@ use Rattle.pua_script.proofs.ForCallers.{first_tree, listings_list_byte_trees, M
 use Rattle.pua_objects.specs.Objects.{items}
 use Rattle.pua_objects.proofs.ForCallers.{among_either, among_filter, among_flat, filter_among, flat_among, one_of_calls, some_of}
 use Rattle.pua_ever.specs.Ever.{EverLine, Thing, has_ever_calls}
-use Rattle.pua_ever.specs.Laws.{EditsNeedC, ForeseesIn, IsLineOf, of_dir, of_name, of_new_dir, of_new_file, of_new_link, of_new_others, of_others}
+use Rattle.pua_ever.specs.Laws.{EditsNeedC, ForeseesIn, IsLineOf, of_dir, of_name, of_new_dir, of_new_file, of_new_link, of_new_sock, of_new_fifo, of_new_others, of_others}
 use Rattle.pua_ever.specs.Laws.{of_row, PlacesStand}
 use Rattle.pua_path.specs.declared.found.Found.{Found}
 use Rattle.pua_ever.specs.Through.{bound_of, GoAlong, is_bounded}
@@ -120,6 +120,8 @@ line_too t later a g (of_others low own) = of_others low own
 line_too t later a g (of_new_dir new) = of_new_dir new
 line_too t later a g (of_new_file new kinds) = of_new_file new kinds
 line_too t later a g (of_new_link new kinds) = of_new_link new kinds
+line_too t later a g (of_new_sock new kinds) = of_new_sock new kinds
+line_too t later a g (of_new_fifo new kinds) = of_new_fifo new kinds
 line_too t later a g (of_new_others new) = of_new_others new
 
 -- by a list that has what those of a process and of what it starts have

@@ -1,5 +1,5 @@
 -- The covers of a name that the code finds are those that can come over it.
-use Rattle.pua_jointly.proofs.Common.{◌≡◌, ◌<◌, ◌∙◌, ◌==◌, ℕ, Bool, true, false, false≢true, List, length, refl, sym, ap, subst, veils, Place}
+use Rattle.pua_jointly.proofs.Common.{◌≡◌, ◌<◌, ◌∙◌, ◌==◌, ℕ, Bool, true, false, false≢true, eq-eqb, list_any, List, length, refl, sym, ap, subst, veils, Place}
 use Rattle.pua_jointly.proofs.Common.{Option, Some, None, ProcessState, Spot, Cover, Only, Tree, CallTable, is_dir, perms_kept}
 use Rattle.std.specs.Prelude.{slice_get, ◌+◌, ◌*◌, IsTrue}
 use Rattle.std.specs.List.{Contains}
@@ -11,6 +11,7 @@ use Rattle.pua_jointly.specs.Jointly.{Old}
 use Rattle.pua_jointly.specs.JointFacts.{Kept, Covers, IsOver, over_own, over_within}
 use Rattle.pua_jointly.specs.JointTable.{IsTold, entities, columns, table_says, TableFits}
 use Rattle.pua_jointly.specs.JointPlace.{Once, cover_bit}
+use Rattle.pua_jointly.specs.JointSetting.{is_on}
 use Rattle.pua_jointly.specs.JointWords.{word_at, covers_in, has_named, is_name, meets, AreCovers}
 use Rattle.pua_jointly.specs.JointOld.{asked_word, over_word, own_or_word}
 use Rattle.pua_ever.proofs.ForCallers.{any_among}
@@ -20,15 +21,22 @@ use Rattle.pua_jointly.proofs.JointPlaced.{over_small}
 use Rattle.pua_jointly.proofs.JointRead.{old_at, covers_said, is_told, told_is}
 use Rattle.pua_jointly.proofs.JointWords.{masked, small_of, cover_of, meets_some, meets_by}
 
--- who has no veil at any name keeps none at this one
-no_name : (h : ProcessState) → has_named h ≡ false → (dir : ℕ) (name : List ℕ) → perms_kept h (place.Slot dir name) ≡ None
-no_name h none dir name = by (perms_kept h (place.Slot dir name)) refl
+-- who has no veil at a place of some kind keeps none at this one
+none_kept : (h : ProcessState) (test : Place → Bool) → list_any (λ (veil : Place × ℕ). test veil.0) (veils h) ≡ false → (at : Place) →
+    test at ≡ true → perms_kept h at ≡ None
+none_kept h test none at is = by (perms_kept h at) refl
   where
-    by : (o : Option ℕ) → perms_kept h (place.Slot dir name) ≡ o → perms_kept h (place.Slot dir name) ≡ None
+    by : (o : Option ℕ) → perms_kept h at ≡ o → perms_kept h at ≡ None
     by None e = e
     by (Some perms) e =
-        absurd (false≢true (sym none ∙ any_among (λ (veil : Place × ℕ). is_name veil.0) (veils h) (place.Slot dir name, perms)
-        (kept_among (veils h) (place.Slot dir name) perms e) refl))
+        absurd (false≢true (sym none ∙ any_among (λ (veil : Place × ℕ). test veil.0) (veils h) (at, perms) (kept_among (veils h) at perms e) is))
+
+no_name : (h : ProcessState) → has_named h ≡ false → (dir : ℕ) (name : List ℕ) → perms_kept h (place.Slot dir name) ≡ None
+no_name h none dir name = none_kept h is_name none (place.Slot dir name) refl
+
+pub no_veil : (h : ProcessState) (dir : ℕ) → list_any (λ (veil : Place × ℕ). is_on dir veil.0) (veils h) ≡ false →
+    perms_kept h (place.Dir dir) ≡ None
+no_veil h dir none = none_kept h (is_on dir) none (place.Dir dir) (eq-eqb dir dir refl)
 
 pub no_name_kept : (h : ProcessState) (named : Bool) → named ≡ has_named h → named ≡ false → (dir : ℕ) (name : List ℕ) →
     perms_kept h (place.Slot dir name) ≡ None

@@ -1,7 +1,7 @@
 -- Each fact that follows from what the table of a crew has is one of its own bits.
 use Rattle.pua_jointly.proofs.Common.{◌≡◌, ◌<◌, ◌≤◌, ◌⊎◌, ◌∙◌, ◌∷◌, ◌++◌, [], ℕ, zero, suc, Bool, true, false, List, length, map, refl, ap, subst, inl, inr, arith}
 use Rattle.pua_jointly.proofs.Common.{Option, Some, None, same_Some, None≢Some, Tree, CallTable, ProcessState, Spot, All}
-use Rattle.pua_jointly.proofs.Common.{Only, Cover, New, NewDir, NewOthers, NewFile, NewLink, all_new, has_veil, if◌then◌else◌}
+use Rattle.pua_jointly.proofs.Common.{Only, Cover, New, NewDir, NewOthers, NewFile, NewLink, NewSock, NewFifo, all_new, has_veil, if◌then◌else◌}
 use Rattle.pua_jointly.proofs.Common.{Among, among_contained, among_left, among_map, among_right}
 use Rattle.pua_objects.proofs.ForCallers.{among_either, map_among}
 use Rattle.std.specs.Prelude.{⊤, slice_get, ◌/◌, ◌%◌, ◌*◌, ◌+◌, IsTrue}
@@ -72,6 +72,8 @@ every_new NewDir = inl refl
 every_new NewOthers = inr (inl refl)
 every_new NewFile = inr (inr (inl refl))
 every_new NewLink = inr (inr (inr (inl refl)))
+every_new NewSock = inr (inr (inr (inr (inl refl))))
+every_new NewFifo = inr (inr (inr (inr (inr (inl refl)))))
 
 -- what all things of a list give
 of_map : {X Y : Type 0} (P : Y → Type 0) (f : X → Y) (xs : List X) → ((x : X) → Among xs x → P (f x)) → (y : Y) → Among (map f xs) y → P y

@@ -1,7 +1,7 @@
 -- Each fact has one place in the table of a crew.
 use Rattle.pua_jointly.proofs.Common.{◌≡◌, ◌<◌, ◌∙◌, ◌∷◌, ◌++◌, [], ℕ, zero, suc, List, length, map, refl, sym, ap, subst, inl, inr, arith}
 use Rattle.pua_jointly.proofs.Common.{Option, Some, None, same_Some, None≢Some, ProcessState, Spot, Only, Cover, New, NewDir, NewOthers, NewFile}
-use Rattle.pua_jointly.proofs.Common.{NewLink, all_new, All}
+use Rattle.pua_jointly.proofs.Common.{NewLink, NewSock, NewFifo, all_new, All}
 use Rattle.std.specs.Prelude.{slice_get, ◌+◌, ◌*◌, ◌/◌, ◌%◌}
 use Rattle.std.proofs.lemmas.Nat.{div-add-mod'}
 use Rattle.std.proofs.lemmas.Option.{slice_get_within}
@@ -29,7 +29,9 @@ new_is zero new e = ap new_bit (same_Some NewDir new e)
 new_is (suc zero) new e = ap new_bit (same_Some NewOthers new e)
 new_is (suc (suc zero)) new e = ap new_bit (same_Some NewFile new e)
 new_is (suc (suc (suc zero))) new e = ap new_bit (same_Some NewLink new e)
-new_is (suc (suc (suc (suc i)))) new e = absurd (None≢Some new e)
+new_is (suc (suc (suc (suc zero)))) new e = ap new_bit (same_Some NewSock new e)
+new_is (suc (suc (suc (suc (suc zero))))) new e = ap new_bit (same_Some NewFifo new e)
+new_is (suc (suc (suc (suc (suc (suc i)))))) new e = absurd (None≢Some new e)
 
 -- the row of a fact, and its word and bit there
 abbrev pub seat_row : Seat → Entity

@@ -1,6 +1,6 @@
 -- A fact is in the table of a crew where the word of its place has its bit.
 use Rattle.pua_jointly.proofs.Common.{◌≡◌, ◌<◌, ◌∙◌, ◌∷◌, ◌++◌, [], ℕ, List, length, map, refl, sym, ap, arith}
-use Rattle.pua_jointly.proofs.Common.{Some, option_map, ProcessState, Spot, Only, Cover, All, New, NewDir, NewOthers, NewFile, NewLink, all_new, suc}
+use Rattle.pua_jointly.proofs.Common.{Some, option_map, ProcessState, Spot, Only, Cover, All, New, NewDir, NewOthers, NewFile, NewLink, NewSock, NewFifo, all_new, suc}
 use Rattle.std.specs.Prelude.{slice_get, get_or, ◌+◌, ◌*◌, ◌/◌, ◌%◌, ◌==◌}
 use Rattle.std.specs.Int.{bit_at}
 use Rattle.std.proofs.lemmas.Nat.{div-mul-add, mod-mul-add}
@@ -33,6 +33,8 @@ new_at f NewDir = refl
 new_at f NewOthers = refl
 new_at f NewFile = refl
 new_at f NewLink = refl
+new_at f NewSock = refl
+new_at f NewFifo = refl
 
 module _ (crew : List ProcessState) (dirs : ℕ) (spots : List Spot) (guarded : List ℕ) where
   abbrev pub es : List Entity
@@ -127,6 +129,8 @@ module _ (crew : List ProcessState) (dirs : ℕ) (spots : List Spot) (guarded : 
   carried_at m a NewOthers = refl
   carried_at m a NewFile = refl
   carried_at m a NewLink = refl
+  carried_at m a NewSock = refl
+  carried_at m a NewFifo = refl
 
   pub carries_new_said : (i j : ℕ) (m a : ProcessState) (new : New) → slice_get crew i ≡ Some m → slice_get crew j ≡ Some a →
       says ((dirs + i) * length cs + j) (19 + new_bit new) (Carries (Maker new m) a)

@@ -3,7 +3,7 @@ use Rattle.pua_jointly.proofs.Common.{◌≡◌, ◌≢◌, ◌<◌, ◌∙◌, 
 use Rattle.pua_jointly.proofs.Common.{inl, inr, arith, Option, Some, None, same_Some, None≢Some, ProcessState, Spot, Cover, Only, Tree, WellFormed}
 use Rattle.pua_jointly.proofs.Common.{CallTable, if◌then◌else◌, not, false≢true, eqb-true, eq-eqb, and_from, and_parts, or_left, or_right}
 use Rattle.pua_jointly.proofs.Common.{list_any, Among, among_contained, contained, is_dir, is_dir_kind, look, above, has_c, can_move}
-use Rattle.pua_jointly.proofs.Common.{perms_kept, New, NewDir, all_new, row_of, row_says, sound_from, Kind}
+use Rattle.pua_jointly.proofs.Common.{perms_kept, New, NewDir, NewOthers, NewFile, NewLink, NewSock, NewFifo, all_new, row_of, row_says, sound_from, Kind}
 use Rattle.std.specs.Prelude.{slice_get, get_or, ◌+◌, ◌*◌, ◌/◌, ◌%◌, ◌∷◌, [], map, option_map, zero, IsTrue, IsFalse}
 use Rattle.std.specs.List.{Contains, fold}
 use Rattle.std.specs.Int.{bit_at}
@@ -13,6 +13,9 @@ use Rattle.pua_tree.specs.Tree.{parent}
 use Rattle.pua_policy.specs.declared.place.Place.TheVariants as place
 use Rattle.pua_jointly.specs.Closing.{has_bit}
 use Rattle.pua_ever.specs.Ever.{new_kind, can_link}
+use Rattle.pua_calls.specs.Calls.{file_by_rules}
+use Rattle.pua_calls.specs.declared.rules.Rules.{Rules}
+use Rattle.pua_calls.specs.declared.rules.Rules.TheVariants.{Standard, Openbsd}
 use Rattle.pua_jointly.specs.Jointly.{Seat, Source, Old, Made, Row, Maker, may_take, kind_of_source, own_veil}
 use Rattle.pua_jointly.specs.JointFacts.{Kept, Covers, Enters, Lands, Clear, LandsClear, Turns, Taken, Creates, Drops, Carries, can_carry, Moves}
 use Rattle.pua_jointly.specs.JointFacts.{makes_under, IsFreed, IsOver, over_own, over_within, Puts, IsPlain, Follows, enters_by_c, enters_by_name}
@@ -33,13 +36,13 @@ use Rattle.pua_jointly.proofs.JointFlags.{flag_means, flag_has}
 use Rattle.pua_jointly.proofs.JointPlaces.{row_at, new_is}
 use Rattle.pua_jointly.proofs.Once.{mapped}
 use Rattle.pua_jointly.specs.JointPlace.{Once, cover_bit, new_bit}
-use Rattle.pua_jointly.specs.JointWords.{word_at, meets, moves_at, with_c, AreCovers, IsAgent, AreAgents, making, carrying, some_meets}
+use Rattle.pua_jointly.specs.JointWords.{word_at, meets, moves_at, with_c, AreCovers, IsAgent, AreAgents, making, carried_kind, carrying, some_meets}
 use Rattle.pua_jointly.specs.JointWords.{dropped_word, landing_word, moved_word, apart_word, made_word, born_at, covers_in}
 use Rattle.pua_jointly.specs.JointOld.{asked_word, over_word, above_word, old_word}
 use Rattle.pua_jointly.specs.JointRounds as code
 use Rattle.pua_jointly.specs.JointSetting.{AreColumns}
 use Rattle.pua_jointly.specs.JointSetup.{name_row, AreEntries, IsEntry, AreMarks, IsMark, IsRowOf, AreWatches, IsWatch}
-use Rattle.pua_jointly.specs.declared.crew.Agent.{Agent}
+use Rattle.pua_jointly.specs.declared.agent.Agent.{Agent}
 use Rattle.pua_jointly.specs.declared.crew.Crew.{Crew}
 use Rattle.pua_jointly.specs.declared.crew.Entry.{Entry}
 use Rattle.pua_jointly.specs.declared.crew.Mark.{Mark}
@@ -117,6 +120,19 @@ none_there {Y = Y} xs ys i has none = by (slice_get ys i) refl
 none_mapped : {X Y : Type 0} (f : X → Y) (o : Option X) → option_map f o ≡ None → o ≡ None
 none_mapped f None e = refl
 none_mapped f (Some x) e = absurd (None≢Some (f x) (sym e))
+
+-- what is made is carried as a link or as no link is
+carried_file : (agent : Agent) (whose : Rules) → carrying agent (file_by_rules whose) ≡ agent.carrying
+carried_file agent Standard = refl
+carried_file agent Openbsd = refl
+
+same_carrying : (table : CallTable) (agent : Agent) (new : New) → carrying agent (new_kind table new) ≡ carrying agent (carried_kind new)
+same_carrying table agent NewDir = refl
+same_carrying table agent NewOthers = refl
+same_carrying table agent NewFile = carried_file agent table.whose
+same_carrying table agent NewLink = refl
+same_carrying table agent NewSock = refl
+same_carrying table agent NewFifo = refl
 
 module _ (t : Tree) (well : WellFormed t) (table : CallTable) (crew : List ProcessState) (watched : ℕ → Bool) (dirs : ℕ)
     (spots : List Spot) (guarded : List ℕ) (fits : TableFits t crew watched dirs spots guarded) (each_agent : Once crew)
@@ -597,7 +613,7 @@ module _ (t : Tree) (well : WellFormed t) (table : CallTable) (crew : List Proce
           (any_among (code.opens c told agent (making agent new)) c₀.marks.items m.0 m.1 m.4)
 
       -- what it carries on
-      carry_covers : (r : Source) (kind : Kind) → kind_of_source t r ≡ Some kind → AreCovers (carrying agent kind) (can_carry t table r a)
+      carry_covers : (r : Source) (kind : Kind) → kind_of_source t table r ≡ Some kind → AreCovers (carrying agent kind) (can_carry t table r a)
       carry_covers r kind e =
           subst (λ (o : Option Kind). AreCovers (carrying agent kind) (λ k. can_move table a k || can_link table a o k)) (sym e) (is.carries kind)
 
@@ -606,10 +622,9 @@ module _ (t : Tree) (well : WellFormed t) (table : CallTable) (crew : List Proce
             ≡ meets (word_at told many (dirs + (n + (n + j))) i) (carrying agent kind)
         finds_same kind = λ z. meets (word_at told many (is_b.drops z) (is.place z)) (carrying agent kind)
 
-        finds_means : (r : Source) (kind : Kind) → kind_of_source t r ≡ Some kind → code.finds c told agent kind other ≡ true →
+        finds_means : (r : Source) (kind : Kind) → AreCovers (carrying agent kind) (can_carry t table r a) → code.finds c told agent kind other ≡ true →
             (k : Cover) × T (Drops b a k) × IsTrue (can_carry t table r a k)
-        finds_means r kind same e =
-            let covers = carry_covers r kind same in
+        finds_means r kind covers e =
             let word : ℕ = word_at told many (dirs + (n + (n + j))) i in
             let found = words.meets_some word (carrying agent kind) covers.small (sym (finds_same kind) ∙ e) in
             let k = words.cover_of found.0 (covers.only found.0 found.2) in
@@ -620,10 +635,9 @@ module _ (t : Tree) (well : WellFormed t) (table : CallTable) (crew : List Proce
               sym (covers.all k.0 small) ∙ (ap (λ bit. bit_at (carrying agent kind) bit == 1) k.1 ∙ found.2),
             )
 
-        finds_has : (r : Source) (kind : Kind) → kind_of_source t r ≡ Some kind → (k : Cover) → T (Drops b a k) →
+        finds_has : (r : Source) (kind : Kind) → AreCovers (carrying agent kind) (can_carry t table r a) → (k : Cover) → T (Drops b a k) →
             IsTrue (can_carry t table r a k) → code.finds c told agent kind other ≡ true
-        finds_has r kind same k drops can =
-            let covers = carry_covers r kind same in
+        finds_has r kind covers k drops can =
             let small = small_of k
             (words.range t table crew watched dirs spots guarded fits each_agent each_name each_watched told (Drops b a k) drops).2 in
             finds_same kind
@@ -632,7 +646,7 @@ module _ (t : Tree) (well : WellFormed t) (table : CallTable) (crew : List Proce
             (covers.all k small ∙ can)
 
       -- a bit by which others carry it, of any of the processes
-      module _ (r : Source) (kind : Kind) (same : kind_of_source t r ≡ Some kind) (row bit : ℕ)
+      module _ (r : Source) (kind : Kind) (covers : AreCovers (carrying agent kind) (can_carry t table r a)) (row bit : ℕ)
           (said : (j : ℕ) (b : ProcessState) → slice_get crew j ≡ Some b → says crew dirs spots guarded (row * many + j) bit (Carries r b)) where
         on_means : list_any (code.carries_on c told row bit agent kind) c₀.agents.items ≡ true → Now (Carries r a)
         on_means e =
@@ -640,7 +654,7 @@ module _ (t : Tree) (well : WellFormed t) (table : CallTable) (crew : List Proce
             let g = among_got c₀.agents.items found.0 found.1 in
             let one = are.only g.at found.0 g.is in
             let both = and_parts (code.has_one (word_at told many row found.0.place) bit) _ found.2 in
-            let k = finds_means g.at one.0 found.0 one.1 one.2 r kind same both.1 in
+            let k = finds_means g.at one.0 found.0 one.1 one.2 r kind covers both.1 in
             carries_on one.0 k.0 (among i a agent by is) (contained crew one.0 (got_among crew g.at one.0 one.1))
             (known (row * many + g.at) bit (Carries r one.0) (said g.at one.0 one.1)
             ((λ z. bit_at (get_or told (row * many + sym one.2.place z) 0) bit == 1) ∙ both.0)) k.1 k.2
@@ -653,7 +667,7 @@ module _ (t : Tree) (well : WellFormed t) (table : CallTable) (crew : List Proce
             any_among (code.carries_on c told row bit agent kind) c₀.agents.items one.0 (got_among c₀.agents.items g.at one.0 one.1)
             (and_from (code.has_one (word_at told many row one.0.place) bit) _
             ((λ z. bit_at (get_or told (row * many + one.2.place z) 0) bit == 1) ∙ has (row * many + g.at) bit (Carries r b) (said g.at b g.is) carries)
-            (finds_has g.at b one.0 g.is one.2 r kind same k drops can))
+            (finds_has g.at b one.0 g.is one.2 r kind covers k drops can))
 
       -- of a name
       module _ (e_at : ℕ) (s : Spot) (entry : Entry) (got : slice_get spots e_at ≡ Some s) (is_entry : IsEntry t dirs n e_at s entry) where
@@ -662,8 +676,8 @@ module _ (t : Tree) (well : WellFormed t) (table : CallTable) (crew : List Proce
             subst (λ r. says crew dirs spots guarded (r * many + j) 0 (Carries (Row s) b)) (sym is_entry.row)
             (carries_said crew dirs spots guarded e_at j s b got from)
 
-        source_kind : kind_of_source t (Row s) ≡ Some entry.kind
-        source_kind = sym (row_kind t s entry.node is_entry.at) ∙ is_entry.kind
+        carry_row : AreCovers (carrying agent entry.kind) (can_carry t table (Row s) a)
+        carry_row = carry_covers (Row s) entry.kind (sym (row_kind t table s entry.node is_entry.at) ∙ is_entry.kind)
 
         stands_low : (s.0 < dirs) × IsTrue (is_dir t s.0)
         stands_low = (fits.above s.0 s.1 entry.node is_entry.at, (row_says t (sound_from t well) s entry.node is_entry.at).0)
@@ -679,10 +693,10 @@ module _ (t : Tree) (well : WellFormed t) (table : CallTable) (crew : List Proce
         row_means e = elim (either_true (code.carries_at c told agent entry) _ e) [
           | inl here ↦
               (let both = and_parts (not (is_dir_kind (Some entry.kind))) _ here in
-              let k = covered_means i a agent by is (carrying agent entry.kind) (can_carry t table (Row s) a) (carry_covers (Row s) entry.kind source_kind)
+              let k = covered_means i a agent by is (carrying agent entry.kind) (can_carry t table (Row s) a) carry_row
               s.0 s.1 stands_low.0 stands_low.1 (sym (ap (λ w. meets w (carrying agent entry.kind)) word_same) ∙ both.1) in
               carries_row entry.node k.0 (among i a agent by is) is_entry.at (sym is_kind ∙ not_is _ both.0) k.1 k.2)
-          | inr on ↦ on_means (Row s) entry.kind source_kind entry.row 0 row_said on
+          | inr on ↦ on_means (Row s) entry.kind carry_row entry.row 0 row_said on
         ]
 
         row_rule : (r : Source) → r ≡ Row s → Now (Carries r a) → code.can_carry_row c told agent entry ≡ true
@@ -692,12 +706,12 @@ module _ (t : Tree) (well : WellFormed t) (table : CallTable) (crew : List Proce
             or_left (code.carries_at c told agent entry) _
             (and_from (not (is_dir_kind (Some entry.kind))) _ (ap not (is_kind ∙ ap (is_dir t) (sym same) ∙ is_other))
             (ap (λ w. meets w (carrying agent entry.kind)) word_same
-            ∙ covered_has i a agent by is (carrying agent entry.kind) (can_carry t table (Row s) a) (carry_covers (Row s) entry.kind source_kind)
+            ∙ covered_has i a agent by is (carrying agent entry.kind) (can_carry t table (Row s) a) carry_row
             s.0 s.1 stands_low.0 stands_low.1 k (subst (λ (q : Spot). Over a q.0 q.1 k) here over)
             (subst (λ (q : Spot). IsTrue (can_carry t table (Row q) a k)) here can)))
         row_rule r e (carries_on b k _ from carries drops can) =
             or_right (code.carries_at c told agent entry) _
-            (on_has (Row s) entry.kind source_kind entry.row 0 row_said b k from (subst (λ q. T (Carries q b)) e carries) drops
+            (on_has (Row s) entry.kind carry_row entry.row 0 row_said b k from (subst (λ q. T (Carries q b)) e carries) drops
             (subst (λ q. IsTrue (can_carry t table q a k)) e can))
         row_rule r e (carries_born k _ from makes drops can) = absurd (maker_is_not _ _ s e)
 
@@ -707,6 +721,11 @@ module _ (t : Tree) (well : WellFormed t) (table : CallTable) (crew : List Proce
       -- of what a process makes
       module _ (j : ℕ) (m : ProcessState) (maker : Agent) (from : slice_get crew j ≡ Some m) (is_m : IsAgent table dirs crew j m maker)
           (new : New) where
+        -- it is asked only whether what is made is a link
+        carry_new : AreCovers (carrying agent (carried_kind new)) (can_carry t table (Maker new m) a)
+        carry_new = subst (λ covers. AreCovers covers (can_carry t table (Maker new m) a)) (same_carrying table agent new)
+            (carry_covers (Maker new m) (new_kind table new) refl)
+
         new_said : (k : ℕ) (b : ProcessState) → slice_get crew k ≡ Some b →
             says crew dirs spots guarded ((dirs + j) * many + k) (19 + new_bit new) (Carries (Maker new m) b)
         new_said k b at = carries_new_said crew dirs spots guarded j k m b new from at
@@ -719,11 +738,11 @@ module _ (t : Tree) (well : WellFormed t) (table : CallTable) (crew : List Proce
         new_means e = elim (either_true (code.carries_born c told maker new agent) _ e) [
           | inl born ↦
               (let both = and_parts (code.has_one (word_at told many (dirs + (n + (n + (n + 0)))) maker.place) (new_bit new)) _ born in
-              let k = finds_means j m maker from is_m (Maker new m) (new_kind new) refl both.1 in
+              let k = finds_means j m maker from is_m (Maker new m) (carried_kind new) carry_new both.1 in
               carries_born k.0 (among i a agent by is) (contained crew m (got_among crew j m from))
               (known ((dirs + (n + (n + (n + 0)))) * many + j) (new_bit new) (Creates m new) (creates_said crew dirs spots guarded j m new from)
               (sym creates_same ∙ both.0)) k.1 k.2)
-          | inr on ↦ on_means (Maker new m) (new_kind new) refl (dirs + j) (19 + new_bit new) new_said on
+          | inr on ↦ on_means (Maker new m) (carried_kind new) carry_new (dirs + j) (19 + new_bit new) new_said on
         ]
 
         new_has : Now (Carries (Maker new m) a) → code.can_carry_new c told (dirs + j) maker new agent ≡ true
@@ -732,10 +751,10 @@ module _ (t : Tree) (well : WellFormed t) (table : CallTable) (crew : List Proce
             (and_from (code.has_one (word_at told many (dirs + (n + (n + (n + 0)))) maker.place) (new_bit new)) _
             (creates_same
             ∙ has ((dirs + (n + (n + (n + 0)))) * many + j) (new_bit new) (Creates m new) (creates_said crew dirs spots guarded j m new from) makes)
-            (finds_has j m maker from is_m (Maker new m) (new_kind new) refl k drops can))
+            (finds_has j m maker from is_m (Maker new m) (carried_kind new) carry_new k drops can))
         new_has (carries_on b k _ carrier carries drops can) =
             or_right (code.carries_born c told maker new agent) _
-            (on_has (Maker new m) (new_kind new) refl (dirs + j) (19 + new_bit new) new_said b k carrier carries drops can)
+            (on_has (Maker new m) (carried_kind new) carry_new (dirs + j) (19 + new_bit new) new_said b k carrier carries drops can)
 
       -- where another one puts what is no directory
       module _ (j : ℕ) (b : ProcessState) (other : Agent) (from : slice_get crew j ≡ Some b) (is_b : IsAgent table dirs crew j b other)

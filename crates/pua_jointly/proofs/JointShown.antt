@@ -24,7 +24,7 @@ use Rattle.pua_jointly.specs.JointSetup.{FollowsTold, IsCrew, IsEntry, IsWorkedO
 use Rattle.pua_jointly.specs.JointSetup.{spots_told}
 use Rattle.pua_jointly.specs.JointTable.{HasBit, HasFacts, IsTold, columns, numbers}
 use Rattle.pua_jointly.specs.JointWords.{IsAgent, covers_in, word_at}
-use Rattle.pua_jointly.specs.declared.crew.Agent.{Agent}
+use Rattle.pua_jointly.specs.declared.agent.Agent.{Agent}
 use Rattle.pua_jointly.specs.declared.crew.Crew.{Crew}
 use Rattle.pua_jointly.specs.declared.crew.Entry.{Entry}
 use Rattle.pua_jointly.proofs.Gaining.{has_or}

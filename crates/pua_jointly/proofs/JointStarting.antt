@@ -4,6 +4,7 @@ use Rattle.pua_jointly.proofs.Common.{CallTable, ProcessState, Tree, Kind, Cover
 use Rattle.pua_jointly.proofs.Common.{covered_verdict, is_allowed, object_of_kind, look, At, Slot, Stands, Comes, NewFile, contained, IsMissing}
 use Rattle.std.specs.List.{Contains}
 use Rattle.pua_tree.specs.declared.node.Kind.TheVariants as kind
+use Rattle.pua_tree.specs.declared.node.FileType.TheVariants.{Plain, Sock, Fifo, Dev}
 use Rattle.pua_path.specs.declared.errno.Errno.{Errno}
 use Rattle.pua_calls.specs.Calls.{rule_of}
 use Rattle.pua_calls.specs.declared.call.Call.TheVariants as call
@@ -11,13 +12,13 @@ use Rattle.pua_policy.specs.States.{may_any}
 use Rattle.pua_policy.specs.Verdict.{IsDir, Is, allowed_unless, cover_fault, if_promised, object_fault, or_fault}
 use Rattle.pua_policy.specs.declared.answer.May.{May}
 use Rattle.pua_policy.specs.declared.answer.May.TheVariants.{Yes, Enosys, Death}
-use Rattle.pua_ever.specs.Ever.{Thing}
+use Rattle.pua_ever.specs.Ever.{Thing, may_start}
 use Rattle.pua_jointly.specs.JointCalls.{IsOf}
 use Rattle.pua_jointly.specs.JointFound.{AreFacts}
 use Rattle.pua_jointly.specs.JointPrograms.{HasExec, SomeStart}
 use Rattle.pua_jointly.specs.Jointly.{Shows, shows_dir, shows_emptied, shows_others, shows_row, shows_name, shows_new_dir, shows_new_others}
-use Rattle.pua_jointly.specs.Jointly.{shows_new_file, shows_new_link, IsJointlyListed}
-use Rattle.pua_jointly.specs.declared.crew.Agent.{Agent}
+use Rattle.pua_jointly.specs.Jointly.{shows_new_file, shows_new_link, shows_new_sock, shows_new_fifo, IsJointlyListed}
+use Rattle.pua_jointly.specs.declared.agent.Agent.{Agent}
 use Rattle.pua_jointly.specs.declared.crew.Entry.{Entry}
 use Rattle.pua_jointly.specs.declared.facts.Facts.{Facts}
 use Rattle.pua_jointly.proofs.JointPlaced.{got_among}
@@ -26,9 +27,16 @@ use Rattle.pua_jointly.proofs.JointTold.{place_of_entry}
 
 -- what exec is for
 abbrev plain : Object → Bool
-plain (Is kind.File) = true
 plain (Is kind.Prog) = true
+plain (Is kind) = may_start kind
 plain _ = false
+
+starts_plain : (is : Kind) → may_start is ≡ true → plain (Is is) ≡ true
+starts_plain kind.Prog starts = refl
+starts_plain kind.File starts = starts
+starts_plain (kind.Known type) starts = starts
+starts_plain kind.Dir starts = starts
+starts_plain kind.Link starts = starts
 
 never : (table : CallTable) (a : ProcessState) (k : Cover) (o : Object) (e : Errno) → object_fault table.whose empty_tree call.Exec o ≡ Some e →
     is_allowed (covered_verdict empty_tree table a call.Exec k o) ≡ true → ⊥
@@ -47,6 +55,10 @@ plain_of : (table : CallTable) (a : ProcessState) (k : Cover) (o : Object) →
     is_allowed (covered_verdict empty_tree table a call.Exec k o) ≡ true → plain o ≡ true
 plain_of table a k (Is kind.File) e = refl
 plain_of table a k (Is kind.Prog) e = refl
+plain_of table a k (Is (kind.Known Plain)) e = refl
+plain_of table a k (Is (kind.Known Sock)) e = absurd (never table a k (Is (kind.Known Sock)) _ refl e)
+plain_of table a k (Is (kind.Known Fifo)) e = absurd (never table a k (Is (kind.Known Fifo)) _ refl e)
+plain_of table a k (Is (kind.Known Dev)) e = absurd (never table a k (Is (kind.Known Dev)) _ refl e)
 plain_of table a k (Is kind.Dir) e = absurd (never table a k (Is kind.Dir) _ refl e)
 plain_of table a k (Is kind.Link) e = absurd (never table a k (Is kind.Link) _ refl e)
 plain_of table a k (IsDir dir way) e = absurd (never table a k (IsDir dir way) _ refl e)
@@ -70,6 +82,8 @@ module _ (t : Tree) (table : CallTable) (crew : List ProcessState) (a : ProcessS
   on_plain (shows_new_dir m can) e = absurd (false≢true e)
   on_plain (shows_new_others m can) e = absurd (false≢true e)
   on_plain (shows_new_link m d name stands over) e = absurd (false≢true e)
+  on_plain (shows_new_sock m d name stands over) e = absurd (false≢true e)
+  on_plain (shows_new_fifo m d name stands over) e = absurd (false≢true e)
   on_plain (shows_new_file m d name stands over) e = inr refl
   on_plain (shows_row {dir = dir} {name = name} {x = x} d other here stands over) e = inl (record {
     dir = dir;
@@ -85,12 +99,13 @@ module _ (t : Tree) (table : CallTable) (crew : List ProcessState) (a : ProcessS
       by (Some kind.File) e = refl
       by (Some kind.Prog) e = refl
       by (Some kind.Link) e = refl
+      by (Some (kind.Known type)) e = refl
       by (Some kind.Dir) e = absurd (false≢true e)
 
   pub exec_on : (thing : Thing) → IsJointlyListed t table crew a thing call.Exec → StandsPlain t thing ⊎ (thing ≡ Comes NewFile)
   exec_on thing listed = elim listed [
     | inl can ↦ on_plain can.shows (plain_of table a can.cover can.object can.allowed)
-    | inr program ↦ on_plain program.1.shows refl
+    | inr program ↦ on_plain program.1.shows (starts_plain program.1.is program.1.starts)
   ]
 
 -- what stands at a name is one of the entries that are asked about

@@ -2,7 +2,7 @@
 use Rattle.pua_jointly.proofs.Common.{◌≡◌, ◌≢◌, ◌≤◌, ◌∙◌, ◌||◌, ◌&&◌, ◌==◌, ◌∷◌, [], ℕ, zero, suc, Bool, true, false, List, refl, sym, ap, subst}
 use Rattle.pua_jointly.proofs.Common.{inl, inr, arith, not, Option, Some, None, None≢Some, same_Some, false≢true}
 use Rattle.pua_jointly.proofs.Common.{eq-eqb, eqb-true, among_contained, contained, list_any, map_among, ProcessState, Tree, WellFormed, CallTable, Call, has}
-use Rattle.pua_jointly.proofs.Common.{At, Others, Whole, Slot, Way, Stands, Comes, NewDir, NewOthers, NewFile, NewLink, is_dir, keeps_link, look, Object}
+use Rattle.pua_jointly.proofs.Common.{At, Others, Whole, Slot, Way, Stands, Comes, NewDir, NewOthers, NewFile, NewLink, NewSock, NewFifo, is_dir, keeps_link, look, Object}
 use Rattle.pua_jointly.proofs.Common.{object_of_kind, lasting_dir, removable_dir, IsMissing, Cover}
 use mir.Syntax.{w32}
 use Rattle.std.specs.Prelude.{⊤, ◌+◌, ◌*◌, ◌%◌, ◌^◌, bit_or, get_or}
@@ -14,9 +14,9 @@ use Rattle.pua_calls.specs.CallSets.{bit_of}
 use Rattle.pua_calls.specs.declared.call.Call.TheVariants.{Stat}
 use Rattle.pua_calls.proofs.ForCallers.{Decides, bit_below, bit_of_call_at, decides_all, decides_left, decides_none, decides_taken, has_none, same_bit}
 use Rattle.pua_policy.specs.States.{perms_kept}
-use Rattle.pua_policy.specs.Verdict.{IsFile, IsLink, IsProg}
+use Rattle.pua_policy.specs.Verdict.{Is, IsLink, IsProg}
 use Rattle.pua_policy.specs.declared.place.Place.TheVariants as place
-use Rattle.pua_ever.specs.Ever.{Thing, is_exec_call}
+use Rattle.pua_ever.specs.Ever.{Thing, is_exec_call, new_object}
 use Rattle.pua_jointly.specs.JointCalls.{AreCallsOf, AreCallsOfOne, AreFreeCalls, AreUnder, IsOf, free_allows}
 use Rattle.pua_jointly.specs.JointCovers.{allows_under, numbered}
 use Rattle.pua_jointly.specs.JointFound.{AreFacts, entry_word, made_words, new_covers, turns_in}
@@ -27,7 +27,7 @@ use Rattle.pua_jointly.specs.Jointly.{Old, Made, Row, Maker, Fact, StandsIn, Dir
 use Rattle.pua_jointly.specs.Jointly.{Can, stays_in, moved_in, born_in, not_above_root, not_above_up, not_above_made, dir_own, dir_root}
 use Rattle.pua_jointly.specs.Jointly.{dir_within, name_own, name_within, free_none, free_made, free_dir, free_other, way_in_by_c, way_in_by_name}
 use Rattle.pua_jointly.specs.Jointly.{way_in_by_turn, writes_at, makes_at, stays_at, moved_at, born_at, Shows, agents_of, as_started}
-use Rattle.pua_jointly.specs.declared.crew.Agent.{Agent}
+use Rattle.pua_jointly.specs.declared.agent.Agent.{Agent}
 use Rattle.pua_jointly.specs.declared.crew.Crew.{Crew}
 use Rattle.pua_jointly.specs.declared.crew.Entry.{Entry}
 use Rattle.pua_jointly.specs.declared.facts.Facts.{Facts}
@@ -119,7 +119,7 @@ module _ (t : Tree) (well : WellFormed t) (table : CallTable) (crew : List Proce
     nothing thing never = record {
       all = λ call listed. elim listed [
         | inl can ↦ absurd (never can.cover can.object can.shows)
-        | inr program ↦ absurd (never program.1.cover IsFile program.1.shows)
+        | inr program ↦ absurd (never program.1.cover (Is program.1.is) program.1.shows)
       ];
       only = λ call e. absurd (false≢true (sym (has_none call) ∙ e));
     }
@@ -305,7 +305,7 @@ module _ (t : Tree) (table : CallTable) (crew : List ProcessState) (facts : Fact
 
   on_new_file : Known (Comes NewFile)
   on_new_file =
-      let one = under (new_covers c words of NewFile) IsFile in
+      let one = under (new_covers c words of NewFile) (new_object table NewFile) in
       let two = under (new_covers c words of NewFile) IsProg in
       let both = set_of (λ call. has one.0 call || (is_exec_call call && has two.0 call)) in
       (both.0, told_by.made_file_calls t table crew facts a of is one.0 two.0 both.0 one.1 two.1 both.1)
@@ -316,6 +316,16 @@ module _ (t : Tree) (table : CallTable) (crew : List ProcessState) (facts : Fact
       let kept = set_of (λ call. has one.0 call && keeps_link call) in
       (kept.0, told_by.made_link_calls t table crew facts a of is one.0 kept.0 one.1 kept.1)
 
+  on_new_sock : Known (Comes NewSock)
+  on_new_sock =
+      let one = under (new_covers c words of NewSock) (new_object table NewSock) in
+      (one.0, told_by.made_sock_calls t table crew facts a of is one.0 one.1)
+
+  on_new_fifo : Known (Comes NewFifo)
+  on_new_fifo =
+      let one = under (new_covers c words of NewFifo) (new_object table NewFifo) in
+      (one.0, told_by.made_fifo_calls t table crew facts a of is one.0 one.1)
+
   pub known_of : (thing : Thing) → Known thing
   known_of (Stands (At (Whole d way))) = on_dir d way
   known_of (Stands (At (Slot dir name (Some x)))) = on_row dir name x
@@ -325,6 +335,8 @@ module _ (t : Tree) (table : CallTable) (crew : List ProcessState) (facts : Fact
   known_of (Comes NewOthers) = on_new_others
   known_of (Comes NewFile) = on_new_file
   known_of (Comes NewLink) = on_new_link
+  known_of (Comes NewSock) = on_new_sock
+  known_of (Comes NewFifo) = on_new_fifo
 
 -- ---- the test
 

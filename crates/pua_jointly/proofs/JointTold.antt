@@ -1,10 +1,10 @@
 -- The calls under the covers that were found of a thing are those that can ever be allowed on it.
 use Rattle.pua_jointly.proofs.Common.{◌≡◌, ◌≢◌, ◌<◌, ◌∙◌, ◌||◌, ◌&&◌, ℕ, Bool, true, false, List, refl, sym, ap, subst, not, Option, Some, None, None≢Some}
 use Rattle.pua_jointly.proofs.Common.{ProcessState, Cover, Tree, CallTable, Call, Object, At, Others, Whole, Slot, Way, Stands, Comes, same_Some}
-use Rattle.pua_jointly.proofs.Common.{NewDir, NewOthers, NewFile, NewLink, covered_verdict, is_allowed, empty_tree, false≢true, has, IsMissing}
+use Rattle.pua_jointly.proofs.Common.{NewDir, NewOthers, NewFile, NewLink, NewSock, NewFifo, covered_verdict, is_allowed, empty_tree, false≢true, has, IsMissing}
 use Rattle.pua_jointly.proofs.Common.{is_dir, kind_at, keeps_link, list_any, look, object_of_kind, lasting_dir, removable_dir}
 use Rattle.pua_jointly.proofs.Common.{◌==◌, Spot, among_contained, contained, eq-eqb, eqb-true, and_parts, is_some, option_eq, own_spot, Subject}
-use Rattle.pua_jointly.proofs.Common.{◌⊎◌, Among, among_map, and_from, inl, inr, is_dir_kind, Kind, map_among, or_left, or_right}
+use Rattle.pua_jointly.proofs.Common.{◌⊎◌, Among, among_map, and_from, inl, inr, is_dir_kind, map_among, or_left, or_right}
 use Rattle.pua_objects.specs.Items.{SubjectFits}
 use Rattle.pua_path.specs.Fits.{is_link_kind}
 use Rattle.pua_policy.specs.States.{perms_kept}
@@ -14,10 +14,9 @@ use Rattle.std.specs.Int.{bit_at}
 use Rattle.std.specs.BTreeSet.{contains}
 use Rattle.std.specs.List.{Contains}
 use Rattle.std.specs.Ordering.{nat_cmp}
-use Rattle.pua_tree.specs.declared.node.Kind.TheVariants as kinds
-use Rattle.pua_policy.specs.Verdict.{IsFile, IsLink, IsProg, FoundFits}
+use Rattle.pua_policy.specs.Verdict.{Is, IsFile, IsLink, IsProg, FoundFits}
 use Rattle.pua_jointly.specs.Closing.{has_bit}
-use Rattle.pua_ever.specs.Ever.{Thing, is_exec_call, is_some_file}
+use Rattle.pua_ever.specs.Ever.{Thing, is_exec_call, may_start, may_start_at, new_kind, new_object}
 use Rattle.pua_jointly.specs.JointCalls.{AreAllowedOf, AreCallsOf, AreFreeCalls, AreUnder, IsOf}
 use Rattle.pua_jointly.specs.JointCovers.{AreCallsByCover, allows_under, numbered}
 use Rattle.pua_jointly.specs.JointFound.{AreFacts, entry_word, made_words, new_covers, turned_by, turns_in}
@@ -25,12 +24,12 @@ use Rattle.pua_jointly.specs.JointPlace.{cover_bit}
 use Rattle.pua_jointly.specs.Jointly.{CanTurn, IsJointlyAllowed, IsTurned, IsTurnedByCall, Shows, is_link_thing, is_turned_open}
 use Rattle.pua_jointly.specs.Jointly.{sends_to_set, turning_by}
 use Rattle.pua_jointly.specs.Jointly.{shows_dir, shows_emptied, shows_others, shows_row, shows_new_dir, shows_new_others, shows_new_file}
-use Rattle.pua_jointly.specs.Jointly.{shows_new_link, free_none}
+use Rattle.pua_jointly.specs.Jointly.{shows_new_link, shows_new_sock, shows_new_fifo, free_none}
 use Rattle.pua_jointly.specs.JointRounds.{is_taken, stays_in}
 use Rattle.pua_jointly.specs.JointSetting.{entry_of}
 use Rattle.pua_jointly.specs.JointSetup.{crew_told, dirs_of}
 use Rattle.pua_jointly.specs.JointWords.{IsAgent, covers_in, has_named, meets, word_at}
-use Rattle.pua_jointly.specs.declared.crew.Agent.{Agent}
+use Rattle.pua_jointly.specs.declared.agent.Agent.{Agent}
 use Rattle.pua_jointly.specs.declared.crew.Crew.{Crew}
 use Rattle.pua_jointly.specs.declared.crew.Entry.{Entry}
 use Rattle.pua_jointly.specs.declared.facts.Facts.{Facts}
@@ -41,7 +40,8 @@ use Rattle.pua_jointly.proofs.JointShown as show
 use Rattle.pua_jointly.proofs.JointShown.{IsUnder, under_has, under_means}
 use Rattle.pua_jointly.proofs.JointWords.{cover_of, either_true, meets_by, meets_some}
 use Rattle.pua_jointly.proofs.JointlyGrows.{joint_lists_grow}
-use Rattle.pua_ever.proofs.ForCallers.{standing_there}
+use Rattle.pua_ever.proofs.ForCallers.{standing_there, file_starts, start_no_dir, start_no_link}
+use Rattle.pua_jointly.proofs.JointAlike.{turning_allowed}
 use Rattle.pua_ever.proofs.ForCallers.{any_among, any_found}
 
 -- by the same process and the same word
@@ -173,24 +173,27 @@ module _ (t : Tree) (table : CallTable) (crew : List ProcessState) (facts : Fact
       show.made_has t table c are.worked told are.full are.closed are.has is.at a of is.got is.process s.0 k s.1)))
 
   -- a file, and a link
-  pub made_file_calls : (as_file started calls : ℕ) → AreUnder table a (new_covers c told of NewFile) IsFile as_file →
+  pub made_file_calls : (as_file started calls : ℕ) → AreUnder table a (new_covers c told of NewFile) (new_object table NewFile) as_file →
       AreUnder table a (new_covers c told of NewFile) IsProg started →
       ((call : Call) → has calls call ≡ (has as_file call || (is_exec_call call && has started call))) → AreCallsOf t table crew a (Comes NewFile) calls
   made_file_calls as_file started calls under under_started both =
       for_crew (Comes NewFile) calls
       (allow.listed_file t table all a (Comes NewFile) as_file started calls tt
-      (allow.one_object t table all a (Comes NewFile) IsFile as_file refl (λ k o shows. (allow.shown t table all a shows).2)
-      (allow.under_tells t table all a (Comes NewFile) IsFile (new_covers c told of NewFile) as_file under file_means file_has))
-      (allow.under_starts t table all a (Comes NewFile) (new_covers c told of NewFile) started under_started file_means file_has) both)
+      (allow.one_object t table all a (Comes NewFile) (new_object table NewFile) as_file refl (λ k o shows. (allow.shown t table all a shows).2)
+      (allow.under_tells t table all a (Comes NewFile) (new_object table NewFile) (new_covers c told of NewFile) as_file under file_means
+      (λ k shows. file_has k (new_object table NewFile) shows)))
+      (allow.under_starts t table all a (Comes NewFile) (new_kind table NewFile) (new_covers c told of NewFile) started (file_starts table.whose)
+      under_started file_means (λ k is starts shows. file_has k (Is is) shows)) both)
     where
-      file_means : (k : Cover) → cover_bit k < 18 → has_bit (new_covers c told of NewFile) (cover_bit k) → Shows t table all a (Comes NewFile) k IsFile
+      file_means : (k : Cover) → cover_bit k < 18 → has_bit (new_covers c told of NewFile) (cover_bit k) →
+          Shows t table all a (Comes NewFile) k (new_object table NewFile)
       file_means k small held =
           let m = show.new_means t table c are.worked told are.full are.closed are.has is.at a of is.got is.process NewFile k small held in
           shows_new_file m.0 m.1.dir m.1.name m.1.stands m.1.over
 
-      file_has : (k : Cover) → Shows t table all a (Comes NewFile) k IsFile →
+      file_has : (k : Cover) (o : Object) → Shows t table all a (Comes NewFile) k o →
           (cover_bit k < 18) × has_bit (new_covers c told of NewFile) (cover_bit k)
-      file_has k shows =
+      file_has k o shows =
           let s = allow.shown t table all a shows in
           show.new_has t table c are.worked told are.full are.closed are.has is.at a of is.got is.process NewFile s.0 k
           (record { dir = s.1.dir; name = s.1.name; stands = s.1.stands; over = s.1.over })
@@ -208,6 +211,35 @@ module _ (t : Tree) (table : CallTable) (crew : List ProcessState) (facts : Fact
       let s = allow.shown t table all a shows in
       show.new_has t table c are.worked told are.full are.closed are.has is.at a of is.got is.process NewLink s.0 k
       (record { dir = s.1.dir; name = s.1.name; stands = s.1.stands; over = s.1.over }))) keeping)
+
+  -- a socket, and a fifo
+  pub made_sock_calls : (calls : ℕ) → AreUnder table a (new_covers c told of NewSock) (new_object table NewSock) calls →
+      AreCallsOf t table crew a (Comes NewSock) calls
+  made_sock_calls calls under =
+      plain_crew (Comes NewSock) calls (λ none. none)
+      (allow.one_object t table all a (Comes NewSock) (new_object table NewSock) calls refl (λ k o shows. (allow.shown t table all a shows).2)
+      (allow.under_tells t table all a (Comes NewSock) (new_object table NewSock) (new_covers c told of NewSock) calls under
+      (λ k small held.
+      let m = show.new_means t table c are.worked told are.full are.closed are.has is.at a of is.got is.process NewSock k small held in
+      shows_new_sock m.0 m.1.dir m.1.name m.1.stands m.1.over)
+      (λ k shows.
+      let s = allow.shown t table all a shows in
+      show.new_has t table c are.worked told are.full are.closed are.has is.at a of is.got is.process NewSock s.0 k
+      (record { dir = s.1.dir; name = s.1.name; stands = s.1.stands; over = s.1.over }))))
+
+  pub made_fifo_calls : (calls : ℕ) → AreUnder table a (new_covers c told of NewFifo) (new_object table NewFifo) calls →
+      AreCallsOf t table crew a (Comes NewFifo) calls
+  made_fifo_calls calls under =
+      plain_crew (Comes NewFifo) calls (λ none. none)
+      (allow.one_object t table all a (Comes NewFifo) (new_object table NewFifo) calls refl (λ k o shows. (allow.shown t table all a shows).2)
+      (allow.under_tells t table all a (Comes NewFifo) (new_object table NewFifo) (new_covers c told of NewFifo) calls under
+      (λ k small held.
+      let m = show.new_means t table c are.worked told are.full are.closed are.has is.at a of is.got is.process NewFifo k small held in
+      shows_new_fifo m.0 m.1.dir m.1.name m.1.stands m.1.over)
+      (λ k shows.
+      let s = allow.shown t table all a shows in
+      show.new_has t table c are.worked told are.full are.closed are.has is.at a of is.got is.process NewFifo s.0 k
+      (record { dir = s.1.dir; name = s.1.name; stands = s.1.stands; over = s.1.over }))))
 
   -- on what stands at a name
   module _ (e_at : ℕ) (entry : Entry) (got : slice_get c.entries.items e_at ≡ Some entry) where
@@ -291,14 +323,12 @@ module _ (t : Tree) (table : CallTable) (crew : List ProcessState) (facts : Fact
     turned_calls other turn as_file started calls under under_started both =
         for_crew (at_name (Some entry.node)) calls
         (allow.listed_file t table all a (at_name (Some entry.node)) as_file started calls turn
-        (entry_calls other (ap is_link_kind is_file) as_file under)
-        (allow.under_starts t table all a (at_name (Some entry.node)) (entry_word c told of entry) started under_started
-        (λ k small held.
-        subst (λ o. Shows t table all a (at_name (Some entry.node)) k (object_of_kind o)) is_file (entry_means other k small held))
-        (λ k shows. entry_has other k IsFile shows)) both)
+        (entry_calls other (start_no_link entry.kind starts) as_file under)
+        (allow.under_starts t table all a (at_name (Some entry.node)) entry.kind (entry_word c told of entry) started starts under_started
+        (entry_means other) (λ k is starts shows. entry_has other k (Is is) shows)) both)
       where
-        is_file : Some entry.kind ≡ Some kinds.File
-        is_file = sym kind ∙ turn.file
+        starts : may_start entry.kind ≡ true
+        starts = ap may_start_at (sym kind) ∙ turn.file
 
     -- once it is taken away
     pub freed_calls : is_taken c told entry.row ≡ true → is_dir t entry.dir ≡ true → (calls : ℕ) →
@@ -422,50 +452,45 @@ module _ (t : Tree) (table : CallTable) (crew : List ProcessState) (facts : Fact
   abbrev ones : List ProcessState
   ones = crew_told facts.crew
 
-  file_is : (x : Kind) → is_some_file (Some x) ≡ true → x ≡ kinds.File
-  file_is kinds.File e = refl
-  file_is kinds.Dir e = absurd (false≢true e)
-  file_is kinds.Prog e = absurd (false≢true e)
-  file_is kinds.Link e = absurd (false≢true e)
-
   agent_by : (b : Agent) (at : ℕ) → slice_get k.agents.items at ≡ Some b → IsAgent table (dirs_of k) ones at b.process.now b
   agent_by b at got = show.is_agent t table k are.worked words are.full are.closed are.has at b.process.now b got refl
 
   module _ (b : Agent) (agent_at : ℕ) (agent_got : slice_get k.agents.items agent_at ≡ Some b) (e_at : ℕ) (entry : Entry)
-      (got : slice_get k.entries.items e_at ≡ Some entry) (file : entry.kind ≡ kinds.File) where
+      (got : slice_get k.entries.items e_at ≡ Some entry) (starts : may_start entry.kind ≡ true) where
     abbrev h : ProcessState
     h = b.process.now
 
     node_there : look t entry.dir entry.name.now ≡ Some entry.node
     node_there = show.stands_there t table k are.worked words are.full are.closed are.has agent_at h b agent_got refl e_at entry got
 
-    pub kind_is : kind_at t entry.node ≡ Some kinds.File
-    kind_is = show.kind_there t table k are.worked words are.full are.closed are.has agent_at h b agent_got refl e_at entry got ∙ ap Some file
+    pub kind_is : kind_at t entry.node ≡ Some entry.kind
+    kind_is = show.kind_there t table k are.worked words are.full are.closed are.has agent_at h b agent_got refl e_at entry got
 
     no_dir : is_dir t entry.node ≡ false
-    no_dir = ap is_dir_kind kind_is
+    no_dir = ap is_dir_kind kind_is ∙ start_no_dir entry.kind starts
 
     abbrev thing : Thing
     thing = Stands (At (Slot entry.dir entry.name.now (Some entry.node)))
 
-    pub turn_means : (call : Call) → list_any (allows_under table h (entry_word k words b entry) IsFile call) (numbered 18) ≡ true →
+    pub turn_means : (sent : Bool) (call : Call) → Among (turning_by sent) call → list_any (allows_under table h (entry_word k words b entry) IsFile call) (numbered 18) ≡ true →
         IsJointlyAllowed t table ones h thing call
-    turn_means call e =
+    turn_means sent call among e =
         let one = under_means table h (entry_word k words b entry) IsFile call e in
         let comes = show.entry_means t table k are.worked words are.full are.closed are.has agent_at h b agent_got refl e_at entry got no_dir one.cover
         one.small one.has in
         record {
           cover = one.cover;
-          object = IsFile;
+          object = Is entry.kind;
           shows = subst (λ o. Shows t table ones h thing one.cover (object_of_kind o)) kind_is
               (shows_row comes.dir comes.name node_there comes.stands comes.over);
-          named = or_right (keeps_link call) (not (is_link_thing t thing)) (ap (λ o. not (is_link_kind o)) kind_is);
-          allowed = one.allowed;
+          named = or_right (keeps_link call) (not (is_link_thing t thing))
+              (ap (λ o. not (is_link_kind o)) kind_is ∙ ap not (start_no_link entry.kind starts));
+          allowed = turning_allowed table h entry.kind starts sent call among one.cover ∙ one.allowed;
         }
 
-    pub turn_has : (call : Call) → IsJointlyAllowed t table ones h thing call →
+    pub turn_has : (sent : Bool) (call : Call) → Among (turning_by sent) call → IsJointlyAllowed t table ones h thing call →
         list_any (allows_under table h (entry_word k words b entry) IsFile call) (numbered 18) ≡ true
-    turn_has call can =
+    turn_has sent call among can =
         let s = allow.shown t table ones h can.shows in
         let held = show.entry_has t table k are.worked words are.full are.closed are.has agent_at h b agent_got refl e_at entry got no_dir can.cover
         (record { dir = s.1.dir; name = s.1.name; stands = s.1.stands; over = s.1.over }) in
@@ -474,7 +499,8 @@ module _ (t : Tree) (table : CallTable) (crew : List ProcessState) (facts : Fact
           cover = can.cover;
           small = held.0;
           has = held.1;
-          allowed = ap (λ o. is_allowed (covered_verdict empty_tree table h call can.cover o)) (sym (s.2 ∙ ap object_of_kind kind_is)) ∙ can.allowed;
+          allowed = sym (turning_allowed table h entry.kind starts sent call among can.cover)
+              ∙ ap (λ o. is_allowed (covered_verdict empty_tree table h call can.cover o)) (sym (s.2 ∙ ap object_of_kind kind_is)) ∙ can.allowed;
         })
 
   -- whether a process can send what it has open to one of them that sets its mode
@@ -486,8 +512,8 @@ module _ (t : Tree) (table : CallTable) (crew : List ProcessState) (facts : Fact
       let found = any_found (turns_in k words node) k.entries.items e in
       let entry = found.0 in
       let both = and_parts (entry.node == node) _ found.2 in
-      let two = and_parts (is_some_file (Some entry.kind)) _ both.1 in
-      let file = file_is entry.kind two.0 in
+      let two = and_parts (may_start entry.kind) _ both.1 in
+      let starts : may_start entry.kind ≡ true = two.0 in
       let by = any_found (turned_by k words entry) k.agents.items two.1 in
       let e_got = among_got k.entries.items entry found.1 in
       let b_got = among_got k.agents.items by.0 by.1 in
@@ -496,16 +522,16 @@ module _ (t : Tree) (table : CallTable) (crew : List ProcessState) (facts : Fact
         agent = by.0.process.now;
         among = contained ones by.0.process.now (among_map (λ (agent : Agent). agent.process.now) k.agents.items by.0 by.1);
         row = (entry.dir, entry.name.now);
-        at = node_there by.0 b_got.at b_got.is e_got.at entry e_got.is file;
-        file = kind_is by.0 b_got.at b_got.is e_got.at entry e_got.is file;
-        by = how by.0 b_got.at b_got.is e_got.at entry e_got.is file by.2;
+        at = node_there by.0 b_got.at b_got.is e_got.at entry e_got.is starts;
+        file = ap may_start_at (kind_is by.0 b_got.at b_got.is e_got.at entry e_got.is starts) ∙ starts;
+        by = how by.0 b_got.at b_got.is e_got.at entry e_got.is starts by.2;
       })
     where
       -- a call under a cover that makes one, or the file is open
       how : (b : Agent) (agent_at : ℕ) → slice_get k.agents.items agent_at ≡ Some b → (e_at : ℕ) (entry : Entry) →
-          slice_get k.entries.items e_at ≡ Some entry → entry.kind ≡ kinds.File → turned_by k words entry b ≡ true →
+          slice_get k.entries.items e_at ≡ Some entry → may_start entry.kind ≡ true → turned_by k words entry b ≡ true →
           IsTurnedByCall t table ones b.process.now (entry.dir, entry.name.now) entry.node ⊎ (is_turned_open (sends b.process.now) b.process.now entry.node ≡ true)
-      how b agent_at agent_got e_at entry got file is =
+      how b agent_at agent_got e_at entry got starts is =
           elim (either_true (meets (entry_word k words b entry) b.turning) (contains nat_cmp b.turned entry.node) is) [
             | inl under ↦ inl (called under)
             | inr held ↦ inr (sym ((agent_by b agent_at agent_got).turned entry.node) ∙ held)
@@ -527,7 +553,7 @@ module _ (t : Tree) (table : CallTable) (crew : List ProcessState) (facts : Fact
               record {
                 call = one.0;
                 turns = contained (turning_by (sends b.process.now)) one.0 one.1;
-                allowed = turn_means b agent_at agent_got e_at entry got file one.0 there;
+                allowed = turn_means b agent_at agent_got e_at entry got starts (sends b.process.now) one.0 one.1 there;
               }
 
   pub turned_has : IsTurned t table ones node → list_any (turns_in k words node) k.entries.items ≡ true
@@ -544,7 +570,7 @@ module _ (t : Tree) (table : CallTable) (crew : List ProcessState) (facts : Fact
       by b agent_at agent_got among same e_at entry got dir name =
           any_among (turns_in k words node) k.entries.items entry (got_among k.entries.items e_at entry got)
           (and_from (entry.node == node) _ (eq-eqb entry.node node here)
-          (and_from (is_some_file (Some entry.kind)) _ (ap (λ x. is_some_file (Some x)) file)
+          (and_from (may_start entry.kind) _ starts
           (any_among (turned_by k words entry) k.agents.items b among (how is.by))))
         where
           there : look t entry.dir entry.name.now ≡ Some entry.node
@@ -553,10 +579,10 @@ module _ (t : Tree) (table : CallTable) (crew : List ProcessState) (facts : Fact
           here : entry.node ≡ node
           here = same_Some entry.node node (sym there ∙ (λ z. look t (dir z) (name z)) ∙ is.at)
 
-          file : entry.kind ≡ kinds.File
-          file = same_Some entry.kind kinds.File
+          starts : may_start entry.kind ≡ true
+          starts = ap may_start_at
               (sym (show.kind_there t table k are.worked words are.full are.closed are.has agent_at b.process.now b agent_got refl e_at entry got)
-              ∙ ap (kind_at t) here ∙ is.file)
+              ∙ ap (kind_at t) here) ∙ is.file
 
           allowed : (one : IsTurnedByCall t table ones is.agent is.row node) →
               IsJointlyAllowed t table ones b.process.now (Stands (At (Slot entry.dir entry.name.now (Some entry.node)))) one.call
@@ -569,7 +595,8 @@ module _ (t : Tree) (table : CallTable) (crew : List ProcessState) (facts : Fact
           under : (one : IsTurnedByCall t table ones is.agent is.row node) →
               IsUnder table b.process.now (entry_word k words b entry) IsFile one.call
           under one = under_means table b.process.now (entry_word k words b entry) IsFile one.call
-              (turn_has b agent_at agent_got e_at entry got file one.call (allowed one))
+              (turn_has b agent_at agent_got e_at entry got starts (sends is.agent) one.call
+              (among_contained (turning_by (sends is.agent)) one.call one.turns) (allowed one))
 
           how : IsTurnedByCall t table ones is.agent is.row node ⊎ (is_turned_open (sends is.agent) is.agent node ≡ true) →
               turned_by k words entry b ≡ true

@@ -21,7 +21,7 @@ use Rattle.pua_jointly.specs.JointPlace.{Once, cover_bit}
 use Rattle.pua_jointly.specs.JointWords.{word_at, landing_word, meets, moves_at, moved_at, moved_word, born_at, apart_at, apart_by, apart_word}
 use Rattle.pua_jointly.specs.JointWords.{clear_at, clear_by, covers_in}
 use Rattle.pua_jointly.specs.JointWords.{with_c, AreCovers, IsAgent, AreAgents, dropped_word, some_meets}
-use Rattle.pua_jointly.specs.declared.crew.Agent.{Agent}
+use Rattle.pua_jointly.specs.declared.agent.Agent.{Agent}
 use Rattle.pua_jointly.proofs.CoverBits.{c_covers}
 use Rattle.pua_jointly.proofs.Gaining.{has_or}
 use Rattle.pua_jointly.proofs.JointPlaced.{IsSeat, InRange, in_range, among_got, got_among, among_numbers, numbers_among}

@@ -28,7 +28,7 @@ use Rattle.pua_jointly.specs.JointSetup.{AreMarks, AreWatches, IsEntry, IsMark, 
 use Rattle.pua_jointly.specs.JointSetup.{guarded_told, spots_told}
 use Rattle.pua_jointly.specs.JointTable.{TableFits, columns, entities, numbers, ByAgent, Common, Watching, DirAt, MadeBy, LandingOf, DropsOf, Makers, NameAt}
 use Rattle.pua_jointly.specs.JointWords.{AreAgents, IsAgent}
-use Rattle.pua_jointly.specs.declared.crew.Agent.{Agent}
+use Rattle.pua_jointly.specs.declared.agent.Agent.{Agent}
 use Rattle.pua_jointly.specs.declared.crew.Crew.{Crew}
 use Rattle.pua_jointly.specs.declared.crew.Entry.{Entry}
 use Rattle.pua_jointly.specs.declared.crew.Mark.{Mark}

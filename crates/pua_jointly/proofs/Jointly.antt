@@ -6,7 +6,7 @@ use Rattle.pua_jointly.proofs.Common.{is_dir_kind, look, kind_at, above, empty_t
 use Rattle.pua_jointly.proofs.Common.{sound_from, row_says, row_of, same_Some, Some≢None, CallTable, ProcessState, perms_kept, Only}
 use Rattle.pua_jointly.proofs.Common.{has_c, IsMissing, covered_verdict, is_allowed, has_veil, All}
 use Rattle.pua_jointly.proofs.Common.{is_below, can_move, VeilsStand, New, NewDir, NewOthers, NewFile}
-use Rattle.pua_jointly.proofs.Common.{NewLink}
+use Rattle.pua_jointly.proofs.Common.{NewLink, NewSock, NewFifo}
 use Rattle.pua_ever.specs.Ever.{row_cover, can_link}
 use Rattle.pua_objects.proofs.ForCallers.{covers_descend}
 use Rattle.pua_objects.specs.Laws.{own_or}
@@ -20,7 +20,7 @@ use Rattle.pua_policy.specs.States.{new_process}
 use Rattle.pua_policy.specs.declared.answer.Cover.TheVariants.{Nothing}
 use Rattle.pua_policy.specs.declared.place.Place.TheVariants as place
 use Rattle.pua_ever.proofs.ForCallers.{Grown, Written, by_name, by_turn, From, is_new, is_moved, is_linked, Born, name_cover, new_kind}
-use Rattle.pua_ever.proofs.ForCallers.{given_or_new, dir_row, slot_row, own_dir, under_dir, below_next}
+use Rattle.pua_ever.proofs.ForCallers.{file_no_dir, given_or_new, dir_row, slot_row, own_dir, under_dir, below_next}
 use Rattle.pua_ever.proofs.ForCallers.{below_self, below_up, above_row, root_below, not_empty, way_up}
 use Rattle.pua_jointly.specs.Jointly.{Seat, Source, Old, Made, Row, Maker, Fact, StandsIn, NotAbove, DirCover, NameCover, Free, WayIn, Writes}
 use Rattle.pua_jointly.specs.Jointly.{Makes, StandsAt, may_take, is_standing, own_veil, name_veil, kind_of_source, Can, stays_in, moved_in, born_in}
@@ -92,8 +92,8 @@ known_elsewhere : (t0 : Tree) (s r : Spot) (x : ℕ) → (look t0 s.0 s.1 ≡ So
 known_elsewhere t0 s r x never (of_then row at own) = of_then row at (λ same. absurd (never same))
 known_elsewhere t0 s r x never (of_maker new maker from) = of_maker new maker from
 
-pub row_kind : (t0 : Tree) (r : Spot) (x : ℕ) → look t0 r.0 r.1 ≡ Some x → kind_at t0 x ≡ kind_of_source t0 (Row r)
-row_kind t0 r x at = rw at refl
+pub row_kind : (t0 : Tree) (table : CallTable) (r : Spot) (x : ℕ) → look t0 r.0 r.1 ≡ Some x → kind_at t0 x ≡ kind_of_source t0 table (Row r)
+row_kind t0 table r x at = rw at refl
 
 module _ (table : CallTable) (t0 : Tree) (crew : List ProcessState) (well0 : WellFormed t0) where
   abbrev Can0 : Fact → Type 0
@@ -102,7 +102,7 @@ module _ (table : CallTable) (t0 : Tree) (crew : List ProcessState) (well0 : Wel
   pub record Came (u : Tree) (seat : ℕ → Seat) (s : Spot) (x : ℕ) : Type 0 where
     pub source : Source
     pub known : Known t0 s x source
-    pub kinds : kind_at u x ≡ kind_of_source t0 source
+    pub kinds : kind_at u x ≡ kind_of_source t0 table source
     pub can_stand : Can0 (StandsAt source (seat s.0) s.1)
 
   pub record Seated (u : Tree) (seat : ℕ → Seat) : Type 0 where
@@ -135,7 +135,7 @@ module _ (table : CallTable) (t0 : Tree) (crew : List ProcessState) (well0 : Wel
     others = λ s x e other. record {
       source = Row s;
       known = of_then s e (λ same. refl);
-      kinds = row_kind t0 s x e;
+      kinds = row_kind t0 table s x e;
       can_stand = stays_at x e other;
     };
     old = λ x below lives. refl;
@@ -491,11 +491,13 @@ module _ (table : CallTable) (t0 : Tree) (crew : List ProcessState) (well0 : Wel
       | inr born ↦ by born.made (sym (ap is_dir_kind born.kinds) ∙ is) (born_makes x born)
     ]
       where
-        by : (made : New) → is_dir_kind (Some (new_kind made)) ≡ true → Can0 (Makes a made) → Can0 (Makes a NewDir)
+        by : (made : New) → is_dir_kind (Some (new_kind table made)) ≡ true → Can0 (Makes a made) → Can0 (Makes a NewDir)
         by NewDir dir can = can
         by NewOthers dir (makes_at d name c over free makes) = makes_at d name c over free makes
-        by NewFile dir can = absurd (false≢true dir)
+        by NewFile dir can = absurd (false≢true (sym (file_no_dir table.whose) ∙ dir))
         by NewLink dir can = absurd (false≢true dir)
+        by NewSock dir can = absurd (false≢true dir)
+        by NewFifo dir can = absurd (false≢true dir)
 
     stands_in : (s : Spot) (x : ℕ) → look u s.0 s.1 ≡ Some x → is_dir u x ≡ true → Can0 (NotAbove (seat x) (seat s.0)) →
         Can0 (StandsIn (seat x) (seat s.0))
@@ -627,7 +629,7 @@ module _ (table : CallTable) (t0 : Tree) (crew : List ProcessState) (well0 : Wel
             record {
               source = Row s;
               known = of_then s then (λ same. refl);
-              kinds = ap (option_map (λ n. n.kind)) same ∙ row_kind t0 s x then;
+              kinds = ap (option_map (λ n. n.kind)) same ∙ row_kind t0 table s x then;
               can_stand = subst (λ q. Can0 (StandsAt (Row s) q s.1)) (sym (seated.old s.0 (below_dir s.0 told0.0)))
                   (stays_at x then (sym (same_dir t0 u x same) ∙ other));
             }

@@ -61,7 +61,7 @@ pub record Closed (t : Tree) (table : CallTable) (crew : List ProcessState) (P :
       P (StandsAt (Row (dir, name)) (Old dir) name)
   pub moved_at : {r : Source} {p : Seat} {other : List ℕ} (a : ProcessState) (d : Seat) (name : List ℕ) (k : Cover) → Contains crew a →
       P (StandsAt r d name) → P (NameCover a d name k) →
-      IsTrue (can_move table a k || can_link table a (kind_of_source t r) k) → P (Writes a p other) →
+      IsTrue (can_move table a k || can_link table a (kind_of_source t table r) k) → P (Writes a p other) →
       P (StandsAt r p other)
   pub born_at : {a : ProcessState} {new : New} {d : Seat} {name : List ℕ} → Contains crew a → P (Makes a new) →
       P (Writes a d name) → P (StandsAt (Maker new a) d name)

@@ -7,7 +7,7 @@ use Rattle.pua_jointly.proofs.Common.{CallTable, keeps_link, ProcessState, perms
 use Rattle.pua_jointly.proofs.Common.{Only, Object, IsMissing, object_of_kind}
 use Rattle.pua_jointly.proofs.Common.{covered_verdict, is_allowed, Call, Cover, At}
 use Rattle.pua_jointly.proofs.Common.{Others, Among, among_map, among_contained, contained, map_among}
-use Rattle.pua_jointly.proofs.Common.{lasting_dir, removable_dir, Stands, Comes, NewDir, NewOthers, NewFile, NewLink, VeilsStand}
+use Rattle.pua_jointly.proofs.Common.{lasting_dir, removable_dir, Stands, Comes, NewDir, NewOthers, NewFile, NewLink, NewSock, NewFifo, Kind, VeilsStand}
 use Rattle.pua_jointly.proofs.Common.{Asked, World, apply, NoCallNeedsError}
 use Rattle.pua_jointly.proofs.Common.{option_eq, is_some, ◌++◌, and_from}
 use Rattle.pua_jointly.proofs.Common.{among_left, among_right, Subject, veils}
@@ -26,11 +26,11 @@ use Rattle.pua_policy.specs.Misfits.{misfit_errno}
 use Rattle.pua_tree.specs.Tree.{is_empty}
 use Rattle.std.proofs.lemmas.Bool.{not-true}
 use Rattle.pua_ever.specs.Ever.{EverLine, all_new, has_ever_calls, own_spot, Thing, is_yes}
-use Rattle.pua_ever.specs.Laws.{IsForeseenIn, ActsWithin, NoExecLoosens, IsLineOf, of_dir, of_new_dir, of_row, of_new_file, of_new_link, EditsNeedC}
+use Rattle.pua_ever.specs.Laws.{IsForeseenIn, ActsWithin, NoExecLoosens, IsLineOf, of_dir, of_new_dir, of_row, of_new_file, of_new_link, of_new_sock, of_new_fifo, EditsNeedC}
 use Rattle.pua_ever.specs.Laws.{of_name, of_others, of_new_others, PlacesStand}
 use Rattle.pua_jointly.specs.Jointly.{Source, kind_of_source, TellsJointly, named_too, joint_subjects, joint_line, joint_lines, Old, Fact}
 use Rattle.pua_jointly.specs.Jointly.{DirCover, NameCover, Free, StandsAt, Can, Shows, shows_dir, shows_emptied, shows_others, shows_row}
-use Rattle.pua_jointly.specs.Jointly.{shows_name, shows_new_dir, shows_new_others, shows_new_file, shows_new_link, IsJointlyAllowed}
+use Rattle.pua_jointly.specs.Jointly.{shows_name, shows_new_dir, shows_new_others, shows_new_file, shows_new_link, shows_new_sock, shows_new_fifo, IsJointlyAllowed}
 use Rattle.pua_jointly.specs.Jointly.{groups_then, ByMember, GroupsEdit, IsJointlyForeseen, JointlyComplete, JointlyWithin, JointlyThrough}
 use Rattle.pua_jointly.specs.Jointly.{JointlyAfterRead, ForeseenByOne, IsJointlyStarted, IsWithinOne, AreWithinOne, StayWithinOne, as_started}
 use Rattle.pua_jointly.specs.Jointly.{both_agents, crew_through, may_take}
@@ -41,6 +41,9 @@ use Rattle.std.proofs.Math.Bool.{or-true}
 use Rattle.std.proofs.lemmas.List.Elements.{All-contains, All-from_recursion}
 use Rattle.pua_tree.specs.declared.node.Kind.{Kind}
 use Rattle.pua_tree.specs.declared.node.Kind.TheVariants as kind
+use Rattle.pua_tree.specs.declared.node.FileType.TheVariants.{Sock, Fifo}
+use Rattle.pua_ever.specs.Ever.{may_start, may_start_at, new_kind, new_object}
+use Rattle.pua_ever.proofs.ForCallers.{startable, start_no_dir, file_starts}
 use Rattle.pua_tree.proofs.ForCallers.{Sound, is_living_dir, same_dir}
 use Rattle.pua_path.specs.Resolution.{resolution_of_text, rooted}
 use Rattle.pua_path.specs.declared.errno.Errno.{Errno}
@@ -48,7 +51,7 @@ use Rattle.pua_calls.specs.Calls.{ending_of, last_of, rule_of, calls}
 use Rattle.pua_calls.specs.TmpTable.{tmp_table}
 use Rattle.pua_calls.proofs.ForCallers.{tmp_table_needs_no_error}
 use Rattle.pua_calls.specs.declared.call.Call.TheVariants as call
-use Rattle.pua_policy.specs.Verdict.{IsFile, IsLink, IsProg, rmdir_fault, verdict}
+use Rattle.pua_policy.specs.Verdict.{IsLink, IsProg, rmdir_fault, verdict}
 use Rattle.pua_policy.specs.declared.place.Place.TheVariants as place
 use Rattle.pua_policy.specs.declared.answer.May.TheVariants as may
 use Rattle.pua_policy.specs.declared.answer.Verdict.TheVariants.{Allowed}
@@ -247,10 +250,10 @@ module _ (table : CallTable) (t0 : Tree) (crew : List ProcessState) (well0 : Wel
       fine : (o : Option Kind) → kind_at u x ≡ o → object_fault table.whose empty_tree c (object_of_kind o) ≡ None
       fine o is = sym (plain_alike table.whose u c o) ∙ ap (λ o. object_fault table.whose u c (object_of_kind o)) (sym is) ∙ parts.kind
 
-      by : {source : Source} → Known t0 s x source → kind_at u x ≡ kind_of_source t0 source → Can0 (StandsAt source (k.seat s.0) s.1) →
+      by : {source : Source} → Known t0 s x source → kind_at u x ≡ kind_of_source t0 table source → Can0 (StandsAt source (k.seat s.0) s.1) →
           Hit (Slot s.0 s.1 (Some x))
       by (of_then row at own) kinds can_stand =
-          let same : kind_at u x ≡ kind_at t0 x = kinds ∙ sym (row_kind t0 row x at) in
+          let same : kind_at u x ≡ kind_at t0 x = kinds ∙ sym (row_kind t0 table row x at) in
           record {
             thing = Stands (At (Slot row.0 row.1 (Some x)));
             lined = row_lined row x at (sym (ap is_dir_kind same) ∙ other);
@@ -268,13 +271,37 @@ module _ (table : CallTable) (t0 : Tree) (crew : List ProcessState) (well0 : Wel
       by (of_maker NewFile maker from) kinds can_stand = record {
         thing = Comes NewFile;
         lined = tt;
-        about = of_new_file from kinds;
+        about = of_new_file from (ap may_start_at kinds ∙ file_starts table.whose);
         can = record {
           cover = left;
-          object = IsFile;
+          object = new_object table NewFile;
           shows = shows_new_file maker (k.seat s.0) s.1 can_stand over;
           named = or-true (keeps_link c);
-          allowed = allows left IsFile parts.may covered (fine (Some kind.File) kinds);
+          allowed = allows left (new_object table NewFile) parts.may covered (fine (Some (new_kind table NewFile)) kinds);
+        };
+      }
+      by (of_maker NewSock maker from) kinds can_stand = record {
+        thing = Comes NewSock;
+        lined = tt;
+        about = of_new_sock from kinds;
+        can = record {
+          cover = left;
+          object = new_object table NewSock;
+          shows = shows_new_sock maker (k.seat s.0) s.1 can_stand over;
+          named = or-true (keeps_link c);
+          allowed = allows left (new_object table NewSock) parts.may covered (fine (Some (kind.Known Sock)) kinds);
+        };
+      }
+      by (of_maker NewFifo maker from) kinds can_stand = record {
+        thing = Comes NewFifo;
+        lined = tt;
+        about = of_new_fifo from kinds;
+        can = record {
+          cover = left;
+          object = new_object table NewFifo;
+          shows = shows_new_fifo maker (k.seat s.0) s.1 can_stand over;
+          named = or-true (keeps_link c);
+          allowed = allows left (new_object table NewFifo) parts.may covered (fine (Some (kind.Known Fifo)) kinds);
         };
       }
       by (of_maker NewLink maker from) kinds can_stand = record {
@@ -363,15 +390,18 @@ module _ (table : CallTable) (t0 : Tree) (crew : List ProcessState) (well0 : Wel
   hit (Slot dir name None) is allowed = hit_missing dir name (and_parts (is_dir u dir) _ is.fits).0 is.named.1 allowed
 
   -- a file on which exec would be allowed, were it a program
-  pub jointly_started : (dir : ℕ) (name : List ℕ) (x : ℕ) → look u dir name ≡ Some x → kind_at u x ≡ Some kind.File →
+  pub jointly_started : (dir : ℕ) (name : List ℕ) (x : ℕ) → look u dir name ≡ Some x → may_start_at (kind_at u x) ≡ true →
       may_any a (rule_of table call.Exec).alternatives ≡ may.Yes →
       cover_fault (cover u a (Slot dir name (Some x))) (rule_of table call.Exec).perms ≡ None →
       (thing : Thing) × IsLineOf t0 u a thing (Slot dir name (Some x)) × IsJointlyStarted t0 table crew a thing
   jointly_started dir name x e kinds granted fine =
       let came = k.others (dir, name) x e other in by came.known came.kinds came.can_stand
     where
+      started : (is : Kind) × (kind_at u x ≡ Some is) × (may_start is ≡ true)
+      started = startable (kind_at u x) kinds
+
       other : is_dir u x ≡ false
-      other = ap is_dir_kind kinds
+      other = ap is_dir_kind started.1 ∙ start_no_dir started.0 started.2
 
       left : Cover
       left = own_or (perms_kept a (place.Slot dir name)) (cover_in u a dir)
@@ -383,15 +413,17 @@ module _ (table : CallTable) (t0 : Tree) (crew : List ProcessState) (well0 : Wel
       starts = λ i. is_allowed (if_promised (granted i) (allowed_unless (or_fault
           ((ap (λ c1. cover_fault c1 (rule_of table call.Exec).perms) (sym ((covers_descend u a k.well).at_name dir name (Some x))) ∙ fine) i) None)))
 
-      by : {source : Source} → Known t0 (dir, name) x source → kind_at u x ≡ kind_of_source t0 source →
+      by : {source : Source} → Known t0 (dir, name) x source → kind_at u x ≡ kind_of_source t0 table source →
           Can0 (StandsAt source (k.seat dir) name) →
           (thing : Thing) × IsLineOf t0 u a thing (Slot dir name (Some x)) × IsJointlyStarted t0 table crew a thing
       by (of_then row at own) is can_stand =
-          let same : kind_at t0 x ≡ Some kind.File = row_kind t0 row x at ∙ sym is ∙ kinds in (
+          let same : kind_at t0 x ≡ Some started.0 = row_kind t0 table row x at ∙ sym is ∙ started.1 in (
             Stands (At (Slot row.0 row.1 (Some x))),
             of_row row at own,
             record {
               cover = left;
+              is = started.0;
+              starts = started.2;
               shows = subst (Shows t0 table crew a (Stands (At (Slot row.0 row.1 (Some x)))) left) (ap object_of_kind same)
                   (shows_row (k.seat dir) name at can_stand over);
               allowed = starts;
@@ -399,11 +431,19 @@ module _ (table : CallTable) (t0 : Tree) (crew : List ProcessState) (well0 : Wel
           )
       by (of_maker NewDir maker from) is can_stand = absurd (false≢true (sym other ∙ ap is_dir_kind is))
       by (of_maker NewOthers maker from) is can_stand = absurd (false≢true (sym other ∙ ap is_dir_kind is))
-      by (of_maker NewLink maker from) is can_stand = absurd (false≢true (sym (ap is_link_kind kinds) ∙ ap is_link_kind is))
+      by (of_maker NewLink maker from) is can_stand = absurd (false≢true (sym (ap may_start_at is) ∙ kinds))
+      by (of_maker NewSock maker from) is can_stand = absurd (false≢true (sym (ap may_start_at is) ∙ kinds))
+      by (of_maker NewFifo maker from) is can_stand = absurd (false≢true (sym (ap may_start_at is) ∙ kinds))
       by (of_maker NewFile maker from) is can_stand = (
         Comes NewFile,
         of_new_file from kinds,
-        record { cover = left; shows = shows_new_file maker (k.seat dir) name can_stand over; allowed = starts },
+        record {
+          cover = left;
+          is = new_kind table NewFile;
+          starts = file_starts table.whose;
+          shows = shows_new_file maker (k.seat dir) name can_stand over;
+          allowed = starts;
+        },
       )
 
   -- what was found is what a path named

@@ -18,7 +18,7 @@ use Rattle.pua_jointly.specs.Jointly.{Fact, Can, stays_in, moved_in, born_in, no
 use Rattle.pua_jointly.specs.Jointly.{dir_within, name_own, name_within, free_none, free_made, free_dir, free_other, way_in_by_c}
 use Rattle.pua_jointly.specs.Jointly.{way_in_by_name, way_in_by_turn, writes_at, makes_at, stays_at, moved_at, born_at, Shows, shows_dir}
 use Rattle.pua_jointly.specs.Jointly.{shows_emptied, shows_others, shows_row, shows_name, shows_new_dir, shows_new_others, shows_new_file}
-use Rattle.pua_jointly.specs.Jointly.{shows_new_link, CanTurn, IsJointlyStarted, IsTurned, JointListsGrow, JointlyGrows}
+use Rattle.pua_jointly.specs.Jointly.{shows_new_link, shows_new_sock, shows_new_fifo, CanTurn, IsJointlyStarted, IsTurned, JointListsGrow, JointlyGrows}
 use Rattle.pua_jointly.specs.Jointly.{can_send, sends_to_set, sets_received, turning_by}
 
 module _ (t : Tree) (table : CallTable) (crew more : List ProcessState) (within : (a : ProcessState) → Contains crew a → Contains more a) where
@@ -59,6 +59,8 @@ module _ (t : Tree) (table : CallTable) (crew more : List ProcessState) (within 
   shows_more (shows_new_others maker can) = shows_new_others maker (grows can)
   shows_more (shows_new_file maker d name lies over) = shows_new_file maker d name (grows lies) (grows over)
   shows_more (shows_new_link maker d name lies over) = shows_new_link maker d name (grows lies) (grows over)
+  shows_more (shows_new_sock maker d name lies over) = shows_new_sock maker d name (grows lies) (grows over)
+  shows_more (shows_new_fifo maker d name lies over) = shows_new_fifo maker d name (grows lies) (grows over)
 
 pub jointly_grows : JointlyGrows
 jointly_grows t table crew more within a thing call can = record {
@@ -99,7 +101,13 @@ open_more few many more files node e =
 
 module _ (t : Tree) (table : CallTable) (crew more : List ProcessState) (within : (a : ProcessState) → Contains crew a → Contains more a) where
   started_more : (a : ProcessState) (thing : Thing) → IsJointlyStarted t table crew a thing → IsJointlyStarted t table more a thing
-  started_more a thing is = record { cover = is.cover; shows = shows_more t table crew more within is.shows; allowed = is.allowed }
+  started_more a thing is = record {
+    cover = is.cover;
+    is = is.is;
+    starts = is.starts;
+    shows = shows_more t table crew more within is.shows;
+    allowed = is.allowed;
+  }
 
   abbrev sets : ProcessState → Bool
   sets h = holds (held_set h) fattr

@@ -7,6 +7,7 @@ use Rattle.pua_calls.specs.Calls.{openbsd_table, standard_table}
 use Rattle.pua_calls.specs.Promises.{fattr, sendfd, reading, writing, executing, creating}
 use Rattle.pua_calls.specs.declared.call.Call.TheVariants as call
 use Rattle.pua_ever.specs.Ever.{turning_calls}
+use Rattle.pua_tree.specs.declared.node.Kind.TheVariants as kind
 use Rattle.pua_jointly.specs.Jointly.{Can, Seat, Old, Made, Row, StandsIn, StandsAt, stays_in, moved_in, not_above_root, not_above_up}
 use Rattle.pua_jointly.specs.Jointly.{dir_own, dir_within, name_own, name_within, free_none, free_other, way_in_by_c, writes_at}
 use Rattle.pua_jointly.specs.Jointly.{stays_at, moved_at, shows_dir, shows_row, shows_name, IsJointlyStarted, turning_by}
@@ -41,6 +42,8 @@ dir_moved =
 executed : (all : List ProcessState) → IsJointlyStarted started_tree openbsd_table all executer file_in
 executed all = record {
   cover = Only executing;
+  is = kind.File;
+  starts = refl;
   shows = shows_row (Old 1) (codes "s") refl (stays_at 3 refl refl) (name_within refl (dir_own refl refl));
   allowed = refl;
 }
@@ -59,6 +62,8 @@ jointly_rows = record {
     refl,
     record {
       cover = Only executing;
+      is = kind.File;
+      starts = refl;
       shows = shows_row (Old 2) (codes "s") refl (moved three (contained three mover (inl refl))) (name_within refl (dir_own refl refl));
       allowed = refl;
     },
@@ -85,6 +90,8 @@ jointly_rows = record {
     refl,
     record {
       cover = Only executing;
+      is = kind.File;
+      starts = refl;
       shows = shows_row (Old 2) (codes "s") refl (moved opened (contained opened mover (inl refl))) (name_within refl (dir_own refl refl));
       allowed = refl;
     },

@@ -9,6 +9,7 @@ pub mod Unnamed
 pub mod JointFound
 pub mod JointTabled
 pub mod JointPlaced
+pub mod JointAlike
 pub mod JointTurning
 pub mod JointWatched
 pub mod JointRows

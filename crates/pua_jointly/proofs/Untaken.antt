@@ -26,7 +26,7 @@ use Rattle.pua_tree.proofs.ForCallers.{same_or_other, put_elsewhere}
 use Rattle.pua_path.specs.Fits.{spot_named, node_named}
 use Rattle.pua_calls.specs.declared.call.Call.TheVariants as call
 use Rattle.pua_policy.specs.declared.answer.May.TheVariants.{Yes}
-use Rattle.pua_script.specs.Decide.{made_by, plain_node, link_node, Change, change_by, CopyAs, TakeFile}
+use Rattle.pua_script.specs.Decide.{made_by, made_as, plain_node, link_node, Change, change_by, CopyAs, TakeFile}
 use Rattle.pua_script.specs.Replay.{edit_effect, edited_tree, kept_at, change_effect, Copies, Fails, sent_by, take_effect}
 use Rattle.pua_script.proofs.ForCallers.{by_own_tree, by_filing, by_going, by_rooting, by_placing, by_tying, by_making, changes_granted, IsWithin}
 use Rattle.pua_ever.proofs.ForCallers.{yes_before}
@@ -92,8 +92,8 @@ module _ (table : CallTable) (w : World) (h : ProcessState) (lacks : may_take ta
   keeps_call call.Unlink x is = absurd (no_unlink is)
   keeps_call call.Chdir x is = by_going Keeps (rows_same w.tree) x (λ dir. rows_same w.tree)
   keeps_call call.Exec x is = rows_same w.tree
-  keeps_call c x is = by_making Keeps (rows_same w.tree) (made_by c) (spot_named x) (node_named x)
-      (λ what s made at. add_stays w.tree h s.0 s.1 (plain_node what))
+  keeps_call c x is = by_making Keeps (rows_same w.tree) table.whose (made_by c) (spot_named x) (node_named x)
+      (λ what s made at. add_stays w.tree h s.0 s.1 (plain_node (made_as table.whose what)))
 
   keeps_copy : (new : ℕ) → Keeps (CopyAs new)
   keeps_copy new = by (is_some (kept_at w new) || nat_le most_processes (length w.processes))

@@ -17,7 +17,7 @@ use Rattle.pua_jointly.specs.JointCovers.{allows_under, numbered}
 use Rattle.pua_jointly.specs.JointFound.{AreFacts}
 use Rattle.pua_jointly.specs.JointPrograms.{IsListedOfOne}
 use Rattle.pua_jointly.specs.Jointly.{IsJointlyAllowed, IsJointlyListed, as_started}
-use Rattle.pua_jointly.specs.declared.crew.Agent.{Agent}
+use Rattle.pua_jointly.specs.declared.agent.Agent.{Agent}
 use Rattle.pua_jointly.specs.declared.crew.Group.{Group}
 use Rattle.pua_jointly.specs.declared.facts.Facts.{Facts}
 

@@ -3,6 +3,7 @@ use Rattle.std.specs.Prelude.{◌≡◌, ◌==◌, ◌&&◌, ◌||◌, ℕ, zero
 use Rattle.std.specs.Int.{bit_at}
 use Rattle.pua_tree.specs.Tree.{empty_tree}
 use Rattle.pua_tree.specs.declared.node.Kind.TheVariants as kind
+use Rattle.pua_tree.specs.declared.node.FileType.TheVariants.{Plain, Sock, Fifo, Dev}
 use Rattle.pua_calls.specs.CallSets.{has}
 use Rattle.pua_calls.specs.Calls.{CallTable}
 use Rattle.pua_calls.specs.declared.call.Call.{Call}
@@ -47,6 +48,10 @@ calls_on allowed (see.Node kind.Dir) = allowed.dir
 calls_on allowed (see.Node kind.File) = allowed.file
 calls_on allowed (see.Node kind.Prog) = allowed.program
 calls_on allowed (see.Node kind.Link) = allowed.link
+calls_on allowed (see.Node (kind.Known Plain)) = allowed.plain
+calls_on allowed (see.Node (kind.Known Sock)) = allowed.socket
+calls_on allowed (see.Node (kind.Known Fifo)) = allowed.fifo
+calls_on allowed (see.Node (kind.Known Dev)) = allowed.device
 
 abbrev pub AreCallsUnder : CallTable → ProcessState → Cover → Allowed → Type 0
 AreCallsUnder table h cover allowed =

@@ -39,7 +39,7 @@ pub data Kept : Type 0 where
 
 -- a process can move a thing, or give it a further name
 abbrev pub can_carry : Tree → CallTable → Source → ProcessState → Cover → Bool
-can_carry t table r a k = can_move table a k || can_link table a (kind_of_source t r) k
+can_carry t table r a k = can_move table a k || can_link table a (kind_of_source t table r) k
 
 pub record CanDrop (t : Tree) (table : CallTable) (crew : List ProcessState) (b a : ProcessState) (k : Cover) : Type 0 where
   pub dir : Seat

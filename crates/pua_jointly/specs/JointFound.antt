@@ -1,5 +1,5 @@
 -- The covers of things that the table of a crew has, and what is found of several processes.
-use Rattle.std.specs.Prelude.{◌≡◌, ◌<◌, ◌+◌, ◌&&◌, ◌||◌, ◌==◌, ℕ, Bool, List, Some, false, get_or, length, nat_lt, if◌then◌else◌}
+use Rattle.std.specs.Prelude.{◌≡◌, ◌<◌, ◌+◌, ◌&&◌, ◌||◌, ◌==◌, ℕ, Bool, List, false, get_or, length, nat_lt, if◌then◌else◌}
 use Rattle.std.specs.Int.Bits.{bit_or}
 use Rattle.std.specs.List.{fold, list_any}
 use Rattle.std.specs.BTreeSet.{contains}
@@ -7,7 +7,7 @@ use Rattle.std.specs.Ordering.{nat_cmp}
 use Rattle.pua_tree.specs.Tree.{Tree}
 use Rattle.pua_calls.specs.Calls.{CallTable}
 use Rattle.pua_policy.specs.States.{ProcessState}
-use Rattle.pua_ever.specs.Ever.{New, is_some_file}
+use Rattle.pua_ever.specs.Ever.{New, may_start}
 use Rattle.pua_jointly.specs.JointFacts.{watches}
 use Rattle.pua_jointly.specs.JointMembers.{SameMembers}
 use Rattle.pua_jointly.specs.JointOld.{asked_word}
@@ -17,7 +17,7 @@ use Rattle.pua_jointly.specs.Closing.{IsClosed}
 use Rattle.pua_jointly.specs.JointSetup.{FollowsTold, IsWorkedOut, count_told, crew_told, dirs_of, layout_told}
 use Rattle.pua_jointly.specs.JointTable.{HasFacts}
 use Rattle.pua_jointly.specs.JointWords.{covers_in, meets, word_at}
-use Rattle.pua_jointly.specs.declared.crew.Agent.{Agent}
+use Rattle.pua_jointly.specs.declared.agent.Agent.{Agent}
 use Rattle.pua_jointly.specs.declared.crew.Crew.{Crew}
 use Rattle.pua_jointly.specs.declared.crew.Entry.{Entry}
 use Rattle.pua_jointly.specs.declared.facts.Facts.{Facts}
@@ -60,7 +60,7 @@ abbrev pub turned_by : Crew → List ℕ → Entry → Agent → Bool
 turned_by c told entry of = meets (entry_word c told of entry) of.turning || contains nat_cmp of.turned entry.node
 
 abbrev pub turns : Crew → List ℕ → Entry → Bool
-turns c told entry = is_some_file (Some entry.kind) && list_any (turned_by c told entry) c.agents.items
+turns c told entry = may_start entry.kind && list_any (turned_by c told entry) c.agents.items
 
 abbrev pub turns_in : Crew → List ℕ → ℕ → Entry → Bool
 turns_in c told node entry = (entry.node == node) && turns c told entry

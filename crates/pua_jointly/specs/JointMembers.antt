@@ -9,6 +9,7 @@ use Rattle.pua_policy.specs.declared.open_file.OpenFile.{OpenFile}
 use Rattle.pua_policy.specs.declared.place.Place.{Place}
 use Rattle.pua_tree.specs.declared.node.Kind.{Kind}
 use Rattle.pua_tree.specs.declared.node.Kind.TheVariants as kind
+use Rattle.pua_tree.specs.declared.node.FileType.TheVariants.{Plain, Sock, Fifo, Dev}
 
 -- what is lent
 abbrev pub states : List (Bor ProcessState) → List ProcessState
@@ -42,6 +43,10 @@ kind_number kind.Dir = 0
 kind_number kind.File = 1
 kind_number kind.Prog = 2
 kind_number kind.Link = 3
+kind_number (kind.Known Plain) = 4
+kind_number (kind.Known Sock) = 5
+kind_number (kind.Known Fifo) = 6
+kind_number (kind.Known Dev) = 7
 
 abbrev pub same_file : ℕ × OpenFile → ℕ × OpenFile → Bool
 same_file a b =

@@ -2,7 +2,7 @@
 use Rattle.std.specs.Prelude.{◌≡◌, ℕ, suc, List, Some, slice_get}
 use Rattle.pua_policy.specs.declared.answer.Cover.{Cover}
 use Rattle.pua_policy.specs.declared.answer.Cover.TheVariants.{All, Nothing, Only}
-use Rattle.pua_ever.specs.Ever.{New, NewDir, NewOthers, NewFile, NewLink}
+use Rattle.pua_ever.specs.Ever.{New, NewDir, NewOthers, NewFile, NewLink, NewSock, NewFifo}
 
 -- a list has each thing once
 abbrev pub Once : {X : Type 0} → List X → Type 0
@@ -19,3 +19,5 @@ new_bit NewDir = 0
 new_bit NewOthers = 1
 new_bit NewFile = 2
 new_bit NewLink = 3
+new_bit NewSock = 4
+new_bit NewFifo = 5

@@ -10,12 +10,12 @@ use Rattle.pua_policy.specs.States.{perms_kept}
 use Rattle.pua_policy.specs.declared.answer.Cover.TheVariants.{Only}
 use Rattle.pua_policy.specs.declared.place.Place.TheVariants as place
 use Rattle.pua_script.specs.Confinement.{has_c}
-use Rattle.pua_ever.specs.Ever.{New, NewDir, NewOthers, NewFile, NewLink, new_kind}
+use Rattle.pua_ever.specs.Ever.{New, NewDir, NewOthers, NewFile, NewLink, NewSock, NewFifo}
 use Rattle.pua_jointly.specs.JointPlace.{new_bit}
 use Rattle.pua_jointly.specs.JointWords.{word_at, covers_in, clear_by, landing_word, meets, moves_at, moved_word, apart_word, made_word, with_c}
-use Rattle.pua_jointly.specs.JointWords.{dropped_word, some_meets, making, carrying}
+use Rattle.pua_jointly.specs.JointWords.{dropped_word, some_meets, making, carried_kind, carrying}
 use Rattle.pua_jointly.specs.JointOld.{above_word, asked_word, old_word}
-use Rattle.pua_jointly.specs.declared.crew.Agent.{Agent}
+use Rattle.pua_jointly.specs.declared.agent.Agent.{Agent}
 use Rattle.pua_jointly.specs.declared.crew.Crew.{Crew}
 use Rattle.pua_jointly.specs.declared.crew.Entry.{Entry}
 use Rattle.pua_jointly.specs.declared.crew.Mark.{Mark}
@@ -132,11 +132,11 @@ can_carry_row c told of entry =
 
 abbrev pub carries_born : Crew → List ℕ → Agent → New → Agent → Bool
 carries_born c told maker new of =
-    has_one (word_at told c.columns c.makers maker.place) (new_bit new) && finds c told of (new_kind new) maker
+    has_one (word_at told c.columns c.makers maker.place) (new_bit new) && finds c told of (carried_kind new) maker
 
 abbrev pub can_carry_new : Crew → List ℕ → ℕ → Agent → New → Agent → Bool
 can_carry_new c told row maker new of =
-    carries_born c told maker new of || list_any (carries_on c told row (19 + new_bit new) of (new_kind new)) c.agents.items
+    carries_born c told maker new of || list_any (carries_on c told row (19 + new_bit new) of (carried_kind new)) c.agents.items
 
 -- what stands at a name can be taken away by a process
 abbrev pub takes_at : Crew → List ℕ → Entry → Agent → Bool
@@ -172,8 +172,9 @@ carried_flag c told row maker of new = flag (can_carry_new c told row maker new 
 
 abbrev pub carried_word : Crew → List ℕ → ℕ → Agent → Agent → ℕ
 carried_word c told row maker of =
-    bit_or (bit_or (carried_flag c told row maker of NewDir) (carried_flag c told row maker of NewOthers))
-    (bit_or (carried_flag c told row maker of NewFile) (carried_flag c told row maker of NewLink))
+    bit_or (bit_or (bit_or (carried_flag c told row maker of NewDir) (carried_flag c told row maker of NewOthers))
+    (bit_or (carried_flag c told row maker of NewFile) (carried_flag c told row maker of NewLink)))
+    (bit_or (carried_flag c told row maker of NewSock) (carried_flag c told row maker of NewFifo))
 
 abbrev pub new_word : Tree → Crew → List ℕ → ℕ → Agent → Agent → ℕ
 new_word t c told row maker of =
@@ -185,8 +186,9 @@ create_flag c told of new = flag (can_create c told of new) (new_bit new)
 
 abbrev pub makers_word : Crew → List ℕ → Agent → ℕ
 makers_word c told of =
-    bit_or (bit_or (create_flag c told of NewDir) (create_flag c told of NewOthers))
-    (bit_or (create_flag c told of NewFile) (create_flag c told of NewLink))
+    bit_or (bit_or (bit_or (create_flag c told of NewDir) (create_flag c told of NewOthers))
+    (bit_or (create_flag c told of NewFile) (create_flag c told of NewLink)))
+    (bit_or (create_flag c told of NewSock) (create_flag c told of NewFifo))
 
 -- the one bit of a watched directory's column
 abbrev pub clears_dir : Tree → Crew → List ℕ → ℕ → Watch → Bool
@@ -261,3 +263,16 @@ abbrev pub part_word : Tree → Crew → List ℕ → ℕ → Row → Part → �
 part_word t c told at about (parts.Agent i) = by_agent_word t c told at about (slice_get c.agents.items i)
 part_word t c told at about parts.Common = common_word c told about
 part_word t c told at about (parts.Watched i) = by_watch_word t c told at about (slice_get c.watches.items i)
+
+-- what follows for a word by its own covers: that directories can be put into one with `c`
+abbrev pub agent_at_once : Crew → List ℕ → Row → Agent → ℕ
+agent_at_once c told (rows.Dir dir) of = flag (meets (word_at told c.columns dir of.place) with_c) 18
+agent_at_once c told _ of = 0
+
+abbrev pub by_agent_at_once : Crew → List ℕ → Row → Option Agent → ℕ
+by_agent_at_once c told about None = 0
+by_agent_at_once c told about (Some of) = agent_at_once c told about of
+
+abbrev pub part_at_once : Crew → List ℕ → Row → Part → ℕ
+part_at_once c told about (parts.Agent i) = by_agent_at_once c told about (slice_get c.agents.items i)
+part_at_once c told about _ = 0

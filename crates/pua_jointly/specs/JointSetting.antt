@@ -1,5 +1,5 @@
 -- What is worked out of a crew and a tree, piece by piece.
-use Rattle.std.specs.Prelude.{◌≡◌, ◌<◌, ◌+◌, ◌^◌, ℕ, suc, Bool, List, Option, Some, None, get_or, nat_lt, if◌then◌else◌, IsTrue, map}
+use Rattle.std.specs.Prelude.{◌≡◌, ◌<◌, ◌+◌, ◌^◌, ◌==◌, ℕ, suc, Bool, false, List, Option, Some, None, get_or, nat_lt, ⊤, if◌then◌else◌, IsTrue, length, map}
 use Rattle.std.specs.Borrow.{Bor}
 use Rattle.std.specs.List.{Contains, list_any}
 use Rattle.std.specs.List.Sorted.{IsNonDecreasingBy}
@@ -8,13 +8,17 @@ use Rattle.pua_tree.specs.Tree.{Tree, Spot, is_dir, kind_at, look, spot_cmp}
 use Rattle.pua_tree.specs.declared.tree.LentRow.{LentRow}
 use Rattle.pua_policy.specs.declared.place.Place.{Place}
 use Rattle.pua_policy.specs.declared.place.Place.TheVariants as place
+use Rattle.pua_policy.specs.States.{ProcessState}
 use Rattle.pua_jointly.specs.JointFacts.{watches_by}
 use Rattle.pua_jointly.specs.JointMembers.{Each}
 use Rattle.pua_jointly.specs.JointPlace.{Once}
+use Rattle.pua_objects.specs.declared.item.Subject.{Subject}
+use Rattle.pua_objects.specs.declared.item.Subject.TheVariants as about
 use Rattle.pua_ever.specs.Laws.{dir_of_place}
 use Rattle.pua_jointly.specs.declared.crew.Entry.{Entry}
 use Rattle.pua_jointly.specs.declared.crew.Mark.{Mark}
 use Rattle.pua_jointly.specs.declared.crew.Watch.{Watch}
+use Rattle.pua_jointly.specs.declared.setup.AgentRows.{AgentRows}
 use Rattle.pua_jointly.specs.declared.size.Size.{Size}
 use Rattle.pua_jointly.specs.declared.shape.Shape.{Shape}
 
@@ -34,6 +38,11 @@ pub record IsSize (shape : Shape) (names watched : ℕ) (size : Size) : Type 0 w
   pub columns : size.columns ≡ shape.agents + suc watched
   pub rows : size.makers + 1 + names < 2 ^ 64
 
+-- the rows of the process at a place of a crew
+pub record AreAgentRows (dirs : ℕ) (crew : List ProcessState) (rows : AgentRows) : Type 0 where
+  pub landing : rows.landing ≡ dirs + (length crew + rows.place)
+  pub drops : rows.drops ≡ dirs + (length crew + (length crew + rows.place))
+
 -- a name at which something stands
 abbrev pub entry_of : Entry → Spot
 entry_of entry = (entry.dir, entry.name.now)
@@ -51,6 +60,11 @@ AreInOrder entries = (spot : Spot) → IsNonDecreasingBy (λ entry. ordering_ind
 abbrev pub IsEntryIn : List Entry → Spot → Option (Bor Entry) → Type 0
 IsEntryIn entries spot None = (entry : Entry) → Contains entries entry → entry_of entry ≡ spot → ⊥
 IsEntryIn entries spot (Some entry) = Contains entries entry.now × (entry_of entry.now ≡ spot)
+
+-- and at the name that an item is about, if it is about one
+abbrev pub IsEntryOf : List Entry → Subject → Option (Bor Entry) → Type 0
+IsEntryOf entries (about.Name dir name) entry = IsEntryIn entries (dir, name.now) entry
+IsEntryOf entries _ entry = ⊤
 
 -- a name at which a veil is, in a directory that stands
 abbrev pub mark_spot : Tree → Place → Option Spot
@@ -70,6 +84,11 @@ pub record AreMarksOf (t : Tree) (entries : List Entry) (veils : List (Place × 
   pub each : (veil : Place × ℕ) (spot : Spot) → Contains veils veil → mark_spot t veil.0 ≡ Some spot →
       (mark : Mark) × Contains marks mark × ((mark.dir, mark.name.now) ≡ spot)
   pub only : (mark : Mark) → Contains marks mark → (veil : Place × ℕ) × Contains veils veil × IsMarkOf t entries veil.0 mark
+
+-- a veil is on a directory
+abbrev pub is_on : ℕ → Place → Bool
+is_on dir (place.Dir other) = other == dir
+is_on dir (place.Slot other name) = false
 
 -- the watched directories
 abbrev pub is_watched : Tree → List (Place × ℕ) → ℕ → Bool

@@ -8,18 +8,19 @@ use Rattle.std.specs.List.{fold, list_any}
 use Rattle.std.specs.Ordering.{nat_cmp}
 use Rattle.pua_tree.specs.declared.node.Kind.{Kind}
 use Rattle.pua_tree.specs.declared.node.Kind.TheVariants as kind
+use Rattle.pua_tree.specs.declared.node.FileType.TheVariants.{Sock, Fifo}
 use Rattle.pua_calls.specs.Calls.{CallTable}
 use Rattle.pua_policy.specs.States.{ProcessState, veils}
 use Rattle.pua_policy.specs.declared.answer.Cover.{Cover}
 use Rattle.pua_policy.specs.declared.place.Place.{Place}
 use Rattle.pua_policy.specs.declared.place.Place.TheVariants as place
 use Rattle.pua_jointly.specs.Closing.{has_bit}
-use Rattle.pua_ever.specs.Ever.{New, NewDir, NewOthers, NewFile, NewLink, can_move, can_link}
+use Rattle.pua_ever.specs.Ever.{New, NewDir, NewOthers, NewFile, NewLink, NewSock, NewFifo, can_move, can_link}
 use Rattle.pua_jointly.specs.Jointly.{is_turned_open, may_take, sends_to_set}
 use Rattle.pua_jointly.specs.JointCovers.{AreCallsByCover}
 use Rattle.pua_jointly.specs.JointFacts.{makes_under, turns_under}
 use Rattle.pua_jointly.specs.JointPlace.{cover_bit}
-use Rattle.pua_jointly.specs.declared.crew.Agent.{Agent}
+use Rattle.pua_jointly.specs.declared.agent.Agent.{Agent}
 
 -- the word at a row and a column of a table with so many columns
 abbrev pub word_at : List ℕ → ℕ → ℕ → ℕ → ℕ
@@ -54,10 +55,21 @@ making agent NewDir = agent.making_dirs
 making agent NewOthers = agent.making_dirs
 making agent NewFile = agent.making_files
 making agent NewLink = agent.making_links
+making agent NewSock = agent.making_sockets
+making agent NewFifo = agent.making_fifos
 
 abbrev pub carrying : Agent → Kind → ℕ
 carrying agent kind.Link = agent.carrying_links
 carrying agent _ = agent.carrying
+
+-- what is made, as far as it is asked of what is carried: whether it is a link
+abbrev pub carried_kind : New → Kind
+carried_kind NewDir = kind.Dir
+carried_kind NewOthers = kind.Dir
+carried_kind NewFile = kind.File
+carried_kind NewLink = kind.Link
+carried_kind NewSock = kind.Known Sock
+carried_kind NewFifo = kind.Known Fifo
 
 -- a process has a veil at a name
 abbrev pub is_name : Place → Bool

@@ -22,7 +22,7 @@ use Rattle.pua_calls.specs.declared.call.Call.{Call}
 use Rattle.pua_calls.specs.declared.call.Call.TheVariants as call
 use Rattle.pua_calls.specs.declared.rules.Rules.{Rules}
 use Rattle.pua_policy.specs.States.{ProcessState, has_veil, held_set, is_ended, may_any, perms_kept, veils}
-use Rattle.pua_policy.specs.Verdict.{Object, cover, IsFile, IsProg, IsLink, IsMissing, object_of_kind, covered_verdict, is_allowed}
+use Rattle.pua_policy.specs.Verdict.{Object, cover, Is, IsProg, IsLink, IsMissing, object_of_kind, covered_verdict, is_allowed}
 use Rattle.pua_policy.specs.Verdict.{verdict_of}
 use Rattle.pua_policy.specs.declared.answer.Cover.{Cover}
 use Rattle.pua_policy.specs.declared.answer.Cover.TheVariants.{All, Nothing, Only}
@@ -37,8 +37,8 @@ use Rattle.pua_script.specs.Family.{family, family_then, is_member, HasKept}
 use Rattle.pua_script.specs.Tightening.{NoCallNeedsError, Tightens}
 use Rattle.pua_script.specs.Confinement.{TreesAlong, has_c}
 use Rattle.pua_objects.specs.Objects.{At, Others, Item, Subject, items}
-use Rattle.pua_ever.specs.Ever.{EverLine, all_new, has_ever_calls, own_spot, New, NewDir, NewOthers, NewFile, NewLink, Thing, Stands, Comes}
-use Rattle.pua_ever.specs.Ever.{new_kind, is_made_by, is_yes, can_move, can_link, is_exec_call, is_turned_by, lasting_dir, removable_dir, turning_calls}
+use Rattle.pua_ever.specs.Ever.{EverLine, all_new, has_ever_calls, own_spot, New, NewDir, NewOthers, NewFile, NewLink, NewSock, NewFifo, Thing, Stands, Comes}
+use Rattle.pua_ever.specs.Ever.{may_start, may_start_at, new_kind, new_object, is_made_by, is_yes, can_move, can_link, is_exec_call, is_turned_by, lasting_dir, removable_dir, turning_calls}
 use Rattle.pua_ever.specs.Through.{is_bounded, GoAlong}
 use Rattle.pua_ever.specs.Laws.{ForeseesIn, EditsNeedC, VeilsStand, ActsWithin, NoExecLoosens, IsLineOf}
 use Rattle.pua_path.specs.declared.found.Start.{Start}
@@ -86,9 +86,9 @@ abbrev pub is_standing : Tree → Seat → Bool
 is_standing t (Old dir) = is_dir t dir
 is_standing t (Made by) = true
 
-abbrev pub kind_of_source : Tree → Source → Option Kind
-kind_of_source t (Maker new by) = Some (new_kind new)
-kind_of_source t (Row spot) = by (look t spot.0 spot.1)
+abbrev pub kind_of_source : Tree → CallTable → Source → Option Kind
+kind_of_source t table (Maker new by) = Some (new_kind table new)
+kind_of_source t table (Row spot) = by (look t spot.0 spot.1)
   where
     by : Option ℕ → Option Kind
     by None = None
@@ -153,7 +153,7 @@ pub data Can (t : Tree) (table : CallTable) (crew : List ProcessState) : Fact �
       Can t table crew (StandsAt (Row (dir, name)) (Old dir) name)
   moved_at : {r : Source} {p : Seat} {other : List ℕ} (a : ProcessState) (d : Seat) (name : List ℕ) (k : Cover) → Contains crew a →
       Can t table crew (StandsAt r d name) → Can t table crew (NameCover a d name k) →
-      IsTrue (can_move table a k || can_link table a (kind_of_source t r) k) → Can t table crew (Writes a p other) →
+      IsTrue (can_move table a k || can_link table a (kind_of_source t table r) k) → Can t table crew (Writes a p other) →
       Can t table crew (StandsAt r p other)
   born_at : {a : ProcessState} {new : New} {d : Seat} {name : List ℕ} → Contains crew a → Can t table crew (Makes a new) →
       Can t table crew (Writes a d name) → Can t table crew (StandsAt (Maker new a) d name)
@@ -177,9 +177,13 @@ pub data Shows (t : Tree) (table : CallTable) (crew : List ProcessState) (a : Pr
   shows_new_others : {k : Cover} (maker : ProcessState) → Can t table crew (DirCover a (Made maker) k) →
       Shows t table crew a (Comes NewOthers) k IsMissing
   shows_new_file : {k : Cover} (maker : ProcessState) (d : Seat) (name : List ℕ) → Can t table crew (StandsAt (Maker NewFile maker) d name) →
-      Can t table crew (NameCover a d name k) → Shows t table crew a (Comes NewFile) k IsFile
+      Can t table crew (NameCover a d name k) → Shows t table crew a (Comes NewFile) k (new_object table NewFile)
   shows_new_link : {k : Cover} (maker : ProcessState) (d : Seat) (name : List ℕ) → Can t table crew (StandsAt (Maker NewLink maker) d name) →
       Can t table crew (NameCover a d name k) → Shows t table crew a (Comes NewLink) k IsLink
+  shows_new_sock : {k : Cover} (maker : ProcessState) (d : Seat) (name : List ℕ) → Can t table crew (StandsAt (Maker NewSock maker) d name) →
+      Can t table crew (NameCover a d name k) → Shows t table crew a (Comes NewSock) k (new_object table NewSock)
+  shows_new_fifo : {k : Cover} (maker : ProcessState) (d : Seat) (name : List ℕ) → Can t table crew (StandsAt (Maker NewFifo maker) d name) →
+      Can t table crew (NameCover a d name k) → Shows t table crew a (Comes NewFifo) k (new_object table NewFifo)
 
 -- a link has the calls alone that keep it
 abbrev pub is_link_thing : Tree → Thing → Bool
@@ -195,10 +199,13 @@ pub record IsJointlyAllowed (t : Tree) (table : CallTable) (crew : List ProcessS
   pub named : IsTrue (keeps_link call || not (is_link_thing t thing))
   pub allowed : IsTrue (is_allowed (covered_verdict empty_tree table a call cover object))
 
--- a file can come under a cover by which exec is allowed on a program: so it has exec where it can be made one
+-- a file that is a plain one or may be can come under a cover by which exec is allowed on a program: so it has exec where it can be
+-- made one
 pub record IsJointlyStarted (t : Tree) (table : CallTable) (crew : List ProcessState) (a : ProcessState) (thing : Thing) : Type 0 where
   pub cover : Cover
-  pub shows : Shows t table crew a thing cover IsFile
+  pub is : Kind
+  pub starts : IsTrue (may_start is)
+  pub shows : Shows t table crew a thing cover (Is is)
   pub allowed : IsTrue (is_allowed (covered_verdict empty_tree table a call.Exec cover IsProg))
 
 -- what a process has open it can send to another one, which sets its mode; no veil is asked for that, and no letter
@@ -233,7 +240,7 @@ pub record IsTurned (t : Tree) (table : CallTable) (crew : List ProcessState) (n
   pub among : Contains crew agent
   pub row : Spot
   pub at : look t row.0 row.1 ≡ Some node
-  pub file : kind_at t node ≡ Some kind.File
+  pub file : IsTrue (may_start_at (kind_at t node))
   pub by : IsTurnedByCall t table crew agent row node ⊎ IsTrue (is_turned_open (sends_to_set table crew agent) agent node)
 
 -- a file that is made is made with any mode
@@ -329,7 +336,7 @@ abbrev pub ForeseesStartsJointly : Tree → CallTable → List ProcessState → 
 ForeseesStartsJointly t table crew now later last =
     (from : Start) (text : List ℕ) (dir : ℕ) (name : List ℕ) (node : ℕ) →
     resolution_of_text later from (ending_of call.Exec) text (last_of call.Exec) ≡ Ok (Slot dir name (Some node)) →
-    kind_at later node ≡ Some kind.File →
+    IsTrue (may_start_at (kind_at later node)) →
     IsTrue (is_allowed (covered_verdict later table last call.Exec (cover later last (Slot dir name (Some node))) IsProg)) →
     (thing : Thing) × IsLineOf t later now thing (Slot dir name (Some node)) × IsJointlyStarted t table crew now thing
 

@@ -1,6 +1,6 @@
 //! The least that steps lead to, in a table of words with a bit for each fact.
 
-ghost use Rattle.std.specs.Prelude.{◌≡◌, ℕ, ◌<◌, ◌+◌, ◌*◌, get_or, length, true, false, IfOk};
+ghost use Rattle.std.specs.Prelude.{◌≡◌, ℕ, ◌<◌, ◌≤◌, ◌+◌, ◌*◌, get_or, length, true, false, IfOk};
 ghost use Rattle.pua_jointly.specs.Closing.{AreReached, IsClosed, IsClosedAt, room};
 
 use pua_tree::OutOfMemory;
@@ -26,6 +26,10 @@ pub(crate) trait Steps {
         ensures { (column : ℕ) → result ≤ column → column < columns self.now → (count bit : ℕ) →
             Reached (follows self.now) count (row * columns self.now + column) bit → ⊥ };
 
+    /// Some facts of a word that follow from the others that it has.
+    fn at_once(&self, told: &[u32], at: usize) -> u32
+        ensures { (bit : ℕ) → has_bit result bit → follows self.now told.now at bit };
+
     /// The facts of a word that follow.
     fn next(&self, told: &[u32], at: usize) -> u32
         ensures only { (bit : ℕ) → has_bit result bit → follows self.now told.now at bit }
@@ -33,7 +37,7 @@ pub(crate) trait Steps {
 }
 
 /// The least table of so many rows from which nothing more follows. Before all rows are gone over
-/// until nothing is added, those up to an end are gone over twice, then those of them from a first
+/// until nothing is added, those up to an end are gone over, then twice those of them from a first
 /// one, and then the others: what comes before leads to what comes after. The only error is that a
 /// growth was refused, or that the table would have more words than can be numbered.
 pub(crate) fn close<S: Steps>(
@@ -53,7 +57,6 @@ pub(crate) fn close<S: Steps>(
     let Ok(mut told) = no_facts(alloc, count) else {
         return Err(OutOfMemory);
     };
-    add_some(steps, &mut told, 0, end);
     add_some(steps, &mut told, 0, end);
     add_some(steps, &mut told, first, end);
     add_some(steps, &mut told, first, end);
@@ -140,5 +143,20 @@ fn add_word<S: Steps>(steps: &S, told: &mut Vec<u32>, at: usize) -> bool
         return false;
     }
     told[at] = word;
+    add_at_once(steps, told, at);
     true
+}
+
+/// Adds to a word what follows from its own facts, if the table has it.
+fn add_at_once<S: Steps>(steps: &S, told: &mut Vec<u32>, at: usize)
+    ensures full { length told.new.items ≡ length told.old.items }
+    ensures reached { AreReached (S.follows steps.now) told.old.items →
+        AreReached (S.follows steps.now) told.new.items }
+    ensures no_more { room told.new.items ≤ room told.old.items }
+{
+    if at >= told.len() {
+        return;
+    }
+    let word = told[at] | steps.at_once(told, at);
+    told[at] = word;
 }

@@ -1,6 +1,6 @@
 //! What is asked of several processes and of the tree while their facts are found.
 
-ghost use Rattle.std.specs.Prelude.{◌≡◌, ◌<◌, Some};
+ghost use Rattle.std.specs.Prelude.{◌≡◌, ◌<◌, Some, true};
 ghost use Rattle.std.specs.List.{list_any};
 ghost use Rattle.pua_tree.specs.Tree.{empty_tree, is_dir_kind, spot_cmp};
 ghost use Rattle.pua_calls.specs.CallSets.{has as has_call};
@@ -12,51 +12,15 @@ ghost use Rattle.pua_jointly.specs.JointCovers.{AreCallsByCover, allows_under, c
 ghost use Rattle.pua_jointly.specs.JointSetting.{AreInOrder, IsEntryIn, entry_of};
 ghost use Rattle.pua_jointly.specs.JointWords.{carrying as carrying_of, making as making_of};
 
-use crate::doing::{Allowed, COUNT, cover_at};
+use crate::agent::Agent;
+use crate::doing::{COUNT, cover_at};
 use crate::shape::Shape;
 use crate::words::has;
 use pua_calls::{CallTable, Calls};
 use pua_ever::Made;
-use pua_policy::{Cover, Object, Process, judge};
+use pua_policy::{Cover, Object, judge};
 use pua_tree::{Kind, Name, NodeId};
 use std::cmp::Ordering;
-use std::collections::BTreeSet;
-
-/// What is asked of a process of the crew. Covers are kept as bits.
-#[derive(Drop)]
-pub(crate) struct Agent<'t> {
-    /// The process.
-    pub(crate) process: &'t Process,
-    /// Its place in the crew.
-    pub(crate) place: usize,
-    /// The row of where it can put directories.
-    pub(crate) landing: usize,
-    /// The row of where it can put other things.
-    pub(crate) drops: usize,
-    /// Whether it has a veil at a name.
-    pub(crate) named: bool,
-    /// Whether it may take a name away.
-    pub(crate) may_take: bool,
-    /// The covers under which it can move something.
-    pub(crate) moving: u32,
-    /// Those under which it can move a file or program, or give it a further name.
-    pub(crate) carrying: u32,
-    /// Those under which it can do so with a link.
-    pub(crate) carrying_links: u32,
-    /// Those under which it can make a directory.
-    pub(crate) making_dirs: u32,
-    /// Those under which it can make a file.
-    pub(crate) making_files: u32,
-    /// Those under which it can make a link.
-    pub(crate) making_links: u32,
-    /// Those under which it can make a file a program, or open it to send it to one that does.
-    pub(crate) turning: u32,
-    /// The numbers of the nodes that it holds open so that it, or one to whom it sends them, can make
-    /// programs of them.
-    pub(crate) turned: BTreeSet<u32>,
-    /// The calls that are allowed to it under each cover.
-    pub(crate) calls: Vec<Allowed>,
-}
 
 impl Agent<'_> {
     /// The calls that are allowed to it on such an object under one of these covers.
@@ -98,6 +62,8 @@ impl Agent<'_> {
             Made::Dir | Made::Others => self.making_dirs,
             Made::File => self.making_files,
             Made::Link => self.making_links,
+            Made::Sock => self.making_sockets,
+            Made::Fifo => self.making_fifos,
         }
     }
 
@@ -107,7 +73,7 @@ impl Agent<'_> {
     {
         match kind {
             Kind::Link => self.carrying_links,
-            Kind::Dir | Kind::File | Kind::Prog => self.carrying,
+            Kind::Dir | Kind::File | Kind::Prog | Kind::Known(_) => self.carrying,
         }
     }
 }
@@ -143,7 +109,17 @@ impl Entry<'_> {
     {
         match self.kind {
             Kind::Dir => true,
-            Kind::File | Kind::Prog | Kind::Link => false,
+            Kind::File | Kind::Prog | Kind::Link | Kind::Known(_) => false,
+        }
+    }
+
+    /// Whether it is at this name.
+    fn is_at(&self, dir: NodeId, name: &Name) -> bool
+        ensures { result ≡ true → entry_of self.now ≡ (dir, name.now) }
+    {
+        match self.cmp_spot(dir, name) {
+            Ordering::Equal => true,
+            Ordering::Less | Ordering::Greater => false,
         }
     }
 
@@ -163,9 +139,30 @@ pub(crate) fn entry_at<'e, 't>(
 ) -> Option<&'e Entry<'t>>
     ensures { AreInOrder entries.now → IsEntryIn entries.now (dir, name.now) result }
 {
+    let mut next = entries.len();
+    entry_after(entries, &mut next, dir, name)
+}
+
+/// The same of names that are asked for one after another: the one after that which was found last
+/// is looked at before the others are searched.
+pub(crate) fn entry_after<'e, 't>(
+    entries: &'e [Entry<'t>],
+    next: &mut usize,
+    dir: NodeId,
+    name: &Name,
+) -> Option<&'e Entry<'t>>
+    ensures { AreInOrder entries.now → IsEntryIn entries.now (dir, name.now) result }
+{
+    if let Some(entry) = entries.get(*next) {
+        if entry.is_at(dir, name) {
+            *next = next.saturating_add(1);
+            return Some(entry);
+        }
+    }
     let Ok(place) = entries.binary_search_by(|entry| entry.cmp_spot(dir, name)) else {
         return None;
     };
+    *next = place.saturating_add(1);
     Some(&entries[place])
 }
 

@@ -9,6 +9,10 @@ ghost use Rattle.pua_ever.specs.Ever.{turning_calls};
 ghost use Rattle.pua_jointly.specs.JointCovers.{AreCallsByCover, AreCallsUnder, calls_on, cover_of};
 ghost use Rattle.pua_jointly.specs.JointCovers.{does};
 ghost use Rattle.pua_jointly.specs.JointWords.{AreCovers};
+ghost use Rattle.pua_tree.specs.Tree.{empty_tree};
+ghost use Rattle.pua_calls.specs.declared.call.Call.{Call as AnyCall};
+ghost use Rattle.pua_policy.specs.Objects.{object_seen};
+ghost use Rattle.pua_policy.specs.Verdict.{Object as Judged, covered_verdict, is_allowed};
 ghost use Rattle.pua_jointly.specs.Jointly.{may_take as takes};
 
 use crate::rounds::flag;
@@ -16,7 +20,7 @@ use crate::words::has;
 use pua_calls::{Call, CallTable, Calls, Perms};
 use pua_ever::{Made, can_link, can_move, can_turn, may_any};
 use pua_policy::{Cover, Object, Process, judge};
-use pua_tree::Kind;
+use pua_tree::{FileType, Kind};
 use std::alloc::{AllocError, Global};
 
 /// How many covers there are: everything, nothing, and the permissions of a veil.
@@ -81,6 +85,14 @@ pub(crate) struct Allowed {
     program: Calls,
     /// On a link.
     link: Calls,
+    /// On a plain file.
+    plain: Calls,
+    /// On a socket.
+    socket: Calls,
+    /// On a fifo.
+    fifo: Calls,
+    /// On a device.
+    device: Calls,
 }
 
 impl Allowed {
@@ -88,19 +100,17 @@ impl Allowed {
     fn under(process: &Process, table: &CallTable, cover: &Cover) -> Allowed
         ensures { AreCallsUnder table.now process.now cover.now result }
     {
-        let missing = judge::allowed(process, table, *cover, Object::Missing);
-        let removable = judge::allowed(process, table, *cover, Object::Removable);
-        let dir = judge::allowed(process, table, *cover, Object::Node(Kind::Dir));
-        let file = judge::allowed(process, table, *cover, Object::Node(Kind::File));
-        let program = judge::allowed(process, table, *cover, Object::Node(Kind::Prog));
-        let link = judge::allowed(process, table, *cover, Object::Node(Kind::Link));
         Allowed {
-            missing,
-            removable,
-            dir,
-            file,
-            program,
-            link,
+            missing: judge::allowed(process, table, *cover, Object::Missing),
+            removable: judge::allowed(process, table, *cover, Object::Removable),
+            dir: on_kind(process, table, *cover, Kind::Dir),
+            file: on_kind(process, table, *cover, Kind::File),
+            program: on_kind(process, table, *cover, Kind::Prog),
+            link: on_kind(process, table, *cover, Kind::Link),
+            plain: on_kind(process, table, *cover, Kind::Known(FileType::Plain)),
+            socket: on_kind(process, table, *cover, Kind::Known(FileType::Sock)),
+            fifo: on_kind(process, table, *cover, Kind::Known(FileType::Fifo)),
+            device: on_kind(process, table, *cover, Kind::Known(FileType::Dev)),
         }
     }
 
@@ -115,8 +125,21 @@ impl Allowed {
             Object::Node(Kind::File) => self.file,
             Object::Node(Kind::Prog) => self.program,
             Object::Node(Kind::Link) => self.link,
+            Object::Node(Kind::Known(FileType::Plain)) => self.plain,
+            Object::Node(Kind::Known(FileType::Sock)) => self.socket,
+            Object::Node(Kind::Known(FileType::Fifo)) => self.fifo,
+            Object::Node(Kind::Known(FileType::Dev)) => self.device,
         }
     }
+}
+
+/// The calls that are allowed to a process under a cover on what is of this kind.
+fn on_kind(process: &Process, table: &CallTable, cover: Cover, kind: Kind) -> Calls
+    ensures { (judged : Judged) → Object.Node kind ≡ object_seen empty_tree judged →
+        (call : AnyCall) → has_call result call ≡ is_allowed
+        (covered_verdict empty_tree table.now process.now call cover judged) }
+{
+    judge::allowed(process, table, cover, Object::Node(kind))
 }
 
 /// The covers under which a process can do something.

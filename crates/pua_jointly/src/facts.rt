@@ -9,14 +9,15 @@ ghost use Rattle.pua_jointly.specs.JointFound.{turned_by, turns, turns_in};
 ghost use Rattle.pua_jointly.specs.JointRounds.{is_taken, stays_in};
 ghost use Rattle.pua_jointly.specs.JointWords.{covers_in, word_at};
 
-use crate::crew::{Agent, Crew, Entry};
+use crate::agent::Agent;
+use crate::crew::{Crew, Entry};
 use crate::made::made_bit;
 use crate::marks::{is_marked, mark, no_marks};
 use crate::old::over;
 use crate::rounds::{CARRIES, GOES};
 use crate::words::{covers_at, does_meet, has, word};
-use pua_ever::Made;
-use pua_tree::{Kind, NodeId};
+use pua_ever::{Made, may_start};
+use pua_tree::NodeId;
 use std::alloc::{AllocError, Global};
 
 /// The facts of several processes: all that they can come to do in a tree by doing of their own, all
@@ -160,10 +161,7 @@ impl Facts<'_> {
     fn turns(&self, entry: &Entry<'_>) -> bool
         ensures { result ≡ turns self.now.crew self.now.told.items entry.now }
     {
-        match entry.kind {
-            Kind::File => self.is_turned_by_some(entry),
-            Kind::Dir | Kind::Prog | Kind::Link => false,
-        }
+        may_start(entry.kind) && self.is_turned_by_some(entry)
     }
 
     /// Whether a call by which it can come to be a program is allowed to one of the processes, or that

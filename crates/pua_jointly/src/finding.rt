@@ -190,6 +190,13 @@ impl<T: FileTree> Steps for Rounds<'_, '_, T> {
         }
     }
 
+    fn at_once(&self, told: &[u32], at: usize) -> u32 {
+        let crew = self.crew;
+        let row = at / crew.columns;
+        let part = at % crew.columns;
+        crew.at_once(told, crew.shape.row(row), crew.shape.part(part))
+    }
+
     fn next(&self, told: &[u32], at: usize) -> u32 {
         let crew = self.crew;
         let row = at / crew.columns;

@@ -18,34 +18,43 @@ ghost use Rattle.pua_ever.specs.Prospects.{own_given};
 ghost use Rattle.pua_jointly.specs.JointCalls.{AreCallsOf, AreCallsOfOne, AreFreeCalls, AreOwnCalls};
 ghost use Rattle.pua_jointly.specs.JointCalls.{AreOwnCallsOfOne, HasAgents, IsOf};
 ghost use Rattle.pua_jointly.specs.Jointly.{agents_of};
-ghost use Rattle.pua_jointly.specs.JointSetting.{AreInOrder, IsEntryIn};
+ghost use Rattle.std.specs.List.{list_any};
+ghost use Rattle.pua_tree.specs.declared.node.Kind.TheVariants as TypedKind;
+ghost use Rattle.pua_policy.specs.Verdict.{Is};
+ghost use Rattle.pua_jointly.specs.JointCovers.{AreCallsByCover, allows_under, numbered};
+ghost use Rattle.pua_jointly.specs.JointFound.{new_covers};
+ghost use Rattle.pua_jointly.specs.JointSetting.{AreInOrder, IsEntryIn, IsEntryOf};
 
-use crate::crew::{Agent, Entry, Group, entry_at};
+use crate::agent::Agent;
+use crate::crew::{Entry, Group, entry_after, entry_at};
 use crate::facts::Facts;
 use pua_calls::{CallTable, Calls};
 use pua_ever::{Made, on_new_file, own_name};
 use pua_objects::{Item, Subject};
 use pua_policy::{Cover, Object, Place, judge};
-use pua_tree::{Kind, Name, NodeId};
+use pua_tree::{FileType, Kind, Name, NodeId};
 
 impl Facts<'_> {
-    /// The calls of a process and of what it starts on what an item is about.
+    /// The calls of a process and of what it starts on what an item is about, by what stands at its
+    /// name.
     pub(crate) fn all_calls_on(
         &self,
         of: &Group<'_, '_>,
         table: &CallTable,
         item: &Item<'_>,
+        entry: Option<&Entry<'_>>,
     ) -> Calls
         ensures { (t : Tree) (crew : List ProcessState) (a : ProcessState) (given : Option ℕ)
             (about : About) → HasAgents t table.now crew self.now a given of.now →
             SubjectFits t about → IsItemOn t a about item.now →
+            IsEntryOf self.now.crew.entries.items item.now.subject entry.entry →
             AreCallsOfOne t table.now crew (agents_of (a, given)) (Stands about) result }
     {
-        let own = self.calls_on(of.own, table, item);
+        let own = self.calls_on(of.own, table, item, entry);
         let Some(program) = of.program else {
             return own;
         };
-        own.union(self.calls_on(program, table, item))
+        own.union(self.calls_on(program, table, item, entry))
     }
 
     /// Those on the name at which an item stands, once that is taken away.
@@ -86,17 +95,25 @@ impl Facts<'_> {
         own.union(self.calls_on_made(program, table, made))
     }
 
-    /// The calls on what an item is about.
-    fn calls_on(&self, of: &Agent<'_>, table: &CallTable, item: &Item<'_>) -> Calls
+    /// The calls on what an item is about, by what stands at its name.
+    fn calls_on(
+        &self,
+        of: &Agent<'_>,
+        table: &CallTable,
+        item: &Item<'_>,
+        entry: Option<&Entry<'_>>,
+    ) -> Calls
         ensures { (t : Tree) (crew : List ProcessState) (a : ProcessState) (about : About) →
             IsOf t table.now crew self.now a of.now → SubjectFits t about →
-            IsItemOn t a about item.now → AreCallsOf t table.now crew a (Stands about) result }
+            IsItemOn t a about item.now →
+            IsEntryOf self.now.crew.entries.items item.now.subject entry.entry →
+            AreCallsOf t table.now crew a (Stands about) result }
     {
         match item.subject {
             Subject::Root => self.calls_on_dir(of, table, NodeId::ROOT),
             Subject::Dir(dir, _, _) => self.calls_on_dir(of, table, dir),
             Subject::Others(dir) => self.calls_on_others(of, table, dir),
-            Subject::Name(dir, name) => self.calls_on_name(of, table, dir, name),
+            Subject::Name(dir, name) => self.calls_on_name(of, table, dir, name, entry),
         }
     }
 
@@ -131,15 +148,23 @@ impl Facts<'_> {
         of.calls_under(table, self.on_dir(of, dir), Object::Missing)
     }
 
-    /// Those on a name at which no directory stands.
-    fn calls_on_name(&self, of: &Agent<'_>, table: &CallTable, dir: NodeId, name: &Name) -> Calls
+    /// Those on a name at which no directory stands, by what stands there.
+    fn calls_on_name(
+        &self,
+        of: &Agent<'_>,
+        table: &CallTable,
+        dir: NodeId,
+        name: &Name,
+        entry: Option<&Entry<'_>>,
+    ) -> Calls
         ensures { (t : Tree) (crew : List ProcessState) (a : ProcessState) →
             IsOf t table.now crew self.now a of.now → is_dir t dir ≡ true →
             ((x : _) → look t dir name.now ≡ Some x → is_dir t x ≡ false) →
+            IsEntryIn self.now.crew.entries.items (dir, name.now) entry.entry →
             AreCallsOf t table.now crew a
             (Stands (At (Slot dir name.now (look t dir name.now)))) result }
     {
-        match self.entry(dir, name) {
+        match entry {
             Some(entry) => self.calls_on_entry(of, table, entry),
             None => calls_on_free(of, table, dir, name),
         }
@@ -202,7 +227,7 @@ impl Facts<'_> {
             Made::Others => of.calls_under(table, self.on_made_dir(of), Object::Missing),
             Made::File => {
                 let covers = self.on_made(of, Made::File);
-                let calls = of.calls_under(table, covers, Object::Node(Kind::File));
+                let calls = of.calls_under(table, covers, Object::Node(table.rules().file()));
                 let started = of.calls_under(table, covers, Object::Node(Kind::Prog));
                 on_new_file(calls, started)
             }
@@ -211,6 +236,40 @@ impl Facts<'_> {
                 let calls = of.calls_under(table, covers, Object::Node(Kind::Link));
                 calls.keeping()
             }
+            Made::Sock => self.calls_on_typed(of, table, made, FileType::Sock),
+            Made::Fifo => self.calls_on_typed(of, table, made, FileType::Fifo),
+        }
+    }
+
+    /// Those on what is made as a file of this type.
+    fn calls_on_typed(
+        &self,
+        of: &Agent<'_>,
+        table: &CallTable,
+        made: Made,
+        file_type: FileType,
+    ) -> Calls
+        ensures { AreCallsByCover table.now of.now.process.now of.now.calls.items →
+            (call : AnyCall) → has result call ≡ list_any (allows_under table.now
+            of.now.process.now (new_covers self.now.crew self.now.told.items of.now (new_of made))
+            (Is (TypedKind.Known file_type)) call) (numbered 18) }
+    {
+        of.calls_under(
+            table,
+            self.on_made(of, made),
+            Object::Node(Kind::Known(file_type)),
+        )
+    }
+
+    /// What stands at the name that an item is about, if it is about one. Items are asked for one
+    /// after another, and what was found last says where the next one is looked for first.
+    pub(crate) fn entry_of(&self, item: &Item<'_>, next: &mut usize) -> Option<&Entry<'_>>
+        ensures { AreInOrder self.now.crew.entries.items →
+            IsEntryOf self.now.crew.entries.items item.now.subject result }
+    {
+        match item.subject {
+            Subject::Name(dir, name) => entry_after(&self.crew.entries, next, dir, name),
+            Subject::Root | Subject::Dir(_, _, _) | Subject::Others(_) => None,
         }
     }
 

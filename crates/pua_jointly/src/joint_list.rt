@@ -19,9 +19,11 @@ ghost use Rattle.pua_jointly.specs.JointCalls.{IsAgentIn, IsGroupIn};
 ghost use Rattle.pua_jointly.specs.JointFound.{AreFacts};
 ghost use Rattle.pua_jointly.specs.JointList.{AreJointBut, AreJointSoFar};
 ghost use Rattle.pua_jointly.specs.JointPrograms.{TellsOfOne, now_of};
+ghost use Rattle.pua_jointly.specs.JointSetting.{IsEntryOf};
 ghost use Rattle.pua_jointly.specs.Jointly.{agents_of, as_started, joint_lines};
 
-use crate::crew::{Agent, Group};
+use crate::agent::Agent;
+use crate::crew::{Entry, Group};
 use crate::facts::Facts;
 use crate::members::is_equal;
 use pua_calls::CallTable;
@@ -135,19 +137,23 @@ fn rows_of<'t>(
         AllByRecursion (IsRowOn t process.now) rows.items) }
 {
     let mut rows = Vec::new(alloc);
+    let mut next = 0;
     for item in items {
-        add_rows(facts, of, process, table, item, &mut rows)?;
+        let entry = facts.entry_of(&item.item, &mut next);
+        add_rows(facts, of, process, table, item, entry, &mut rows)?;
     }
     Ok(rows)
 }
 
-/// Adds the rows of an item. The only error is that a growth was refused.
+/// Adds the rows of an item, by what stands at its name. The only error is that a growth was
+/// refused.
 fn add_rows<'t>(
     facts: &Facts<'_>,
     of: &Group<'_, '_>,
     process: &Process,
     table: &CallTable,
     item: &ListItem<'t>,
+    entry: Option<&Entry<'_>>,
     rows: &mut Vec<EverRow<'t>>,
 ) -> Result<(), AllocError>
     ensures told { OnOk result ((t : Tree) (crew : List ProcessState) (a : ProcessState)
@@ -155,6 +161,7 @@ fn add_rows<'t>(
         WellFormed t →
         HasAgents t table.now crew facts.now a given of.now →
         TellsOfOne t table.now crew (agents_of (a, given)) test →
+        IsEntryOf facts.now.crew.entries.items item.now.item.subject entry.entry →
         IsToldIn t a item.now → item.now.depth ≤ length (last_word [] so_far) →
         AreJointSoFar t a test items so_far (item.now ∷ left) rows.old.items →
         AreJointSoFar t a test items (so_far ++ item.now ∷ []) left rows.new.items) }
@@ -162,7 +169,7 @@ fn add_rows<'t>(
         AllByRecursion (IsRowOn t process.now) rows.old.items →
         AllByRecursion (IsRowOn t process.now) rows.new.items) }
 {
-    let stands = stands_row(facts, of, table, item);
+    let stands = stands_row(facts, of, table, item, entry);
     let Ok(()) = rows.push(stands) else {
         return Err(AllocError);
     };
@@ -207,6 +214,7 @@ fn stands_row<'t>(
     of: &Group<'_, '_>,
     table: &CallTable,
     item: &ListItem<'t>,
+    entry: Option<&Entry<'_>>,
 ) -> EverRow<'t>
     ensures at { IsRowAt item.now result }
     ensures about { (t : Tree) → thing_of t result
@@ -217,6 +225,7 @@ fn stands_row<'t>(
     ensures calls { (t : Tree) (crew : List ProcessState) (a : ProcessState)
         (given : Option ℕ) → HasAgents t table.now crew facts.now a given of.now →
         IsToldIn t a item.now →
+        IsEntryOf facts.now.crew.entries.items item.now.item.subject entry.entry →
         AreCallsOfOne t table.now crew (agents_of (a, given))
         (Stands (subject_given t item.now.item.subject)) result.line.calls }
 {
@@ -227,7 +236,7 @@ fn stands_row<'t>(
         about: EverAbout::Stands(place_of(own), own.object, own.cover),
         line: EverLine {
             thing: EverThing::Stands(kind_of(own)),
-            calls: facts.all_calls_on(of, table, own),
+            calls: facts.all_calls_on(of, table, own, entry),
         },
         inside: item.inside,
     }

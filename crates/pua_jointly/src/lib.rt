@@ -1,6 +1,7 @@
 //! What several processes with veils and promises of their own can ever touch together.
 #![tactic(auto)]
 
+mod agent;
 mod closing;
 mod counting;
 mod crew;

@@ -10,7 +10,7 @@ ghost use Rattle.pua_jointly.specs.JointPlace.{Once};
 
 use pua_calls::Perms;
 use pua_policy::{OpenFile, Place, Process};
-use pua_tree::{Kind, OutOfMemory};
+use pua_tree::{FileType, Kind, OutOfMemory};
 use std::alloc::{AllocError, Global};
 
 /// The processes, of equal ones one. The only error is that a growth was refused.
@@ -99,6 +99,10 @@ fn kind_number(kind: Kind) -> u32
         Kind::File => 1,
         Kind::Prog => 2,
         Kind::Link => 3,
+        Kind::Known(FileType::Plain) => 4,
+        Kind::Known(FileType::Sock) => 5,
+        Kind::Known(FileType::Fifo) => 6,
+        Kind::Known(FileType::Dev) => 7,
     }
 }
 

@@ -4,7 +4,7 @@ ghost use Rattle.std.specs.Prelude.{◌≡◌, if◌then◌else◌};
 ghost use Rattle.pua_jointly.specs.JointOld.{above_word, asked_word, cover_word, old_word};
 ghost use Rattle.pua_jointly.specs.JointOld.{over_word, root_word};
 
-use crate::crew::Agent;
+use crate::agent::Agent;
 use crate::words::covers_at;
 use pua_policy::{Cover, Place, Process};
 use pua_tree::{FileTree, Kind, Name, NodeId};
@@ -13,20 +13,19 @@ use pua_tree::{FileTree, Kind, Name, NodeId};
 /// comes when it is moved. A veil on a directory that stands no more covers nothing.
 pub(crate) fn old<T: FileTree>(
     tree: &T,
-    process: &Process,
     told: &[u32],
     columns: usize,
+    of: &Agent<'_>,
     dir: NodeId,
-    of: usize,
     moved: u32,
 ) -> u32
-    ensures { result
-        ≡ old_word (T.content tree.now) process.now told.now columns dir of moved }
+    ensures { result ≡ old_word (T.content tree.now) of.now.process.now told.now columns dir
+        of.now.place moved }
 {
-    match process.kept(&Place::Dir(dir)) {
+    match of.kept(dir) {
         Some(perms) if tree.kind(dir) == Some(Kind::Dir) => bit_of(Cover::Only(perms)),
         Some(_) => 0,
-        None => on_root(process, dir) | above(tree, told, columns, dir, of) | moved,
+        None => on_root(of.process, dir) | above(tree, told, columns, dir, of.place) | moved,
     }
 }
 

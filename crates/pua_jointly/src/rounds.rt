@@ -8,6 +8,7 @@ ghost use Rattle.pua_policy.specs.States.{perms_kept};
 ghost use Rattle.pua_ever.specs.EverLines.{new_of};
 ghost use Rattle.pua_jointly.specs.JointOld.{asked_word};
 ghost use Rattle.pua_jointly.specs.JointWords.{word_at};
+ghost use Rattle.pua_jointly.specs.JointRounds.{agent_at_once, part_at_once};
 ghost use Rattle.pua_jointly.specs.JointRounds.{agent_word, brings, can_carry_new, can_carry_row};
 ghost use Rattle.pua_jointly.specs.JointRounds.{can_create, can_enter, can_turn, carried_flag};
 ghost use Rattle.pua_jointly.specs.JointRounds.{carried_word, carries_at, carries_born};
@@ -20,7 +21,8 @@ ghost use Rattle.pua_jointly.specs.JointRounds.{new_word, opens, opens_in, part_
 ghost use Rattle.pua_jointly.specs.JointRounds.{replaces, stands_in, stays_in, takes_at};
 ghost use Rattle.pua_jointly.specs.JointRounds.{turns_at, watched_word};
 
-use crate::crew::{Agent, Crew, Entry, Mark, Watch};
+use crate::agent::Agent;
+use crate::crew::{Crew, Entry, Mark, Watch};
 use crate::made::{made_bit, made_node};
 use crate::old::{above, old, over};
 use crate::shape::{Part, Row};
@@ -64,6 +66,32 @@ impl Crew<'_> {
                 Some(watch) => self.watched(tree, told, at, row, watch),
                 None => 0,
             },
+        }
+    }
+
+    /// What follows for a word by its own covers: that directories can be put into one with `c`.
+    pub(crate) fn at_once(&self, told: &[u32], row: Row, part: Part) -> u32
+        ensures { result ≡ part_at_once self.now told.now row part }
+    {
+        match part {
+            Part::Agent(place) => match self.agents.get(place) {
+                Some(of) => self.agent_at_once(told, row, of),
+                None => 0,
+            },
+            Part::Common | Part::Watched(_) => 0,
+        }
+    }
+
+    /// What does for the word of a process.
+    fn agent_at_once(&self, told: &[u32], row: Row, of: &Agent<'_>) -> u32
+        ensures { result ≡ agent_at_once self.now told.now row of.now }
+    {
+        match row {
+            Row::Dir(dir) => {
+                let covers = word(told, self.columns, dir.number() as usize, of.place);
+                flag(does_meet(covers, WITH_C), ENTERS)
+            }
+            Row::Made(_) | Row::Landing(_) | Row::Drops(_) | Row::Makers | Row::Name(_) => 0,
         }
     }
 
@@ -138,7 +166,7 @@ impl Crew<'_> {
         ensures { result ≡ dir_word (T.content tree.now) self.now told.now of.now dir }
     {
         let moved = self.come(told, dir, of.place);
-        let covers = old(tree, of.process, told, self.columns, dir, of.place, moved);
+        let covers = old(tree, told, self.columns, of, dir, moved);
         let enters = self.enters(tree, told, of, dir.number() as usize);
         covers_of(covers) | (flag(enters, ENTERS) | flag(self.turns(told, of, dir), TURNS))
     }
@@ -175,7 +203,9 @@ impl Crew<'_> {
             | self.carries(told, row, maker, of, Made::Others);
         let others = self.carries(told, row, maker, of, Made::File)
             | self.carries(told, row, maker, of, Made::Link);
-        dirs | others
+        let typed = self.carries(told, row, maker, of, Made::Sock)
+            | self.carries(told, row, maker, of, Made::Fifo);
+        (dirs | others) | typed
     }
 
     /// The bit of such a thing.
@@ -202,7 +232,8 @@ impl Crew<'_> {
     {
         let dirs = self.creates(told, of, Made::Dir) | self.creates(told, of, Made::Others);
         let others = self.creates(told, of, Made::File) | self.creates(told, of, Made::Link);
-        dirs | others
+        let typed = self.creates(told, of, Made::Sock) | self.creates(told, of, Made::Fifo);
+        (dirs | others) | typed
     }
 
     /// The bit of such a thing.
@@ -645,7 +676,7 @@ fn stands_in<T: FileTree>(tree: &T, dir: NodeId, seat: usize) -> bool
 fn gives_c(of: &Agent<'_>, dir: NodeId) -> bool
     ensures { result ≡ gives_c (perms_kept of.now.process.now (Place.Dir dir)) }
 {
-    match of.process.kept(&Place::Dir(dir)) {
+    match of.kept(dir) {
         Some(perms) => has_c(Cover::Only(perms)),
         None => false,
     }

@@ -1,24 +1,27 @@
 //! What is worked out of several processes and a tree before their facts are found.
 
-ghost use Rattle.std.specs.Prelude.{◌≡◌, ◌≢◌, ◌<◌, ◌+◌, ◌^◌, List, Some, None, map, length};
+ghost use Rattle.std.specs.Prelude.{◌≡◌, ◌≢◌, ◌<◌, ◌+◌, ◌^◌, ◌||◌, ℕ, List, Some, None, map, length};
+ghost use Rattle.std.specs.Prelude.{false, get_or, slice_get};
 ghost use Rattle.std.specs.Prelude.{IfOk, IfSome, MatchOption};
 ghost use Rattle.std.specs.List.{fold, list_any};
 ghost use Rattle.pua_tree.specs.LentRows.{lent_entry};
 ghost use Rattle.pua_tree.specs.Tree.{WellFormed, kind_at};
-ghost use Rattle.pua_policy.specs.States.{ProcessState};
+ghost use Rattle.pua_policy.specs.States.{ProcessState, perms_kept};
 ghost use Rattle.pua_ever.specs.Laws.{dir_of_place};
 ghost use Rattle.pua_jointly.specs.Jointly.{can_send, sets_received};
 ghost use Rattle.pua_jointly.specs.JointMembers.{Each, SameMembers, states, veil_now};
 ghost use Rattle.pua_jointly.specs.JointSetting.{AreInOrder, AreMarksOf, IsEntryAt};
-ghost use Rattle.pua_jointly.specs.JointSetting.{IsMarkOf, IsRowIn};
-ghost use Rattle.pua_jointly.specs.JointSetting.{IsSize, entry_of, greater as greater_of};
+ghost use Rattle.pua_jointly.specs.JointSetting.{IsMarkOf, IsRowIn, is_on};
+ghost use Rattle.pua_jointly.specs.JointSetting.{AreAgentRows, IsSize, entry_of, greater as greater_of};
 ghost use Rattle.pua_jointly.specs.JointSetting.{mark_spot, row_number, veil_number};
 ghost use Rattle.pua_jointly.specs.JointSetup.{IsWorkedOut, crew_told};
 ghost use Rattle.pua_jointly.specs.JointTable.{numbers};
 ghost use Rattle.pua_jointly.specs.JointWords.{IsAgent, has_named, is_name};
 
-use crate::crew::{Agent, Crew, Entry, Mark, Watch, entry_at};
+use crate::agent::Agent;
+use crate::crew::{Crew, Entry, Mark, Watch, entry_at};
 use crate::doing::{Doing, calls_by_cover, covers_for, may_take};
+use crate::marks::{mark, no_marks};
 use crate::members::{all_veils, distinct, know_perms};
 use crate::shape::Shape;
 use crate::size::Size;
@@ -54,7 +57,11 @@ pub(crate) fn work_out<'t, T: FileTree>(
     let Some(size) = size_of(shape, rows.len(), watches.len()) else {
         return Err(OutOfMemory);
     };
-    let agents = ask_agents(alloc, &members, table, size)?;
+    let crew = Members {
+        processes: &members,
+        size,
+    };
+    let agents = ask_agents(alloc, &crew, table)?;
     let entries = find_entries(alloc, tree, &rows, size)?;
     let marks = find_marks(alloc, tree, &entries, &veils)?;
     let seats = all_seats(alloc, size)?;
@@ -145,54 +152,78 @@ fn can_send(process: &Process, table: &CallTable) -> bool
     !table.alternatives(Call::Fchmod).is_empty() && process.held().contains(Promises::SENDFD)
 }
 
+/// Processes, and the size of a table of as many.
+#[derive(Clone, Copy)]
+struct Members<'m, 't> {
+    processes: &'m [&'t Process],
+    size: Size,
+    ghost as_many: { length processes.now ≡ size.shape.agents },
+}
+
+/// Where a process is among those of a crew, and the rows of where it can put directories and other
+/// things.
+#[derive(Clone, Copy)]
+struct AgentRows {
+    place: usize,
+    landing: usize,
+    drops: usize,
+}
+
 /// What is asked of each process. The only error is that a growth was refused.
 fn ask_agents<'t>(
     alloc: Global,
-    members: &[&'t Process],
+    members: &Members<'_, 't>,
     table: &CallTable,
-    size: Size,
 ) -> Result<Vec<Agent<'t>>, OutOfMemory>
-    requires { length members.now ≡ size.shape.agents }
-    ensures crew { IfOk result (λ agents.
-        map (λ agent. agent.process.now) agents.items ≡ states members.now) }
-    ensures each { IfOk result (λ agents. Each (λ i agent. IsAgent table.now
-        (size.shape.last + 1) (states members.now) i agent.process.now agent) agents.items) }
+    ensures crew { IfOk result (λ agents. map (λ agent. agent.process.now) agents.items
+        ≡ states members.now.processes.now) }
+    ensures each { IfOk result (λ agents. let crew = states members.now.processes.now in
+        Each (λ i agent. IsAgent table.now (members.now.size.shape.last + 1) crew i
+        agent.process.now agent) agents.items) }
 {
-    let received = is_some_setter(members);
+    let (processes, size) = (members.processes, members.size);
+    let last = size.shape.last;
+    let received = is_some_setter(processes);
     let mut agents = Vec::new(alloc);
-    for (place, process) in members.iter().enumerate() {
-        let agent = ask_agent(alloc, process, table, place, size, received)?;
+    for (place, process) in processes.iter().enumerate() {
+        let rows = AgentRows {
+            place,
+            landing: size.seats + place,
+            drops: size.seats + size.shape.agents + place,
+        };
+        let agent = ask_agent(alloc, process, table, rows, last, received)?;
         agents.push(agent)?;
     }
     Ok(agents)
 }
 
-/// What is asked of the process at a place of the crew, by whether one of that sets the mode of what
-/// it is sent. The only error is that a growth was refused.
+/// What is asked of the process with these rows, by the greatest number of a directory, and whether
+/// one of the crew sets the mode of what it is sent. The only error is that a growth was refused.
 fn ask_agent<'t>(
     alloc: Global,
     process: &'t Process,
     table: &CallTable,
-    place: usize,
-    size: Size,
+    rows: AgentRows,
+    last: u32,
     received: bool,
 ) -> Result<Agent<'t>, OutOfMemory>
-    requires { place < size.shape.agents }
-    ensures is { IfOk result (λ agent. (crew : List ProcessState) →
-        length crew ≡ size.shape.agents → list_any sets_received crew ≡ received →
-        IsAgent table.now (size.shape.last + 1) crew place process.now agent) }
+    ensures is { IfOk result (λ agent. (dirs : ℕ) (crew : List ProcessState) →
+        AreAgentRows dirs crew rows → list_any sets_received crew ≡ received →
+        IsAgent table.now dirs crew rows.place process.now agent) }
     ensures process { IfOk result (λ agent. agent.process.now ≡ process.now) }
 {
     let sends = can_send(process, table) && received;
     let sets_modes = process.held().contains(Promises::FATTR) || sends;
     let turned = turned_by(alloc, process, sets_modes)?;
     let named = has_named(alloc, process)?;
+    let veiled = veiled_by(alloc, process, last as usize + 1)?;
     let calls = calls_by_cover(alloc, process, table)?;
     Ok(Agent {
         process,
-        place,
-        landing: size.seats + place,
-        drops: size.seats + size.shape.agents + place,
+        veiled,
+        place: rows.place,
+        landing: rows.landing,
+        drops: rows.drops,
         named,
         may_take: may_take(process, table),
         moving: covers_for(process, table, Doing::Moving),
@@ -201,10 +232,54 @@ fn ask_agent<'t>(
         making_dirs: covers_for(process, table, Doing::Making(Made::Dir)),
         making_files: covers_for(process, table, Doing::Making(Made::File)),
         making_links: covers_for(process, table, Doing::Making(Made::Link)),
+        making_sockets: covers_for(process, table, Doing::Making(Made::Sock)),
+        making_fifos: covers_for(process, table, Doing::Making(Made::Fifo)),
         turning: covers_for(process, table, Doing::Turning(sends)),
         turned,
         calls,
     })
+}
+
+/// Whether a process has a veil on a directory, by the numbers below this one. The only error is
+/// that a growth was refused.
+fn veiled_by(alloc: Global, process: &Process, count: usize) -> Result<Vec<bool>, OutOfMemory>
+    ensures { IfOk result (λ veiled. (dir : ℕ) → slice_get veiled.items dir ≡ Some false →
+        perms_kept process.now (Place.Dir dir) ≡ None) }
+{
+    let veils = process.veils(alloc)?;
+    let veiled = veiled_at(alloc, &veils, count)?;
+    Ok(veiled)
+}
+
+/// Whether one of these veils is on a directory, by the numbers below this one. The only error is
+/// that a growth was refused.
+fn veiled_at(
+    alloc: Global,
+    veils: &[(&Place, &Perms)],
+    count: usize,
+) -> Result<Vec<bool>, AllocError>
+    ensures full { IfOk result (λ veiled. length veiled.items ≡ count) }
+    ensures marked { IfOk result (λ veiled. (dir : ℕ) → dir < count →
+        get_or veiled.items dir false ≡ list_any (λ veil. is_on dir veil.0.now) veils.now) }
+{
+    let mut veiled = no_marks(alloc, count)?;
+    for veil in veils {
+        mark_veiled(veil.0, &mut veiled);
+    }
+    Ok(veiled)
+}
+
+/// Marks the directory on which a veil is, if it is on one.
+fn mark_veiled(place: &Place, veiled: &mut Vec<bool>)
+    ensures full { length veiled.new.items ≡ length veiled.old.items }
+    ensures marked { (dir : ℕ) → dir < length veiled.old.items →
+        get_or veiled.new.items dir false
+        ≡ (get_or veiled.old.items dir false || is_on dir place.now) }
+{
+    let Place::Dir(dir) = place else {
+        return;
+    };
+    mark(veiled, *dir, true);
 }
 
 /// Whether a process has a veil at a name. The only error is that a growth was refused.

@@ -10,7 +10,8 @@ ghost use Rattle.pua_jointly.specs.JointFound.{AreFacts};
 ghost use Rattle.pua_jointly.specs.JointPrograms.{HasExec, SomeStart, StartsAt, started_of};
 ghost use Rattle.pua_jointly.specs.declared.crew.Entry.{Entry as Named};
 
-use crate::crew::{Agent, Entry};
+use crate::agent::Agent;
+use crate::crew::Entry;
 use crate::facts::Facts;
 use crate::joint_list::agent_of;
 use pua_calls::{Call, CallTable, ExecPromises};

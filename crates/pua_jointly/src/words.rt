@@ -9,7 +9,7 @@ ghost use Rattle.pua_jointly.specs.JointWords.{dropped_word, landed_at, landing_
 ghost use Rattle.pua_jointly.specs.JointWords.{meets, moved_at, moved_word, moves_at};
 ghost use Rattle.pua_jointly.specs.JointWords.{some_meets, word_at};
 
-use crate::crew::Agent;
+use crate::agent::Agent;
 
 /// Which bits of a word are covers.
 const COVERS: u32 = 0x3_ffff;

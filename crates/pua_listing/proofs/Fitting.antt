@@ -10,16 +10,17 @@ use Rattle.std.proofs.lemmas.Bool.{or_left, or_right, or_parts}
 use Rattle.std.proofs.lemmas.List.{length-append}
 use Rattle.std.proofs.lemmas.List.Folds.{list_all-append}
 use Rattle.pua_tree.specs.Names.{same_bytes, is_name}
-use Rattle.pua_tree.specs.Tree.{Node, node_at, is_dir_kind, target_fits}
+use Rattle.pua_tree.specs.Tree.{Node, kind_at, node_at, is_dir_kind, target_fits}
 use Rattle.pua_tree.specs.Listing.{Entry, last_number, is_taken, is_earlier_dir, is_earlier_other, makes_dir, makes_other, knows_hard}
-use Rattle.pua_tree.specs.Listing.{most_listed_of}
-use Rattle.pua_tree.specs.Grammar.{entry_fits, entries_fit, made_fits, target_stands}
+use Rattle.pua_tree.specs.Listing.{most_listed_of, knows_types}
+use Rattle.pua_tree.specs.Grammar.{entry_fits, entries_fit, kind_known, made_fits, target_stands}
 use Rattle.pua_tree.specs.declared.form.Form.{Form}
 use Rattle.pua_tree.specs.declared.node.Kind.{Kind}
-use Rattle.pua_tree.specs.declared.node.Kind.TheVariants.{Dir, File, Link, Prog}
+use Rattle.pua_tree.specs.declared.node.Kind.TheVariants.{Dir, File, Known, Link, Prog}
 use Rattle.pua_tree.proofs.ForCallers.{row_says, same_or_other, same_word, same_Some, None≢Some}
 use Rattle.pua_listing.specs.Entries.{first_line, number_of, made_under, entry_for, entries_from, has_second_lines, is_target_of_bytes, leads_to_bytes}
-use Rattle.pua_listing.proofs.Counting.{count-append, any_counted, none_counted}
+use Rattle.pua_listing.specs.Listed.{has_types, is_typed}
+use Rattle.pua_listing.proofs.Counting.{count-append, any_counted, counted_any, none_counted}
 use Rattle.pua_listing.proofs.FirstLines.{has_node, not_behind, lined, not_lined, early, late, here}
 use Rattle.pua_listing.proofs.RowForEachNode.{number_is, order_has, order_length, number_root, same_number, spot_once}
 use Rattle.pua_listing.proofs.Walking.{is_entered, all_enter, has, found_has, once}
@@ -50,9 +51,19 @@ target_from Link None h g = absurd (false≢true h)
 target_from Dir None h g = refl
 target_from File None h g = refl
 target_from Prog None h g = refl
+target_from (Known type) None h g = refl
 target_from Dir (Some target) h g = absurd (false≢true h)
 target_from File (Some target) h g = absurd (false≢true h)
 target_from Prog (Some target) h g = absurd (false≢true h)
+target_from (Known type) (Some target) h g = absurd (false≢true h)
+
+-- a form that knows the type of a typed kind knows the kind
+known_from : (form : Form) (kind : Kind) → (is_typed (Some kind) ≡ true → knows_types form ≡ true) → kind_known form kind ≡ true
+known_from form Dir h = refl
+known_from form File h = refl
+known_from form Prog h = refl
+known_from form Link h = refl
+known_from form (Known type) h = h refl
 
 -- a node of earlier rows makes a later row's line a second one
 pub second_line : (done rest : List Row) (row : Row) → has_node row.1 done ≡ true → has_second_lines (done ++ row ∷ rest) ≡ true
@@ -134,6 +145,13 @@ module _ (t : Tree) (sound : Sound t) (order : List Row) (counts : (p : Row → 
     split_counts : (p : Row → Bool) → count p order ≡ count p done + (one (p row) + count p rest)
     split_counts p = ap (count p) split ∙ count-append p done (row ∷ rest)
 
+    -- its type is known where some type is
+    types_there : is_typed (kind_at t row.1) ≡ true → has_types t ≡ true
+    types_there typed =
+        let p : Row → Bool = λ r. is_typed (kind_at t r.1) in
+        let own : one (p row) ≡ 1 = ap one typed in
+        counted_any p t.rows (omega (arith, counts p, split_counts p, own))
+
     alone : list_any (λ (r : Row). is_eq (spot_cmp row.0 r.0)) done ≡ false
     alone =
         let once = spot_once t sound order counts row.0 in
@@ -169,7 +187,7 @@ module _ (t : Tree) (sound : Sound t) (order : List Row) (counts : (p : Row → 
     ] refl
 
     abbrev MadeFits : Form → Option Node → Type 0
-    MadeFits form m = made_fits (knows_hard form) (entries_from t (number_of order) 1 done) (entry_for t (number_of order) line row) m ≡ true
+    MadeFits form m = made_fits form (entries_from t (number_of order) 1 done) (entry_for t (number_of order) line row) m ≡ true
 
     again : (form : Form) → (has_second_lines order ≡ true → knows_hard form ≡ true) → has_node row.1 done ≡ true →
         MadeFits form (made_under t (number_of order) line row.1)
@@ -184,31 +202,33 @@ module _ (t : Tree) (sound : Sound t) (order : List Row) (counts : (p : Row → 
         (made_early t (number_of order) makes_other 1 done row.1 first.0 first.1 number
         (other_made (node_at t row.1) says.2 (not_dir before)))))
 
-    new : (form : Form) → leads_to_bytes (made_under t (number_of order) line row.1) ≡ true → has_node row.1 done ≡ false →
+    new : (form : Form) → (has_types t ≡ true → knows_types form ≡ true) → leads_to_bytes (made_under t (number_of order) line row.1) ≡ true → has_node row.1 done ≡ false →
         MadeFits form (made_under t (number_of order) line row.1)
-    new form bytes none =
+    new form typed bytes none =
         let number : number_of order row.1 ≡ line = number_is order row.1 line
         (ap (λ rows. first_line 1 rows row.1) split ∙ late 1 done (row ∷ rest) row.1 (not_lined 1 done row.1 none) ∙
         here (1 + length done) row rest ∙ ap Some (omega arith)) in
         let own = eq-eqb (number_of order row.1) line number in
         let node = living_node (node_at t row.1) says.2 in
         let is : made_under t (number_of order) line row.1 ≡ Some node.0 = ap (λ b. cond b (node_at t row.1) None) own ∙ node.1 in
-        subst (MadeFits form) (sym is) (and_from _ _ own (target_from node.0.kind node.0.target (sound.node row.1 node.0 node.1).1
-        (subst (λ m. leads_to_bytes m ≡ true) is bytes)))
+        let kind : is_typed (Some node.0.kind) ≡ true → knows_types form ≡ true =
+        λ h. typed (types_there (ap (λ o. is_typed (option_map (λ m. m.kind) o)) node.1 ∙ h)) in
+        subst (MadeFits form) (sym is) (and_from _ _ own (and_from _ _ (known_from form node.0.kind kind) (target_from node.0.kind node.0.target (sound.node row.1 node.0 node.1).1
+        (subst (λ m. leads_to_bytes m ≡ true) is bytes))))
 
     -- what its line makes stands well
-    made : (form : Form) → (has_second_lines order ≡ true → knows_hard form ≡ true) → leads_to_bytes (made_under t (number_of order) line row.1) ≡ true →
+    made : (form : Form) → (has_types t ≡ true → knows_types form ≡ true) → (has_second_lines order ≡ true → knows_hard form ≡ true) → leads_to_bytes (made_under t (number_of order) line row.1) ≡ true →
         MadeFits form (made_under t (number_of order) line row.1)
-    made form known bytes =
+    made form typed known bytes =
         elim (has_node row.1 done) as (λ b. has_node row.1 done ≡ b → MadeFits form (made_under t (number_of order) line row.1)) [
           | true ↦ again form known
-          | false ↦ new form bytes
+          | false ↦ new form typed bytes
         ] refl
 
-    pub fits_here : (form : Form) → is_entered done row.0.0 ≡ true → (has_second_lines order ≡ true → knows_hard form ≡ true)
+    pub fits_here : (form : Form) → is_entered done row.0.0 ≡ true → (has_types t ≡ true → knows_types form ≡ true) → (has_second_lines order ≡ true → knows_hard form ≡ true)
         → leads_to_bytes (made_under t (number_of order) line row.1) ≡ true → length t.rows < most_listed_of form → length t.rows ≤ 999999 →
         entry_fits form (entries_from t (number_of order) 1 done) (entry_for t (number_of order) line row) ≡ true
-    fits_here form enters known bytes room few =
+    fits_here form enters typed known bytes room few =
         let size = ap length split ∙ length-append done (row ∷ rest) in
         let all = order_length t sound order counts in
         let es : List Entry = entries_from t (number_of order) 1 done in
@@ -219,28 +239,28 @@ module _ (t : Tree) (sound : Sound t) (order : List Row) (counts : (p : Row → 
         (and_from _ _ says.1
         (and_from _ _ (ap not (free row.0 1 done (dir_lives (node_at t row.0.0) says.0) parts_there.0 alone))
         (and_from _ _ (lt-ltb (length es + 1) (most_listed_of form) (omega (arith, long, size, all, room)))
-        (made form known bytes))))))
+        (made form typed known bytes))))))
 
   -- so do all that follow
   fits_on : (form : Form) (done rest : List Row) → order ≡ done ++ rest → all_enter done rest ≡ true →
-      (has_second_lines order ≡ true → knows_hard form ≡ true) →
+      (has_types t ≡ true → knows_types form ≡ true) → (has_second_lines order ≡ true → knows_hard form ≡ true) →
       list_all (λ e. leads_to_bytes e.made) (entries_from t (number_of order) (suc (length done)) rest) ≡ true → length t.rows < most_listed_of form →
       length t.rows ≤ 999999 → entries_fit form (entries_from t (number_of order) 1 done) (entries_from t (number_of order) (suc (length done)) rest) ≡ true
-  fits_on form done [] split enter known bytes room few = refl
-  fits_on form done (row ∷ rest) split enter known bytes room few =
+  fits_on form done [] split enter typed known bytes room few = refl
+  fits_on form done (row ∷ rest) split enter typed known bytes room few =
       let enters = and_parts (is_entered done row.0.0) (all_enter (done ++ row ∷ []) rest) enter in
       let small = and_parts (leads_to_bytes (made_under t (number_of order) (suc (length done)) row.1))
       (list_all (λ e. leads_to_bytes e.made) (entries_from t (number_of order) (suc (suc (length done))) rest)) bytes in
       let next : suc (length (done ++ row ∷ [])) ≡ suc (suc (length done)) = omega (arith, length-append done (row ∷ [])) in
-      let more = fits_on form (done ++ row ∷ []) rest (split ∙ sym (append_assoc done (row ∷ []) rest)) enters.1 known
+      let more = fits_on form (done ++ row ∷ []) rest (split ∙ sym (append_assoc done (row ∷ []) rest)) enters.1 typed known
       (ap (λ n. list_all (λ e. leads_to_bytes e.made) (entries_from t (number_of order) n rest)) next ∙ small.1) room few in
       let grown : entries_from t (number_of order) 1 (done ++ row ∷ []) ≡ entries_from t (number_of order) 1 done ++
       entry_for t (number_of order) (suc (length done)) row ∷ [] = entries-push t (number_of order) 1 done row ∙
       ap (λ n. entries_from t (number_of order) 1 done ++ entry_for t (number_of order) n row ∷ []) (omega arith) in
-      and_from _ _ (fits_here done rest row split form enters.0 known small.0 room few)
+      and_from _ _ (fits_here done rest row split form enters.0 typed known small.0 room few)
       ((λ i. entries_fit form (sym grown i) (entries_from t (number_of order) (sym next i) rest)) ∙ more)
 
-  pub all_fit : (form : Form) → all_enter [] order ≡ true → (has_second_lines order ≡ true → knows_hard form ≡ true) →
+  pub all_fit : (form : Form) → all_enter [] order ≡ true → (has_types t ≡ true → knows_types form ≡ true) → (has_second_lines order ≡ true → knows_hard form ≡ true) →
       list_all (λ e. leads_to_bytes e.made) (entries_from t (number_of order) 1 order) ≡ true → length t.rows < most_listed_of form →
       length t.rows ≤ 999999 → entries_fit form [] (entries_from t (number_of order) 1 order) ≡ true
-  all_fit form enter known bytes room few = fits_on form [] order refl enter known bytes room few
+  all_fit form enter typed known bytes room few = fits_on form [] order refl enter typed known bytes room few

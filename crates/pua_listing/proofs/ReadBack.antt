@@ -6,15 +6,18 @@ use Rattle.std.proofs.Common.{unwrap_or, nat_lt, nat_le, Ok, Err, codes, option_
 use Rattle.std.proofs.lemmas.Bool.{ltb-false, leb-false, or_parts, le-ltb, lt-ltb}
 use Rattle.std.specs.Str.Lines.{lines}
 use Rattle.pua_tree.specs.Limits.{most_names, most_listed}
-use Rattle.pua_tree.specs.Tree.{Node, node_at}
-use Rattle.pua_tree.specs.Listing.{Entry, tree_of, knows_hard, most_listed_of}
+use Rattle.std.specs.List.{list_any}
+use Rattle.pua_tree.specs.LentRows.{lent_entry}
+use Rattle.pua_tree.specs.declared.tree.LentRow.{LentRow}
+use Rattle.pua_tree.specs.Tree.{Node, kind_at, node_at}
+use Rattle.pua_tree.specs.Listing.{Entry, tree_of, knows_hard, knows_types, most_listed_of}
 use Rattle.pua_tree.specs.Grammar.{entry_text, header_text}
 use Rattle.pua_tree.specs.declared.form.Form.{Form}
 use Rattle.pua_tree.specs.declared.form.Form.TheVariants.{First, Second, Third}
 use Rattle.pua_tree.proofs.ForCallers.{sound_from, row_says, name_is_bytes, listings_are_read, past, same_Ok}
 use Rattle.pua_listing.specs.Entries.{first_line, number_of, made_under, entry_for, entries_from, entries, new_number, has_second_lines}
 use Rattle.pua_listing.specs.Entries.{is_target_of_bytes, leads_to_bytes}
-use Rattle.pua_listing.specs.Listed.{form_for, form_of, has_second_names, head_text, text_of_lines, listing_text, listed}
+use Rattle.pua_listing.specs.Listed.{form_for, form_of, has_second_names, has_types, head_text, is_typed, text_of_lines, listing_text, listed}
 use Rattle.pua_listing.specs.Same.{ReadsBack}
 use Rattle.pua_listing.specs.Laws.{LeadsToBytes, ListingsReadBack}
 use Rattle.pua_listing.specs.declared.fault.ListFault.TheVariants.{TooManyNames}
@@ -37,32 +40,35 @@ number_small rows x = by (first_line 1 rows x) refl
     by None e = omega arith
     by (Some j) e = omega (arith, not_behind 1 rows x j e)
 
-knows : (t : Tree) (second : Bool) → second ≡ true → knows_hard (form_for t second) ≡ true
-knows t second h =
-    elim (nat_lt most_names t.room || nat_le most_listed (length t.rows)) as (λ w. knows_hard (cond w Third (cond second Second First)) ≡ true) [
+knows : (t : Tree) (types second : Bool) → second ≡ true → knows_hard (form_for t types second) ≡ true
+knows t types second h =
+    elim (types || (nat_lt most_names t.room || nat_le most_listed (length t.rows))) as (λ w. knows_hard (cond w Third (cond second Second First)) ≡ true) [
       | true ↦ refl
       | false ↦ ap (λ b. knows_hard (cond b Second First)) h
     ]
 
-has_room : (t : Tree) (second : Bool) → length t.rows + 1 ≤ 1000000 → length t.rows < most_listed_of (form_for t second)
-has_room t second few = by (nat_lt most_names t.room || nat_le most_listed (length t.rows)) refl second
+types_known : (t : Tree) (types second : Bool) → types ≡ true → knows_types (form_for t types second) ≡ true
+types_known t types second h = ap (λ b. knows_types (form_for t b second)) h
+
+has_room : (t : Tree) (types second : Bool) → length t.rows + 1 ≤ 1000000 → length t.rows < most_listed_of (form_for t types second)
+has_room t types second few = by (types || (nat_lt most_names t.room || nat_le most_listed (length t.rows))) refl second
   where
-    by : (w : Bool) → (nat_lt most_names t.room || nat_le most_listed (length t.rows)) ≡ w → (b : Bool) →
+    by : (w : Bool) → (types || (nat_lt most_names t.room || nat_le most_listed (length t.rows))) ≡ w → (b : Bool) →
         length t.rows < most_listed_of (cond w Third (cond b Second First))
     by true e b = omega arith
-    by false e true = let short = leb-false most_listed (length t.rows) (or_parts (nat_lt most_names t.room) _ e).1 in omega arith
-    by false e false = let short = leb-false most_listed (length t.rows) (or_parts (nat_lt most_names t.room) _ e).1 in omega arith
+    by false e true = let short = leb-false most_listed (length t.rows) (or_parts (nat_lt most_names t.room) _ (or_parts types _ e).1).1 in omega arith
+    by false e false = let short = leb-false most_listed (length t.rows) (or_parts (nat_lt most_names t.room) _ (or_parts types _ e).1).1 in omega arith
 
-module _ (t : Tree) (sound : Sound t) (f : ℕ → ℕ) (small : (x : ℕ) → f x < 2 ^ 64) where
+module _ (t : Tree) (form : Form) (sound : Sound t) (f : ℕ → ℕ) (small : (x : ℕ) → f x < 2 ^ 64) where
   printed_from : (n : ℕ) (rows : List Row) → list_all (has t.rows) rows ≡ true →
       list_all (λ e. leads_to_bytes e.made) (entries_from t f n rows) ≡ true → n + length rows ≤ 1000000 →
-      list_all is_line (map entry_text (entries_from t f n rows)) ≡ true
+      list_all is_line (map (entry_text form) (entries_from t f n rows)) ≡ true
   printed_from n [] all bytes few = refl
   printed_from n (row ∷ rows) all bytes few =
       let there = and_parts (has t.rows row) (list_all (has t.rows) rows) all in
       let made = and_parts (leads_to_bytes (made_under t f n row.1)) (list_all (λ e. leads_to_bytes e.made) (entries_from t f (suc n) rows)) bytes in
       let says = row_says t sound row.0 row.1 (found_has t.rows row there.0) in
-      and_from _ _ (entry_printed (entry_for t f n row) (omega arith) (small row.0.0) (small row.1) (name_is_bytes row.0.1 says.1) made.0)
+      and_from _ _ (entry_printed form (entry_for t f n row) (omega arith) (small row.0.0) (small row.1) (name_is_bytes row.0.1 says.1) made.0)
       (printed_from (suc n) rows there.1 made.1 (omega arith))
 
 pub reads_back : (t : Tree) → WellFormed t → length t.rows + 1 ≤ 1000000 → list_all (λ e. leads_to_bytes e.made) (entries t) ≡ true →
@@ -73,12 +79,12 @@ reads_back t well few bytes =
     let order = in_order t in
     let form = form_of t in
     let long = order_length t sound order counts in
-    let fit = all_fit t sound order counts form (order_enters t sound) (λ some. knows t (has_second_names t) (sym (second_lines t order counts) ∙ some))
-    bytes (has_room t (has_second_names t) few) (omega arith) in
+    let fit = all_fit t sound order counts form (order_enters t sound) (types_known t (has_types t) (has_second_names t)) (λ some. knows t (has_types t) (has_second_names t) (sym (second_lines t order counts) ∙ some))
+    bytes (has_room t (has_types t) (has_second_names t) few) (omega arith) in
     let small : (x : ℕ) → number_of order x < 2 ^ 64 = λ x. omega (arith, number_small order x) in
-    let printed = printed_from t sound (number_of order) small 1 order (order_has t sound order counts) bytes (omega arith) in
-    let text = ap lines (sym (text-append (header_text form ∷ codes "0 dir" ∷ []) (map entry_text (entries t))))
-    ∙ lines_of_text (header_text form ∷ codes "0 dir" ∷ map entry_text (entries t)) (and_from _ _ (head_printed form) printed) in (
+    let printed = printed_from t form sound (number_of order) small 1 order (order_has t sound order counts) bytes (omega arith) in
+    let text = ap lines (sym (text-append (header_text form ∷ codes "0 dir" ∷ []) (map (entry_text form) (entries t))))
+    ∙ lines_of_text (header_text form ∷ codes "0 dir" ∷ map (entry_text form) (entries t)) (and_from _ _ (head_printed form) printed) in (
       tree_of form (entries t),
       (listings_are_read (listing_text t) (tree_of form (entries t))).1 (form, entries t, fit, text, refl),
       is_renumbered t sound order counts form,
@@ -128,14 +134,25 @@ module _ (t : Tree) (order : List Row) (f : ℕ → ℕ) (order_is : order ≡ i
   entries_are : entries_from t f 1 order ≡ entries t
   entries_are = (λ i. entries_from t (λ x. same x i) 1 order) ∙ ap (λ rows. entries_from t (number_of rows) 1 rows) order_is
 
-  pub text_is : (second : Bool) (form : Form) (head text : List ℕ) → WellFormed t → second ≡ has_second_lines order → form ≡ form_for t second →
-      head ≡ head_text form → text ≡ head ++ text_of_lines (map entry_text (entries_from t f 1 order)) → text ≡ listing_text t
-  text_is second form head text well second_is form_is head_is is =
+  pub text_is : (types second : Bool) (form : Form) (head text : List ℕ) → WellFormed t → types ≡ has_types t →
+      second ≡ has_second_lines order → form ≡ form_for t types second → head ≡ head_text form →
+      text ≡ head ++ text_of_lines (map (entry_text form) (entries_from t f 1 order)) → text ≡ listing_text t
+  text_is types second form head text well types_is second_is form_is head_is is =
       let lines = second_is ∙ ap has_second_lines order_is ∙ second_lines t (in_order t) (order_counts t (sound_from t well)) in
-      is ∙ (λ i. (head_is ∙ ap head_text (form_is ∙ ap (form_for t) lines)) i ++ text_of_lines (map entry_text (entries_are i)))
+      let own : form ≡ form_of t = form_is ∙ (λ i. form_for t (types_is i) (lines i)) in
+      is ∙ (λ i. (head_is ∙ ap head_text own) i ++ text_of_lines (map (entry_text (own i)) (entries_are i)))
 
   pub bytes_are : list_all (λ e. leads_to_bytes e.made) (entries_from t f 1 order) ≡ true → list_all (λ e. leads_to_bytes e.made) (entries t) ≡ true
   bytes_are small = ap (list_all (λ (e : Entry). leads_to_bytes e.made)) (sym entries_are) ∙ small
+
+-- whether some type is known, by the rows that the tree lends
+pub types_are : (t : Tree) (rows : List LentRow) (types : Bool) → map lent_entry rows ≡ t.rows →
+    types ≡ list_any (λ row. is_typed (kind_at t row.node)) rows → types ≡ has_types t
+types_are t rows types same is = is ∙ each rows ∙ ap (list_any (λ row. is_typed (kind_at t row.1))) same
+  where
+    each : (rs : List LentRow) → list_any (λ row. is_typed (kind_at t row.node)) rs ≡ list_any (λ row. is_typed (kind_at t row.1)) (map lent_entry rs)
+    each [] = refl
+    each (r ∷ rs) = ap (λ b. is_typed (kind_at t r.node) || b) (each rs)
 
 -- there are as many lines as rows
 pub as_many : (t : Tree) → WellFormed t → (order : List TreeRow) → rows_held order ≡ in_order t → length order ≡ length t.rows

@@ -12,7 +12,7 @@ use Rattle.pua_tree.specs.Tree.{Node, node_at, is_dir_kind, target_fits}
 use Rattle.pua_tree.specs.Listing.{Entry, tree_of, rows_of_entries, made_entry, root_node}
 use Rattle.pua_tree.specs.declared.form.Form.{Form}
 use Rattle.pua_tree.specs.declared.node.Kind.{Kind}
-use Rattle.pua_tree.specs.declared.node.Kind.TheVariants.{Dir, File, Link, Prog}
+use Rattle.pua_tree.specs.declared.node.Kind.TheVariants.{Dir, File, Known, Link, Prog}
 use Rattle.pua_tree.proofs.ForCallers.{row_says, same_or_other, same_Some, None≢Some, nat_tie, all_found}
 use Rattle.pua_listing.specs.Entries.{first_line, number_of, made_under, entries_from}
 use Rattle.pua_listing.specs.Same.{IsRenumbered}
@@ -45,6 +45,7 @@ bare_dir Dir (Some target) h g = absurd (false≢true g)
 bare_dir File target h g = absurd (false≢true h)
 bare_dir Prog target h g = absurd (false≢true h)
 bare_dir Link target h g = absurd (false≢true h)
+bare_dir (Known type) target h g = absurd (false≢true h)
 
 root_from : (o : Option Node) → is_dir_kind (option_map (λ n. n.kind) o) ≡ true → ((n : Node) → o ≡ Some n → target_fits n.kind n.target ≡ true) →
     o ≡ Some root_node

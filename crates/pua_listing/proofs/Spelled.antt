@@ -10,7 +10,8 @@ use Rattle.pua_tree.specs.Tree.{Node}
 use Rattle.pua_tree.specs.Listing.{Entry}
 use Rattle.pua_tree.specs.Grammar.{entry_text, line_word, last_field, target_field, header_text}
 use Rattle.pua_tree.specs.declared.node.Kind.{Kind}
-use Rattle.pua_tree.specs.declared.node.Kind.TheVariants.{Dir, File, Link, Prog}
+use Rattle.pua_tree.specs.declared.node.Kind.TheVariants.{Dir, File, Known, Link, Prog}
+use Rattle.pua_tree.specs.declared.node.FileType.TheVariants.{Plain, Sock, Fifo, Dev}
 use Rattle.pua_tree.specs.declared.form.Form.{Form}
 use Rattle.pua_tree.specs.declared.form.Form.TheVariants.{First, Second, Third}
 use Rattle.pua_tree.proofs.ForCallers.{is_byte, is_visible, visible_decimal, visible_spelling}
@@ -83,12 +84,18 @@ printed (b ∷ bs) h =
 joined : (a b : List ℕ) → is_line a ≡ true → is_line b ≡ true → is_line (a ++ b) ≡ true
 joined a b h g = list_all-append is_printed a b ∙ and_from _ _ h g
 
-word_printed : (kind : Option Kind) → is_line (line_word kind) ≡ true
-word_printed None = refl
-word_printed (Some Dir) = refl
-word_printed (Some File) = refl
-word_printed (Some Prog) = refl
-word_printed (Some Link) = refl
+word_printed : (form : Form) (kind : Option Kind) → is_line (line_word form kind) ≡ true
+word_printed form None = refl
+word_printed form (Some Dir) = refl
+word_printed First (Some File) = refl
+word_printed Second (Some File) = refl
+word_printed Third (Some File) = refl
+word_printed form (Some Prog) = refl
+word_printed form (Some Link) = refl
+word_printed form (Some (Known Plain)) = refl
+word_printed form (Some (Known Sock)) = refl
+word_printed form (Some (Known Fifo)) = refl
+word_printed form (Some (Known Dev)) = refl
 
 target_printed : (target : Option (List ℕ)) → is_target_of_bytes target ≡ true → is_line (target_field target) ≡ true
 target_printed None h = refl
@@ -98,16 +105,16 @@ last_printed : (node : ℕ) (made : Option Node) → node < 2 ^ 64 → leads_to_
 last_printed node None small h = printed (decimal node) (visible_decimal node small)
 last_printed node (Some made) small h = target_printed made.target h
 
-pub entry_printed : (e : Entry) → e.number < 2 ^ 64 → e.parent < 2 ^ 64 → e.node < 2 ^ 64 → IsTrue (list_all is_byte e.name) →
-    leads_to_bytes e.made ≡ true → is_line (entry_text e) ≡ true
-entry_printed e n p x name made =
+pub entry_printed : (form : Form) (e : Entry) → e.number < 2 ^ 64 → e.parent < 2 ^ 64 → e.node < 2 ^ 64 → IsTrue (list_all is_byte e.name) →
+    leads_to_bytes e.made ≡ true → is_line (entry_text form e) ≡ true
+entry_printed form e n p x name made =
     let kind : Option Kind = option_map (λ made. made.kind) e.made in
     let number : List ℕ = decimal e.number in
-    let word : List ℕ = number ++ 32 ∷ line_word kind in
+    let word : List ℕ = number ++ 32 ∷ line_word form kind in
     let parent : List ℕ = word ++ 32 ∷ decimal e.parent in
     let named : List ℕ = parent ++ 32 ∷ spelling e.name in
     joined named (last_field e.node e.made) (joined parent (32 ∷ spelling e.name) (joined word (32 ∷ decimal e.parent)
-    (joined number (32 ∷ line_word kind) (printed number (visible_decimal e.number n)) (word_printed kind))
+    (joined number (32 ∷ line_word form kind) (printed number (visible_decimal e.number n)) (word_printed form kind))
     (printed (decimal e.parent) (visible_decimal e.parent p))) (printed (spelling e.name) (visible_spelling e.name name)))
     (last_printed e.node e.made x made)
 

@@ -9,10 +9,11 @@ ghost use Rattle.pua_listing.specs.Entries.{entry_for, is_byte, leads_to_bytes, 
 ghost use Rattle.pua_listing.specs.Lent.{row_held};
 ghost use Rattle.pua_listing.specs.Numbers.{number_in, node_made, kind_made};
 
+use crate::form::kind_word;
 use crate::numbers::Numbers;
 use crate::order::TreeRow;
 use itoa::Buffer;
-use pua_tree::{FileTree, Kind, NodeId, OutOfMemory, byte_spelling};
+use pua_tree::{FileTree, Form, Kind, NodeId, OutOfMemory, byte_spelling};
 
 /// What a line makes: a node of this kind, and where it leads if it is a link.
 #[derive(Clone, Copy)]
@@ -21,15 +22,16 @@ pub(crate) struct MadeNode<'t> {
     pub(crate) target: Option<&'t [u8]>,
 }
 
-/// Adds the line of a row under its number. The only error is that a growth was refused.
+/// Adds the line of a row under its number, in a form. The only error is that a growth was refused.
 pub(crate) fn add_line<T: FileTree>(
     text: &mut Vec<u8>,
     tree: &T,
+    form: Form,
     numbers: &Numbers,
     number: usize,
     row: &TreeRow<'_>,
 ) -> Result<(), OutOfMemory>
-    ensures line { OnOk result (text.new.items ≡ text.old.items ++ (entry_text
+    ensures line { OnOk result (text.new.items ≡ text.old.items ++ (entry_text form
         (entry_for (T.content tree.now) (number_in numbers.now) number (row_held row.now))
         ++ 10 ∷ [])) }
     ensures bytes { OnOk result (IsTrue (leads_to_bytes
@@ -41,7 +43,7 @@ pub(crate) fn add_line<T: FileTree>(
     } else {
         None
     };
-    add_front(text, number, made, numbers.number(row.dir))?;
+    add_front(text, form, number, made, numbers.number(row.dir))?;
     add_spelled(text, row.name.bytes())?;
     add_last(text, node, made)?;
     text.push(b'\n')?;
@@ -60,25 +62,26 @@ fn node_of<T: FileTree>(tree: &T, node: NodeId) -> Option<MadeNode<'_>>
 /// Adds the fields before the name: the line's number, its word and the number of the directory.
 fn add_front(
     text: &mut Vec<u8>,
+    form: Form,
     number: usize,
     made: Option<MadeNode<'_>>,
     parent: usize,
 ) -> Result<(), OutOfMemory>
     ensures { OnOk result (text.new.items ≡ text.old.items ++ (decimal number
-        ++ 32 ∷ line_word (kind_made made.entry) ++ 32 ∷ decimal parent)) }
+        ++ 32 ∷ line_word form (kind_made made.entry) ++ 32 ∷ decimal parent)) }
 {
     let mut digits = Buffer::new();
     text.extend_from_slice(digits.format(number).as_bytes())?;
-    add_field(text, word(made).as_bytes())?;
+    add_field(text, word(form, made).as_bytes())?;
     add_number(text, parent)
 }
 
 /// The word of a line: that of the kind of what it makes, if it makes something.
-fn word(made: Option<MadeNode<'_>>) -> &'static str
-    ensures { result.now ≡ line_word (kind_made made.entry) }
+fn word(form: Form, made: Option<MadeNode<'_>>) -> &'static str
+    ensures { result.now ≡ line_word form (kind_made made.entry) }
 {
     match made {
-        Some(made) => made.kind.word(),
+        Some(made) => kind_word(form, made.kind),
         None => "hard",
     }
 }

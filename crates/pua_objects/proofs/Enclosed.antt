@@ -23,6 +23,7 @@ use Rattle.pua_path.specs.declared.found.Start.{Start}
 use Rattle.pua_path.specs.declared.text.Ending.{Ending}
 use Rattle.pua_path.specs.declared.traced.Stop.{Stop}
 use Rattle.pua_path.proofs.ForCallers.{traces_answer, traces_arrive}
+use Rattle.pua_audit.proofs.ForCallers.{above_in_is}
 use Rattle.pua_objects.specs.Roots.{stays_in}
 
 -- the directory of what a path named
@@ -135,6 +136,7 @@ module _ (t : Tree) (sound : Sound t) where
           (cc, ap is_dir_kind (ap (option_map (λ n. n.kind)) at ∙ ap Some is))
       of_kind y node kinds.File at is s = let never : Plain y ≡ Directory x = rw is at s in cc
       of_kind y node kinds.Prog at is s = let never : Plain y ≡ Directory x = rw is at s in cc
+      of_kind y node (kinds.Known type) at is s = let never : Plain y ≡ Directory x = rw is at s in cc
       of_kind y node kinds.Link at is s = let never : Linked y (unwrap_or node.target []) ≡ Directory x = rw is at s in cc
 
       of_node : (y : ℕ) (o : Option Node) → node_at t y ≡ o → standing_of y o ≡ Directory x → IsThere y
@@ -153,7 +155,8 @@ module _ (t : Tree) (sound : Sound t) where
     seen = rooted t root
 
     above_stays : (d : ℕ) → is_within t d root ≡ true → is_within t (above_in seen d) root ≡ true
-    above_stays d within = by (d == root) refl (root == 0) refl
+    above_stays d within =
+        subst (λ e. is_within t e root ≡ true) (sym (above_in_is seen d (and_parts (is_dir t d) _ within).0)) (by (d == root) refl (root == 0) refl)
       where
         at_top : d ≡ root → root ≡ 0 → is_within t (above t d) root ≡ true
         at_top same top = ap (λ e. is_within t (above t e) root) (same ∙ top) ∙ ap (λ r. is_within t 0 r) top ∙ itself 0 sound.root

@@ -94,6 +94,7 @@ module _ (t : Tree) where
       by_kind node kinds.Dir is e = rw is refl
       by_kind node kinds.File is e = cc
       by_kind node kinds.Prog is e = cc
+      by_kind node (kinds.Known type) is e = cc
       by_kind node kinds.Link is e = cc
 
       by_node : (o : Option Node) → is_dir_kind (option_map (λ n. n.kind) o) ≡ true → standing_of x o ≡ Directory x
@@ -177,6 +178,7 @@ module _ (t : Tree) where
         by_kind node kinds.Dir is other named = cc
         by_kind node kinds.File is other named = rw is refl
         by_kind node kinds.Prog is other named = rw is refl
+        by_kind node (kinds.Known type) is other named = rw is refl
         by_kind node kinds.Link is other (inl kept) = rw (is, kept) refl
         by_kind node kinds.Link is other (inr plainly) = cc
 

@@ -1,7 +1,7 @@
 -- A trace answers as the resolution does.
-use Rattle.pua_path.proofs.Common.{Tree, RootedTree, Start, above_in, has_root, rooted, seen_from, starts}
+use Rattle.pua_path.proofs.Common.{Tree, RootedTree, Start, seen_from, starts}
 use Rattle.pua_path.proofs.Common.{◌≡◌, ℕ, zero, suc, Bool, true, false, List, [], ◌∷◌, ◌++◌, Some, None, refl, ap, ◌∙◌, Result, Ok, Err}
-use Rattle.pua_path.proofs.Common.{if◌then◌else◌, not, ◌&&◌, option_map, Spot, is_dir, ◌>>=◌, parts_of, is_absolute, Resolved}
+use Rattle.pua_path.proofs.Common.{if◌then◌else◌, not, option_map, Spot, ◌>>=◌, parts_of, Resolved}
 use Rattle.pua_path.proofs.Common.{Directory, Linked, Plain, Nothing, standing_at, is_followed, slot_or, walk, start_of, resolve_parts}
 use Rattle.pua_path.proofs.Common.{resolution, Errno, ENOENT, ENOTDIR, ELOOP, Ending, Part, Last, Way, Named, Dot, DotDot, Top, Found, Slot}
 use Rattle.pua_path.proofs.Common.{Stop, NoEntry, NoDirectory, LinkBeyond, Trace, at_once, after_links, slot_or_stop, walk_traced}

@@ -1,7 +1,7 @@
 -- A part that another follows, by the part alone: what was found there, and the errno where it is no directory.
-use Rattle.pua_path.proofs.Common.{Tree, RootedTree, Start, above_in, has_root, rooted, seen_from, starts}
+use Rattle.pua_path.proofs.Common.{Tree, RootedTree, Start, rooted, seen_from, starts}
 use Rattle.pua_path.proofs.Common.{◌≡◌, ℕ, zero, suc, Bool, true, false, List, [], ◌∷◌, ◌++◌, Some, None, refl, sym, ap, ◌∙◌, append_assoc}
-use Rattle.pua_path.proofs.Common.{◌-◌, Result, Ok, Err, if◌then◌else◌, not, ◌&&◌, is_dir, ◌>>=◌, parts_of, is_absolute, Resolved}
+use Rattle.pua_path.proofs.Common.{◌-◌, Result, Ok, Err, if◌then◌else◌, not, ◌>>=◌, parts_of, Resolved}
 use Rattle.pua_path.proofs.Common.{Standing, Directory, Linked, Plain, Nothing, standing_at, walk, start_of, resolve_parts, resolution}
 use Rattle.pua_path.proofs.Common.{dir_with_links, step, most_links, Errno, ENOENT, ENOTDIR, ELOOP, Ending, Part, Last, Followed, Way}
 use Rattle.pua_path.proofs.Common.{Found, Whole, Slot}

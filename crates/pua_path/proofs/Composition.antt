@@ -1,6 +1,6 @@
 -- Resolution may be cut before any further part.
 use Rattle.pua_path.proofs.Common.{RootedTree}
-use Rattle.pua_path.proofs.Common.{◌≡◌, ℕ, zero, suc, List, [], ◌∷◌, ◌++◌, true, refl, sym, ap, ◌∙◌, append_assoc, if◌then◌else◌, Tree}
+use Rattle.pua_path.proofs.Common.{◌≡◌, ℕ, zero, suc, List, [], ◌∷◌, ◌++◌, true, refl, sym, ap, ◌∙◌, append_assoc, if◌then◌else◌}
 use Rattle.pua_path.proofs.Common.{◌>>=◌, parts_of, Resolved, Directory, Linked, Plain, Nothing, standing_at, is_followed, slot_or, walk}
 use Rattle.pua_path.proofs.Common.{start_of, resolve_parts, Errno, ENOENT, ENOTDIR, ELOOP, Part, Last, Followed, Kept, Way, Named, Dot}
 use Rattle.pua_path.proofs.Common.{DotDot, Top, Found, Slot}

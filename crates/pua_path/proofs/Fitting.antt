@@ -1,8 +1,8 @@
 -- What resolution finds is of the tree.
-use Rattle.pua_path.proofs.Common.{Tree, RootedTree, Start, above_in, has_root, rooted, seen_from, starts}
+use Rattle.pua_path.proofs.Common.{Tree, RootedTree, Start, above_in, seen_from, starts}
 use Rattle.pua_path.proofs.Common.{◌≡◌, ◌≤◌, ℕ, zero, suc, List, [], ◌∷◌, ◌++◌, Bool, true, false, refl, sym, ap, ◌∙◌, subst, arith}
-use Rattle.pua_path.proofs.Common.{option_map, if◌then◌else◌, ◌&&◌, not, ◌==◌, and_parts, Node, node_at, is_dir, ◌>>=◌, Kind}
-use Rattle.pua_path.proofs.Common.{parts_of, is_absolute, Resolved, Standing, Directory, Linked, Plain, Nothing, standing_at, is_followed}
+use Rattle.pua_path.proofs.Common.{option_map, if◌then◌else◌, not, ◌==◌, and_parts, Node, node_at, is_dir, ◌>>=◌, Kind}
+use Rattle.pua_path.proofs.Common.{parts_of, Resolved, Standing, Directory, Linked, Plain, Nothing, standing_at, is_followed}
 use Rattle.pua_path.proofs.Common.{slot_or, walk, start_of, resolve_parts, dir_with_links, resolution, most_links, Errno, ENOENT, ENOTDIR}
 use Rattle.pua_path.proofs.Common.{ELOOP, Ending, Part, Last, Followed, Way, Named, Dot, DotDot, Top, Found, Whole, Slot}
 use Rattle.std.specs.Prelude.{Option, Some, None, Result, Ok, Err, is_none, is_some, ◌-◌, IfOk}
@@ -49,6 +49,13 @@ module _ (t : Tree) (fits : WellFormed t) where
             ap Some is),
       )
   of_kind x node kinds.Prog e is =
+      rw is (
+        refl,
+        ap is_dir_kind (ap (option_map (λ n. n.kind)) e ∙ ap Some is),
+        ap is_link_kind (ap (option_map (λ n. n.kind)) e ∙
+            ap Some is),
+      )
+  of_kind x node (kinds.Known type) e is =
       rw is (
         refl,
         ap is_dir_kind (ap (option_map (λ n. n.kind)) e ∙ ap Some is),

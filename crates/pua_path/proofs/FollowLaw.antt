@@ -1,7 +1,7 @@
 -- What a part names where no link was used before tells it for any number of links used before.
 use Rattle.pua_path.proofs.Common.{RootedTree, above_in}
 use Rattle.pua_path.proofs.Common.{◌≡◌, ℕ, ◌+◌, ◌-◌, ◌≤◌, List, [], ◌∷◌, ◌++◌, Bool, true, false, Option, Some, None, refl, sym, ap, ◌∙◌}
-use Rattle.pua_path.proofs.Common.{subst, arith, Result, Ok, Err, Tree, Node, node_at, Kind, ◌>>=◌, parts_of, Resolved, Standing}
+use Rattle.pua_path.proofs.Common.{subst, arith, Result, Ok, Err, Node, node_at, Kind, ◌>>=◌, parts_of, Resolved, Standing}
 use Rattle.pua_path.proofs.Common.{Directory, Linked, Plain, Nothing, standing_at, start_of, resolve_parts, step, last, most_links, Errno}
 use Rattle.pua_path.proofs.Common.{ELOOP, Part, Followed, Kept, Found, Whole, Slot}
 use Rattle.std.proofs.Common.{option_map}
@@ -119,6 +119,7 @@ missing_follows t dir name none =
 stands_plainly : (x : ℕ) (node : Node) (kind : Kind) → node.kind ≡ kind → is_file kind ≡ true → standing_of x (Some node) ≡ Plain x
 stands_plainly x node kinds.File same file = rw same refl
 stands_plainly x node kinds.Prog same file = rw same refl
+stands_plainly x node (kinds.Known type) same file = rw same refl
 stands_plainly x node kinds.Dir same file = absurd (false≢true file)
 stands_plainly x node kinds.Link same file = absurd (false≢true file)
 

@@ -1,11 +1,10 @@
 -- What is true of the nodes of every tree.
-use Rattle.pua_path.proofs.Common.{RootedTree, Start, above_in, has_root, rooted, seen_from, starts}
+use Rattle.pua_path.proofs.Common.{RootedTree, Start, above_in, has_root, seen_from, starts}
 use Rattle.pua_path.proofs.Common.{◌≡◌, ℕ, zero, suc, Bool, true, false, List, [], ◌∷◌, Option, Some, None, length, refl, sym, ap, ◌∙◌}
-use Rattle.pua_path.proofs.Common.{arith, ◌≤◌, ◌++◌, ◌+◌, ◌-◌, ◌<◌, ◌==◌, if◌then◌else◌, nat_lt, not, and_parts, list_all, Bor, has_byte}
-use Rattle.pua_path.proofs.Common.{Tree, Node, Spot, node_at, is_dir, above, Kind, is_absolute, parts_of, Remaining, is_readable, start_of}
+use Rattle.pua_path.proofs.Common.{arith, ◌≤◌, ◌==◌, if◌then◌else◌, nat_lt, not, and_parts, list_all, Bor, has_byte}
+use Rattle.pua_path.proofs.Common.{Tree, Node, Spot, node_at, is_dir, above, Kind, is_absolute, parts_of, is_readable, start_of}
 use Rattle.std.proofs.Common.{◌&&◌, ◌||◌, eqb-true}
 use Rattle.std.proofs.Common.{max, cond, fold, find, option_map, option_and_then, option_copied}
-use Rattle.std.proofs.Common.{length-append, sub-one}
 use Rattle.std.specs.Prelude.{nat_le, unwrap_or}
 use Rattle.std.specs.Ordering.{nat_cmp, eq_by_cmp, is_eq}
 use Rattle.std.specs.Cmp.{Equal-is}
@@ -15,9 +14,8 @@ use Rattle.std.specs.declared.cmp.Ordering.TheVariants.{Equal}
 use Rattle.pua_tree.specs.Names.{has_short_components, is_target}
 use Rattle.pua_tree.specs.Tree.{WellFormed, target_at, parent, row_fits, node_fits, target_fits}
 use Rattle.pua_tree.specs.Tree.{rows_fit_kind}
-use Rattle.pua_tree.specs.declared.node.Kind.TheVariants.{Dir, File, Prog, Link}
+use Rattle.pua_tree.specs.declared.node.Kind.TheVariants.{Dir, File, Prog, Link, Known}
 use Rattle.pua_path.specs.Bounds.{target_parts, most_parts}
-use Rattle.pua_path.specs.Walks.{is_here, potential}
 use Rattle.pua_path.specs.declared.text.Ending.TheVariants as ending
 
 -- what is found passes a test that all pass
@@ -75,6 +73,7 @@ fits_target : (kind : Kind) (target : List ℕ) → target_fits kind (Some targe
 fits_target Dir target h = cc
 fits_target File target h = cc
 fits_target Prog target h = cc
+fits_target (Known type) target h = cc
 fits_target Link target h = h
 
 target_readable : (target : List ℕ) → is_target target ≡ true → is_readable target ≡ true
@@ -120,9 +119,13 @@ start_lives t root dir target r h = by (is_absolute target)
 pub above_in_lives : (t : RootedTree) (dir : ℕ) → WellFormed t.tree → is_dir t.tree t.root ≡ true → is_dir t.tree (above_in t dir) ≡ true
 above_in_lives t dir w r = by (not (t.root == 0) && (dir == t.root))
   where
-    by : (v : Bool) → is_dir t.tree (if v then t.root else above t.tree dir) ≡ true
+    parent_lives : (v : Bool) → is_dir t.tree (unwrap_or (if v then Some (above t.tree dir) else None) 0) ≡ true
+    parent_lives true = above_lives t.tree dir w
+    parent_lives false = w.root
+
+    by : (v : Bool) → is_dir t.tree (if v then t.root else unwrap_or (parent t.tree dir) 0) ≡ true
     by true = r
-    by false = above_lives t.tree dir w
+    by false = parent_lives (is_dir t.tree dir)
 
 -- a root that was not removed lives
 pub root_lives : (t : Tree) (root : ℕ) → WellFormed t → has_root t root ≡ true → is_dir t root ≡ true
@@ -148,30 +151,3 @@ text_start_lives t from text w = by (is_absolute text)
     by : (v : Bool) → (if v then has_root t from.root else is_dir t from.dir) ≡ true → is_dir t (if v then from.root else from.dir) ≡ true
     by true h = root_lives t from.root w h
     by false h = h
-
--- a resolution that isn't at a root of its own is in a living directory
-living_here : (t : Tree) (root dir : ℕ) → WellFormed t → is_here t root dir ≡ true → (not (root == 0) && (dir == root)) ≡ false → is_dir t dir ≡ true
-living_here t root dir w = by (dir == root) refl
-  where
-    top : (root == 0) ≡ true → dir ≡ root → is_dir t dir ≡ true
-    top zero_root same = rw (same, eqb-true root 0 zero_root) w.root
-
-    at_root : (v : Bool) → (root == 0) ≡ v → dir ≡ root → (not v && true) ≡ false → is_dir t dir ≡ true
-    at_root true e same other = top e same
-    at_root false e same other = cc
-
-    elsewhere : (v : Bool) → (v || false) ≡ true → v ≡ true
-    elsewhere true h = refl
-    elsewhere false h = h
-
-    by : (v : Bool) → (dir == root) ≡ v → (is_dir t dir || v) ≡ true → (not (root == 0) && v) ≡ false → is_dir t dir ≡ true
-    by true e here other = at_root (root == 0) refl (eqb-true dir root e) other
-    by false e here other = elsewhere (is_dir t dir) here
-
--- where a resolution is that was led up, as the probe answers it
-pub parent_here : (t : Tree) (root dir : ℕ) → WellFormed t → is_here t root dir ≡ true → (not (root == 0) && (dir == root)) ≡ false →
-    (unwrap_or (parent t dir) 0 ≡ above t dir) × (is_here t root (unwrap_or (parent t dir) 0) ≡ true)
-parent_here t root dir w here other =
-    let lives = living_here t root dir w here other in
-    let is : unwrap_or (parent t dir) 0 ≡ above t dir = ap (λ v. unwrap_or (if v then Some (above t dir) else None) 0) lives in
-    (is, rw is (ap (λ v. v || (above t dir == root)) (above_lives t dir w)))

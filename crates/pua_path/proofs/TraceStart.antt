@@ -1,7 +1,7 @@
 -- Where a trace begins.
-use Rattle.pua_path.proofs.Common.{RootedTree, Start, above_in, has_root, rooted, seen_from, starts}
+use Rattle.pua_path.proofs.Common.{Start, rooted, seen_from, starts}
 use Rattle.pua_path.proofs.Common.{◌≡◌, ℕ, Bool, true, false, List, [], Some, None, Err, refl, sym, ap, ◌∙◌, Option, if◌then◌else◌, not}
-use Rattle.pua_path.proofs.Common.{◌&&◌, Tree, Spot, is_dir, parts_of, is_absolute, start_of, Trace, trace_parts, PathTrace, as_path_trace}
+use Rattle.pua_path.proofs.Common.{Tree, Spot, parts_of, start_of, Trace, trace_parts, PathTrace, as_path_trace}
 use Rattle.pua_path.proofs.Common.{trace_from, Ending, Last, Part, Way, Top}
 use Rattle.pua_path.specs.Limits.{most_links}
 use Rattle.pua_path.specs.Traces.{fails_in}

@@ -2,7 +2,7 @@
 use Rattle.std.specs.Prelude.{ℕ, List, codes}
 use Rattle.pua_path.specs.declared.errno.Errno.{Errno}
 use Rattle.pua_path.specs.declared.errno.Errno.TheVariants.{EPERM, ENOENT, E2BIG, EBADF, EACCES, EAGAIN, EBUSY, EEXIST, ENOTDIR, EISDIR}
-use Rattle.pua_path.specs.declared.errno.Errno.TheVariants.{EINVAL, ENOSPC, ELOOP, ENAMETOOLONG, ENOTEMPTY, ENOSYS, ENOTSOCK, EADDRINUSE}
+use Rattle.pua_path.specs.declared.errno.Errno.TheVariants.{EINVAL, ENOSPC, ELOOP, ENAMETOOLONG, ENOTEMPTY, ENOSYS, ENOTSOCK, EOPNOTSUPP, EADDRINUSE}
 
 abbrev pub errno_name : Errno → List ℕ
 errno_name EPERM = codes "EPERM"
@@ -22,4 +22,5 @@ errno_name ENAMETOOLONG = codes "ENAMETOOLONG"
 errno_name ENOTEMPTY = codes "ENOTEMPTY"
 errno_name ENOSYS = codes "ENOSYS"
 errno_name ENOTSOCK = codes "ENOTSOCK"
+errno_name EOPNOTSUPP = codes "EOPNOTSUPP"
 errno_name EADDRINUSE = codes "EADDRINUSE"

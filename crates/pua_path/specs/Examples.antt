@@ -62,6 +62,9 @@ pub record StepRows : Type 0 where
   pub last_link : last (rooted example_tree 0) 0 31 (part.Name (codes "t")) Followed ≡ Ok (Whole 3 (Named 0 (codes "tmp")))
   pub link_beyond : last (rooted example_tree 0) 0 32 (part.Name (codes "t")) Followed ≡ Err ELOOP
   pub followed : follow (rooted example_tree 0) 0 (part.Name (codes "t")) ≡ Ok (Whole 3 (Named 0 (codes "tmp")), 1)
+  -- node 0 is above what is no directory, be it a program's node or none
+  pub above_program : follow (rooted example_tree 0) 7 part.DotDot ≡ Ok (Whole 0 DotDot, 0)
+  pub above_nothing : follow (rooted example_tree 1) 9 part.DotDot ≡ Ok (Whole 0 DotDot, 0)
 
 -- what paths name where the root is a directory of the tree
 pub record RootRows : Type 0 where
@@ -111,7 +114,16 @@ resolution_rows = record {
 }
 
 pub step_rows : StepRows
-step_rows = record { first = refl; second = refl; third = refl; last_link = refl; link_beyond = refl; followed = refl }
+step_rows = record {
+  first = refl;
+  second = refl;
+  third = refl;
+  last_link = refl;
+  link_beyond = refl;
+  followed = refl;
+  above_program = refl;
+  above_nothing = refl;
+}
 
 pub root_rows : RootRows
 root_rows = record {

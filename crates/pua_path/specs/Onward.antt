@@ -7,7 +7,7 @@ use Rattle.pua_tree.specs.Steps.{◌>>=◌}
 use Rattle.pua_path.specs.Paths.{parts_of}
 use Rattle.pua_path.specs.Resolution.{Resolved, RootedTree, above_in, Standing, Directory, Linked, Plain, Nothing, standing_at}
 use Rattle.pua_path.specs.Resolution.{start_of, resolve_parts}
-use Rattle.pua_path.specs.Walks.{HasFewParts, found_seen, is_here, way_of}
+use Rattle.pua_path.specs.Walks.{HasFewParts, found_seen, way_of}
 use Rattle.pua_path.specs.declared.errno.Errno.{Errno}
 use Rattle.pua_path.specs.declared.errno.Errno.TheVariants.{ENOENT, ENOTDIR, ELOOP}
 use Rattle.pua_path.specs.declared.text.Ending.TheVariants.{Dot}
@@ -68,12 +68,10 @@ onward_seen (onward.Link target) = Follows target.bytes.now
 onward_seen (onward.Found found) = Ends (found_seen found)
 onward_seen (onward.Nowhere errno) = Fails errno
 
--- a directory where a resolution by this root may be, or a link's target there
-abbrev pub IsOnwardIn : Tree → ℕ → declared.Onward → Type 0
-IsOnwardIn t root (onward.Directory dir way) = IsTrue (is_here t root dir)
-IsOnwardIn t root (onward.Link target) = HasFewParts t target.bytes.now
-IsOnwardIn t root (onward.Found found) = Unit {0}
-IsOnwardIn t root (onward.Nowhere errno) = Unit {0}
+-- a link's target has no more parts than the tree's longest
+abbrev pub FollowsFew : Tree → declared.Onward → Type 0
+FollowsFew t (onward.Link target) = HasFewParts t target.bytes.now
+FollowsFew t _ = Unit {0}
 
 -- bytes that lead to no directory, or by a link, are a name
 abbrev pub IsByName : List ℕ → declared.Onward → Type 0

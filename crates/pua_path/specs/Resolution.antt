@@ -1,7 +1,7 @@
 -- What a path names in a tree.
 use Rattle.std.specs.Prelude.{ℕ, zero, suc, ◌-◌, Bool, true, false, not, ◌&&◌, ◌||◌, ◌==◌, if◌then◌else◌, List, [], ◌∷◌, ◌++◌, Option, Some, None}
 use Rattle.std.specs.Prelude.{Result, Ok, Err, unwrap_or}
-use Rattle.pua_tree.specs.Tree.{Tree, Node, look, node_at, is_dir, above}
+use Rattle.pua_tree.specs.Tree.{Tree, Node, look, node_at, is_dir, parent}
 use Rattle.pua_tree.specs.Steps.{◌>>=◌}
 pub use Rattle.pua_path.specs.Limits.{most_links}
 use Rattle.pua_path.specs.Paths.{parts_of, is_absolute, path_fault}
@@ -33,9 +33,9 @@ pub record RootedTree : Type 0 where
 abbrev pub rooted : Tree → ℕ → RootedTree
 rooted t root = record { tree = t; root = root }
 
--- the directory above a directory; the root is above itself, and node 0 is so in each tree
+-- the directory above a directory; the root is above itself, and node 0 is above what has no parent
 abbrev pub above_in : RootedTree → ℕ → ℕ
-above_in t dir = if not (t.root == 0) && (dir == t.root) then t.root else above t.tree dir
+above_in t dir = if not (t.root == 0) && (dir == t.root) then t.root else unwrap_or (parent t.tree dir) 0
 
 -- what stands at a name
 pub data Standing : Type 0 where

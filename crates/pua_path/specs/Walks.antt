@@ -1,8 +1,7 @@
 -- A resolution on its way: what stands at a name, and how one part leads on to the next.
-use Rattle.std.specs.Prelude.{◌≡◌, nat_lt, ℕ, ◌+◌, ◌*◌, ◌≤◌, ◌==◌, Bool, ◌||◌, if◌then◌else◌, List, [], ◌∷◌, length, Option, Some, None, Result, Ok}
+use Rattle.std.specs.Prelude.{◌≡◌, nat_lt, ℕ, ◌+◌, ◌*◌, ◌≤◌, Bool, if◌then◌else◌, List, [], ◌∷◌, length, Option, Some, None, Result, Ok}
 use Rattle.std.specs.Prelude.{Err, IsTrue}
-use Rattle.pua_tree.specs.Tree.{Tree, Spot, WellFormed, is_dir}
-use Rattle.pua_path.specs.Limits.{most_links}
+use Rattle.pua_tree.specs.Tree.{Tree, Spot, is_dir}
 use Rattle.pua_path.specs.Paths.{parts_of}
 use Rattle.pua_path.specs.Remaining.{Remaining}
 use Rattle.pua_path.specs.Resolution.{Resolved, rooted, Standing, Directory, Linked, Plain, Nothing, resolve_parts}
@@ -126,13 +125,3 @@ potential t left rest = length rest.parts + most_parts t * left
 
 abbrev pub potential_of : Tree → Resolving → ℕ
 potential_of t walk = potential t walk.left walk.rest
-
--- where a resolution may be: in a living directory, or at the root, which may have been removed
-abbrev pub is_here : Tree → ℕ → ℕ → Bool
-is_here t root dir = is_dir t dir || (dir == root)
-
--- a resolution that can go on, with room for the targets that may come
-pub record CanGoOn (t : Tree) (root here left : ℕ) (rest : Remaining) : Type 0 where
-  pub tree : WellFormed t
-  pub dir : IsTrue (is_here t root here)
-  pub room : rest.depth + left ≤ most_links

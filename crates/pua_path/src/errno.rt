@@ -22,6 +22,7 @@ pub enum Errno {
     ENOTEMPTY,
     ENOSYS,
     ENOTSOCK,
+    EOPNOTSUPP,
     EADDRINUSE,
 }
 
@@ -50,6 +51,7 @@ impl fmt::Display for Errno {
             Errno::ENOTEMPTY => "ENOTEMPTY",
             Errno::ENOSYS => "ENOSYS",
             Errno::ENOTSOCK => "ENOTSOCK",
+            Errno::EOPNOTSUPP => "EOPNOTSUPP",
             Errno::EADDRINUSE => "EADDRINUSE",
         })
     }

@@ -14,10 +14,9 @@ ghost use Rattle.pua_path.specs.Resolution.{standing_at, start_of, starts};
 ghost use Rattle.pua_path.specs.Limits.{most_links};
 ghost use Rattle.pua_path.specs.Paths.{is_absolute, part_of, parts_of};
 ghost use Rattle.pua_path.specs.Walks.{way_of, way_seen, founds_seen, resolved_seen};
-ghost use Rattle.pua_path.specs.Walks.{standing_seen, HasFewParts, IsSeenIn, CanGoOn, LeadsOn, TracesOn};
-ghost use Rattle.pua_path.specs.Walks.{is_here};
+ghost use Rattle.pua_path.specs.Walks.{standing_seen, HasFewParts, IsSeenIn, LeadsOn, TracesOn};
 ghost use Rattle.pua_path.specs.Onward.{followed, is_followed_at, onward_by, onward_seen};
-ghost use Rattle.pua_path.specs.Onward.{found_alone, IsOnwardIn, IsByName};
+ghost use Rattle.pua_path.specs.Onward.{found_alone, FollowsFew, IsByName};
 ghost use Rattle.pua_path.specs.Walks.{walk_end, potential_of};
 ghost use Rattle.pua_path.specs.Bounds.{part_cost, most_parts};
 ghost use Rattle.pua_path.specs.Fits.{FoundFits, FoundsFit, StandsAsNamed};
@@ -98,7 +97,6 @@ fn resolve_text<'a, 't: 'a, P: Probe<'t>>(
     text: Readable<'a>,
     mode: Last,
 ) -> Result<LentFound<'a>, Errno>
-    requires dir { IsTrue (is_here (P.tree probe.old) start.root start.dir) }
     requires left { left ≤ most_links }
     ensures exact { let t = rooted (P.tree probe.old) start.root in
         let parts = rest_parts text.entry.bytes.now in founds_seen result
@@ -141,7 +139,6 @@ fn follow_on<'a, 't: 'a, P: Probe<'t>>(
     text: Readable<'a>,
     mode: Last,
 ) -> Result<LentFound<'a>, Errno>
-    requires dir { IsTrue (is_here (P.tree probe.old) from.root from.dir) }
     requires left { left ≤ most_links }
     ensures exact { let t = rooted (P.tree probe.old) from.root in
         let parts = rest_parts text.entry.bytes.now in founds_seen result
@@ -163,7 +160,6 @@ fn follow_counted<'a, 't: 'a, P: Probe<'t>>(
     text: Readable<'a>,
     mode: Last,
 ) -> Result<(LentFound<'a>, u8), Errno>
-    requires dir { IsTrue (is_here (P.tree probe.old) from.root from.dir) }
     requires left { left ≤ most_links }
     ensures exact { let t = rooted (P.tree probe.old) from.root in
         let parts = rest_parts text.entry.bytes.now in
@@ -249,19 +245,20 @@ pub fn last<'t, P: Probe<'t>>(
 /// What the last part names where no link was followed before it and its own are, and how many that
 /// are, 32 at most. It decides `last` and `step` for any number of links used before: while both
 /// together are within 32, `last` names the same, and `step` leads to it, with the sum used, if it
-/// is a directory; where they are not, both are `ELOOP`. Needs the directory to live. Errors are
-/// those of `last`; what is found is of the tree as it stands, where the root lives. Takes no
-/// memory, and as many probes as `step` at most.
+/// is a directory; where they are not, both are `ELOOP`. Errors are those of `last`; what is found
+/// is of the tree as it stands, where the root and the directory live. Takes no memory, and as many
+/// probes as `step` at most.
 pub fn follow<'t, P: Probe<'t>>(
     probe: &mut P,
     from: Start,
     part: &Part,
 ) -> Result<(Found, u8), Errno>
-    requires dir { IsTrue (is_dir (P.tree probe.old) from.dir) }
     ensures exact { result ≡ follow (rooted (P.tree probe.old) from.root) from.dir part.now }
     ensures fits { IsTrue (is_dir (P.tree probe.old) from.root) →
+        IsTrue (is_dir (P.tree probe.old) from.dir) →
         IfOk result (λ found. FoundFits (P.tree probe.old) found.0) }
     ensures named { IsTrue (is_dir (P.tree probe.old) from.root) →
+        IsTrue (is_dir (P.tree probe.old) from.dir) →
         IfOk result (λ found. StandsAsNamed (P.tree probe.old) found.0) }
     ensures links { IfOk result (λ found. found.1 ≤ most_links) }
     ensures tree { P.tree probe.new ≡ P.tree probe.old }
@@ -278,7 +275,6 @@ fn resolve_part<'t, P: Probe<'t>>(
     part: &Part,
     mode: Last,
 ) -> Result<(Found, u8), Errno>
-    requires dir { IsTrue (is_dir (P.tree probe.old) from.dir) }
     requires left { left ≤ most_links }
     ensures exact { let t = rooted (P.tree probe.old) from.root in
         result ≡ resolve_parts left t mode from.dir ways.Top (part.now ∷ []) }
@@ -320,8 +316,6 @@ fn start_of<'t, P: Probe<'t>>(probe: &mut P, from: Start, text: &[u8]) -> Option
           root = (seen_from t from).root;
           dir = start_of from.root text.now from.dir;
         })) }
-    ensures ready { IfSome result (λ start. (rest : Remaining) → rest.depth ≡ 0 →
-        CanGoOn (P.tree probe.old) start.root start.dir most_links rest) }
     ensures tree { P.tree probe.new ≡ P.tree probe.old }
 {
     probe.known();
@@ -379,7 +373,7 @@ fn standing_at<'t, P: Probe<'t>>(probe: &mut P, dir: NodeId, name: LentName<'_>)
             let bytes = probe.target(node).unwrap_or(&[]);
             Standing::Linked(node, Readable { bytes })
         }
-        Kind::File | Kind::Prog => Standing::Plain(node),
+        Kind::File | Kind::Prog | Kind::Known(_) => Standing::Plain(node),
     }
 }
 
@@ -438,11 +432,10 @@ fn lead_by_piece<'n, 't: 'n, P: Probe<'t>>(
     is_last: bool,
     mode: Last,
 ) -> Onward<'n>
-    requires dir { IsTrue (is_here (P.tree probe.old) from.root from.dir) }
     ensures exact { let t = rooted (P.tree probe.old) from.root in
         let part = part_of piece.entry.bytes.now in
         onward_seen result ≡ onward_by t mode from.dir part is_last }
-    ensures stands { IsOnwardIn (P.tree probe.old) from.root result }
+    ensures few { FollowsFew (P.tree probe.old) result }
     ensures named { IsByName piece.entry.bytes.now result }
     ensures tree { P.tree probe.new ≡ P.tree probe.old }
     ensures count { P.count probe.new ≤ P.count probe.old + 3 }
@@ -461,10 +454,9 @@ fn lead_by_part<'n, 't: 'n, P: Probe<'t>>(
     part: &'n Part,
     mode: Last,
 ) -> Onward<'n>
-    requires dir { IsTrue (is_here (P.tree probe.old) from.root from.dir) }
     ensures exact { let t = rooted (P.tree probe.old) from.root in
         onward_seen result ≡ onward_by t mode from.dir part.now true }
-    ensures stands { IsOnwardIn (P.tree probe.old) from.root result }
+    ensures few { FollowsFew (P.tree probe.old) result }
     ensures tree { P.tree probe.new ≡ P.tree probe.old }
     ensures count { P.count probe.new ≤ P.count probe.old + 3 }
 {
@@ -490,7 +482,7 @@ fn lead_by_name<'n, 't: 'n, P: Probe<'t>>(
     ensures exact { let t = rooted (P.tree probe.old) from.root in
         let part = parts.Name name.entry.bytes.now in
         onward_seen result ≡ onward_by t mode from.dir part is_last }
-    ensures stands { IsOnwardIn (P.tree probe.old) from.root result }
+    ensures few { FollowsFew (P.tree probe.old) result }
     ensures tree { P.tree probe.new ≡ P.tree probe.old }
     ensures count { P.count probe.new ≤ P.count probe.old + 3 }
 {
@@ -542,11 +534,9 @@ fn end_at<'n>(
     Onward::Found(LentFound::Slot { dir, name, node })
 }
 
-/// The directory above a directory, by its root.
+/// The directory above a directory, by its root; node 0 where what is asked for is none.
 fn above<'t, P: Probe<'t>>(probe: &mut P, from: Start) -> NodeId
-    requires dir { IsTrue (is_here (P.tree probe.old) from.root from.dir) }
     ensures above { result ≡ above_in (rooted (P.tree probe.old) from.root) from.dir }
-    ensures here { IsTrue (is_here (P.tree probe.old) from.root result) }
     ensures tree { P.tree probe.new ≡ P.tree probe.old }
     ensures count { P.count probe.new ≤ P.count probe.old + 1 }
 {
@@ -594,8 +584,7 @@ impl<'a> Resolving<'a> {
         probe: &mut P,
         mode: Last,
     ) -> Result<(LentFound<'a>, u8), Errno>
-        requires ready { CanGoOn (P.tree probe.old)
-            self.old.root self.old.here self.old.left self.old.rest }
+        requires room { self.old.rest.depth + self.old.left ≤ most_links }
         ensures exact { resolved_seen result ≡ walk_end (P.tree probe.old) mode self.old }
         ensures left { IfOk result (λ found. found.1 ≤ self.old.left) }
         ensures tree { P.tree probe.new ≡ P.tree probe.old }
@@ -621,8 +610,7 @@ impl<'a> Resolving<'a> {
         piece: Piece<'a>,
         mode: Last,
     ) -> Result<Option<LentFound<'a>>, Errno>
-        requires { CanGoOn (P.tree probe.old)
-            self.old.root self.old.here self.old.left self.old.rest }
+        requires room { self.old.rest.depth + self.old.left ≤ most_links }
         ensures exact { let part = part_of piece.entry.bytes.now in
             LeadsOn (P.tree probe.old) mode part self.old result self.new }
         ensures traced { let bytes = piece.entry.bytes.now in
@@ -630,8 +618,7 @@ impl<'a> Resolving<'a> {
         ensures stopped { IfErr result (λ _. IsTrue (is_name piece.entry.bytes.now)) }
         ensures linked { self.new.left < self.old.left →
             IsTrue (is_name piece.entry.bytes.now) }
-        ensures ready { CanGoOn (P.tree probe.old)
-            self.new.root self.new.here self.new.left self.new.rest }
+        ensures room { self.new.rest.depth + self.new.left ≤ most_links }
         ensures left { self.new.left ≤ self.old.left }
         ensures potential { let t = P.tree probe.old in
             potential_of t self.new ≤ potential_of t self.old }

@@ -5,13 +5,14 @@ use Rattle.pua_tree.specs.Tree.{Tree, is_empty}
 use Rattle.pua_path.specs.declared.found.Way.TheVariants as way
 use Rattle.pua_calls.specs.declared.call.Call.TheVariants as call
 use Rattle.pua_tree.specs.declared.node.Kind.{Kind}
-use Rattle.pua_tree.specs.declared.node.Kind.TheVariants.{Dir, File, Prog, Link}
+use Rattle.pua_tree.specs.declared.node.Kind.TheVariants.{Dir, File, Prog, Link, Known}
+use Rattle.pua_tree.specs.declared.node.FileType.TheVariants.{Plain, Sock, Fifo, Dev}
 use Rattle.pua_calls.specs.declared.rules.Rules.{Rules}
 use Rattle.pua_calls.specs.declared.rules.Rules.TheVariants.{Standard, Openbsd}
 use Rattle.pua_policy.specs.Misfits.{Object, IsDir, Is, IsMissing, dotdot_misfit, misfit}
 use Rattle.pua_calls.specs.declared.fits.Misfit.{Misfit}
 use Rattle.pua_calls.specs.declared.fits.Misfit.TheVariants.{Missing, Exists, IsDirectory, IsNoFile, IsNoDirectory, IsNoLink}
-use Rattle.pua_calls.specs.declared.fits.Misfit.TheVariants.{IsNoProgram, IsNotEmpty, IsNoSocket, InUse}
+use Rattle.pua_calls.specs.declared.fits.Misfit.TheVariants.{IsNoProgram, IsNotEmpty, IsSocket, IsNoSocket, InUse}
 use Rattle.pua_policy.specs.ReasonLaws.{MisfitHolds, MisfitsHold}
 
 module _ (t : Tree) where
@@ -25,21 +26,27 @@ module _ (t : Tree) where
   by_kind (IsDir dir way) IsNoFile = Some tt
   by_kind (IsDir dir way) IsNoLink = Some (tt, λ e. cc)
   by_kind (IsDir dir way) IsNoProgram = Some (tt, λ e. cc)
-  by_kind (IsDir dir way) IsNoSocket = Some (tt, λ e. cc)
+  by_kind (IsDir dir way) IsNoSocket = Some (tt, (λ e. cc), λ e. cc)
   by_kind (IsDir dir way) _ = None
   by_kind (Is Dir) IsDirectory = Some tt
   by_kind (Is Dir) IsNoFile = Some tt
   by_kind (Is Dir) IsNoLink = Some (tt, λ e. cc)
   by_kind (Is Dir) IsNoProgram = Some (tt, λ e. cc)
-  by_kind (Is Dir) IsNoSocket = Some (tt, λ e. cc)
+  by_kind (Is Dir) IsNoSocket = Some (tt, (λ e. cc), λ e. cc)
   by_kind (Is Dir) _ = None
   by_kind _ IsNoDirectory = Some (tt, λ x. x)
   by_kind (Is File) IsNoLink = Some (tt, λ e. cc)
   by_kind (Is Prog) IsNoLink = Some (tt, λ e. cc)
   by_kind (Is File) IsNoProgram = Some (tt, λ e. cc)
   by_kind (Is Link) IsNoProgram = Some (tt, λ e. cc)
-  by_kind (Is Prog) IsNoSocket = Some (tt, λ e. cc)
-  by_kind (Is Link) IsNoSocket = Some (tt, λ e. cc)
+  by_kind (Is (Known type)) IsNoLink = Some (tt, λ e. cc)
+  by_kind (Is (Known type)) IsNoProgram = Some (tt, λ e. cc)
+  by_kind (Is Prog) IsNoSocket = Some (tt, (λ e. cc), λ e. cc)
+  by_kind (Is Link) IsNoSocket = Some (tt, (λ e. cc), λ e. cc)
+  by_kind (Is (Known Plain)) IsNoSocket = Some (tt, (λ e. cc), λ e. cc)
+  by_kind (Is (Known Fifo)) IsNoSocket = Some (tt, (λ e. cc), λ e. cc)
+  by_kind (Is (Known Dev)) IsNoSocket = Some (tt, (λ e. cc), λ e. cc)
+  by_kind (Is (Known Sock)) IsSocket = Some refl
   by_kind _ _ = None
 
   abbrev is_by_kind : Object → Option Misfit → Bool
@@ -58,6 +65,14 @@ module _ (t : Tree) where
   of_kind : (whose : Rules) (c : Call) (kind : Kind) → is_by_kind (Is kind) (misfit whose t c (Is kind)) ≡ true
   of_kind whose call.Stat Dir = refl
   of_kind whose _ Dir = refl
+  of_kind whose call.Stat (Known Plain) = refl
+  of_kind whose _ (Known Plain) = refl
+  of_kind whose call.Stat (Known Sock) = refl
+  of_kind whose _ (Known Sock) = refl
+  of_kind whose call.Stat (Known Fifo) = refl
+  of_kind whose _ (Known Fifo) = refl
+  of_kind whose call.Stat (Known Dev) = refl
+  of_kind whose _ (Known Dev) = refl
   of_kind whose call.Stat _ = refl
   of_kind whose _ _ = refl
 

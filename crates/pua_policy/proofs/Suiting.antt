@@ -1,12 +1,18 @@
 -- By which rules an object is judged makes no difference to whether a call is on it.
-use Rattle.pua_policy.proofs.Common.{◌≡◌, Bool, true, false, refl, Option, Tree, Call}
-use Rattle.std.specs.Prelude.{if◌then◌else◌, Some, is_none, option_map}
+use Rattle.pua_policy.proofs.Common.{◌≡◌, ◌∙◌, ap, Bool, true, false, refl, Option, Tree, Call}
+use Rattle.std.specs.Prelude.{if◌then◌else◌, Some, None, is_none, option_map}
 use Rattle.pua_path.specs.declared.found.Way.TheVariants as way
 use Rattle.pua_calls.specs.Calls.{about}
+use Rattle.pua_calls.specs.Misfits.{fits_on}
+use Rattle.pua_calls.specs.declared.fits.Fits.{Fits}
 use Rattle.pua_calls.specs.declared.fits.Misfit.{Misfit}
 use Rattle.pua_calls.specs.declared.rules.Rules.{Rules}
 use Rattle.pua_calls.specs.declared.rules.Rules.TheVariants.{Standard}
-use Rattle.pua_policy.specs.Misfits.{Object, IsDir, Is, IsMissing, misfit_errno}
+use Rattle.pua_policy.specs.Misfits.{Object, IsDir, Is, IsMissing, misfit_errno, rmdir_misfit}
+use Rattle.pua_policy.specs.Objects.{misfit_seen, object_seen}
+use Rattle.pua_policy.specs.declared.object.Object as seen
+use Rattle.pua_policy.specs.declared.object.Object.TheVariants as see
+use Rattle.pua_tree.specs.declared.node.Kind.TheVariants.{Dir}
 use Rattle.pua_policy.specs.Verdict.{object_fault}
 
 -- of a directory that `..` names too, something is wrong by all rules or by none
@@ -23,3 +29,25 @@ suits_alike whose t call (IsDir dir way.Top) = refl
 suits_alike whose t call (IsDir dir (way.Named parent name)) = refl
 suits_alike whose t call (Is kind) = refl
 suits_alike whose t call IsMissing = refl
+
+-- as it is seen, an object suits as it does by the standard rules
+suits_so : (o : Option Misfit) → is_none o ≡ is_none (option_map misfit_errno o)
+suits_so None = refl
+suits_so (Some misfit) = refl
+
+dir_suits : (fits : Fits) (removing : Option Misfit) (by_way : Bool) → fits.by_way ≡ by_way →
+    is_none (misfit_seen fits (if is_none (option_map misfit_errno removing) then see.Removable else see.Node Dir))
+    ≡ is_none (option_map misfit_errno (if fits.by_way then removing else fits.directory))
+dir_suits fits None true is = rw is refl
+dir_suits fits None false is = rw is (suits_so fits.directory)
+dir_suits fits (Some misfit) true is = rw is refl
+dir_suits fits (Some misfit) false is = rw is (suits_so fits.directory)
+
+pub suits_seen : (t : Tree) (call : Call) (object : seen.Object) (judged : Object) → object ≡ object_seen t judged →
+    is_none (misfit_seen (about call).fits object) ≡ is_none (object_fault Standard t call judged)
+suits_seen t call object judged as_seen = ap (λ o. is_none (misfit_seen (about call).fits o)) as_seen ∙ by judged
+  where
+    by : (judged : Object) → is_none (misfit_seen (about call).fits (object_seen t judged)) ≡ is_none (object_fault Standard t call judged)
+    by IsMissing = suits_so (about call).fits.missing
+    by (Is kind) = suits_so (fits_on (about call).fits kind)
+    by (IsDir dir w) = dir_suits (about call).fits (rmdir_misfit Standard t dir w) (about call).fits.by_way refl

@@ -3,6 +3,8 @@ use Rattle.std.specs.Prelude.{◌≡◌, ◌+◌, ◌-◌, ◌^◌, true, false,
 use Rattle.pua_tree.specs.Tree.{empty_tree}
 use Rattle.pua_tree.specs.Examples.{example_tree}
 use Rattle.pua_tree.specs.declared.node.Kind.TheVariants as kind
+use Rattle.pua_tree.specs.declared.node.Kind.TheVariants.{Known}
+use Rattle.pua_tree.specs.declared.node.FileType.TheVariants.{Plain, Fifo, Dev}
 use Rattle.pua_calls.specs.Promises.{promises_of, perms_of, lacking, reading, writing, rpath, wpath, error, cpath, fattr}
 use Rattle.pua_calls.specs.Calls.{call_count, calls, execpromises_by, standard_table, openbsd_table}
 use Rattle.pua_calls.specs.declared.rules.Rules.TheVariants.{Standard, Openbsd}
@@ -13,9 +15,9 @@ use Rattle.pua_policy.specs.History.{History, new_history, state_of, held_set, h
 use Rattle.pua_policy.specs.History.{pledged_set, after_exec}
 use Rattle.pua_policy.specs.Misfits.{misfit}
 use Rattle.pua_policy.specs.Reasons.{Holds, HasEnded, Lacks, promising, covering}
-use Rattle.pua_policy.specs.Verdict.{cover, verdict_on, object_of, object_fault, rmdir_fault, IsDir, IsFile, IsProg, IsLink, IsMissing}
+use Rattle.pua_policy.specs.Verdict.{cover, verdict_on, object_of, object_fault, rmdir_fault, IsDir, Is, IsFile, IsSock, IsProg, IsLink, IsMissing}
 use Rattle.pua_path.specs.declared.errno.Errno.TheVariants.{EACCES, EPERM, EINVAL, ENOENT, EBUSY, EEXIST, ENOTDIR, EISDIR, ENOTEMPTY}
-use Rattle.pua_path.specs.declared.errno.Errno.TheVariants.{ENOTSOCK, EADDRINUSE}
+use Rattle.pua_path.specs.declared.errno.Errno.TheVariants.{ENOTSOCK, EOPNOTSUPP, EADDRINUSE}
 use Rattle.pua_path.specs.declared.found.Way.TheVariants as way
 use Rattle.pua_path.specs.declared.found.Found.TheVariants as found
 use Rattle.pua_calls.specs.declared.call.Call.TheVariants.{Stat, Lstat, Readlink, Mkdir, Rmdir, Unlink, Symlink, Exec, Chmod, Bind, Mknod, Chown}
@@ -120,6 +122,18 @@ pub record LastCheckRows : Type 0 where
   pub file : map (λ call. object_fault Standard example_tree call IsFile) calls
       ≡ None ∷ None ∷ Some EINVAL ∷ None ∷ None ∷ None ∷ None ∷ Some EEXIST ∷ Some ENOTDIR ∷ None ∷ Some EEXIST ∷ None ∷ Some ENOTDIR
       ∷ Some EACCES ∷ None ∷ Some EADDRINUSE ∷ Some EEXIST ∷ None ∷ None ∷ None ∷ None ∷ []
+  pub socket : map (λ call. object_fault Standard example_tree call IsSock) calls
+      ≡ None ∷ None ∷ Some EINVAL ∷ Some EOPNOTSUPP ∷ Some EOPNOTSUPP ∷ Some EOPNOTSUPP ∷ Some EOPNOTSUPP ∷ Some EEXIST ∷ Some ENOTDIR ∷ None
+      ∷ Some EEXIST ∷ None ∷ Some ENOTDIR ∷ Some EACCES ∷ None ∷ Some EADDRINUSE ∷ Some EEXIST ∷ None ∷ Some EOPNOTSUPP ∷ Some EOPNOTSUPP
+      ∷ Some EOPNOTSUPP ∷ []
+  -- of another known type; it is one row, which each of the three has
+  pub no_socket : map (λ call. object_fault Standard example_tree call (Is (Known Plain))) calls
+      ≡ None ∷ None ∷ Some EINVAL ∷ None ∷ None ∷ None ∷ None ∷ Some EEXIST ∷ Some ENOTDIR ∷ None ∷ Some EEXIST ∷ None ∷ Some ENOTDIR
+      ∷ Some EACCES ∷ Some ENOTSOCK ∷ Some EADDRINUSE ∷ Some EEXIST ∷ None ∷ None ∷ None ∷ None ∷ []
+  pub fifo : map (λ call. object_fault Standard example_tree call (Is (Known Fifo))) calls
+      ≡ map (λ call. object_fault Standard example_tree call (Is (Known Plain))) calls
+  pub device : map (λ call. object_fault Standard example_tree call (Is (Known Dev))) calls
+      ≡ map (λ call. object_fault Standard example_tree call (Is (Known Plain))) calls
   pub program : map (λ call. object_fault Standard example_tree call IsProg) calls
       ≡ None ∷ None ∷ Some EINVAL ∷ None ∷ None ∷ None ∷ None ∷ Some EEXIST ∷ Some ENOTDIR ∷ None ∷ Some EEXIST ∷ None ∷ Some ENOTDIR ∷ None
       ∷ Some ENOTSOCK ∷ Some EADDRINUSE ∷ Some EEXIST ∷ None ∷ None ∷ None ∷ None ∷ []
@@ -141,6 +155,10 @@ pub last_check_rows : LastCheckRows
 last_check_rows = record {
   directory = refl;
   file = refl;
+  socket = refl;
+  no_socket = refl;
+  fifo = refl;
+  device = refl;
   program = refl;
   link = refl;
   missing_name = refl;

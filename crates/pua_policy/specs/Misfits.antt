@@ -3,7 +3,8 @@ use Rattle.std.specs.Prelude.{ℕ, Bool, false, if◌then◌else◌, List, Optio
 use Rattle.pua_tree.specs.Kinds.{about_kind}
 use Rattle.pua_tree.specs.Tree.{Tree, is_empty}
 use Rattle.pua_tree.specs.declared.node.Kind.{Kind}
-use Rattle.pua_tree.specs.declared.node.Kind.TheVariants.{Dir, File, Prog, Link}
+use Rattle.pua_tree.specs.declared.node.Kind.TheVariants.{Dir, File, Prog, Link, Known}
+use Rattle.pua_tree.specs.declared.node.FileType.TheVariants.{Sock}
 use Rattle.pua_path.specs.declared.found.Way.{Way}
 use Rattle.pua_path.specs.declared.found.Way.TheVariants as way
 use Rattle.pua_calls.specs.Calls.{about}
@@ -25,6 +26,9 @@ pub data Object : Type 0 where
 -- what is no directory, by its kind
 abbrev pub IsFile : Object
 IsFile = Is File
+
+abbrev pub IsSock : Object
+IsSock = Is (Known Sock)
 
 abbrev pub IsProg : Object
 IsProg = Is Prog
@@ -56,6 +60,6 @@ misfit_by whose t fits (IsDir dir way) = if fits.by_way then rmdir_misfit whose 
 misfit_by whose t fits (Is kind) = fits_on fits kind
 misfit_by whose t fits IsMissing = fits.missing
 
--- what is wrong with an object for a call; a link that is followed is never found, and a socket is a file
+-- what is wrong with an object for a call; a link that is followed is never found, and a file of which no more is known may be a socket
 abbrev pub misfit : Rules → Tree → Call → Object → Option Misfit
 misfit whose t call object = misfit_by whose t (about call).fits object

@@ -8,7 +8,7 @@ use Rattle.pua_path.specs.declared.found.Found.{Found}
 use Rattle.pua_calls.specs.Promises.{holds, lacking}
 use Rattle.pua_policy.specs.States.{ProcessState, Unveiled, state_after, held_set, veil_at, has_veil, may_any}
 use Rattle.pua_policy.specs.Laws.{places_over}
-use Rattle.pua_policy.specs.Misfits.{Object, IsDir, Is, IsFile, IsProg, IsLink, IsMissing, misfit}
+use Rattle.pua_policy.specs.Misfits.{Object, IsDir, Is, IsFile, IsSock, IsProg, IsLink, IsMissing, misfit}
 use Rattle.pua_tree.specs.declared.node.Kind.TheVariants.{Dir}
 use Rattle.pua_policy.specs.Verdict.{cover, cover_fault}
 use Rattle.pua_policy.specs.Reasons.{Promising, Holds, HasEnded, Lacks, promising, may_of, covering, cover_of}
@@ -19,7 +19,7 @@ use Rattle.pua_policy.specs.declared.reason.Covering.{Covering}
 use Rattle.pua_policy.specs.declared.reason.Covering.TheVariants.{InView, NoneOver, By}
 use Rattle.pua_calls.specs.declared.fits.Misfit.{Misfit}
 use Rattle.pua_calls.specs.declared.fits.Misfit.TheVariants.{Missing, Exists, IsDirectory, IsNoFile, IsNoDirectory, IsNoLink}
-use Rattle.pua_calls.specs.declared.fits.Misfit.TheVariants.{IsNoProgram, IsNotEmpty, ByDot, ByDotDot, ByNothing, IsNoSocket, InUse}
+use Rattle.pua_calls.specs.declared.fits.Misfit.TheVariants.{IsNoProgram, IsNotEmpty, ByDot, ByDotDot, ByNothing, IsSocket, IsNoSocket, InUse}
 
 -- what is told of promises is so: the set is one of those asked for, and held; or of each set some is not held, and with just that it were
 pub record LacksSome (p : ProcessState) (set some : ℕ) : Type 0 where
@@ -98,7 +98,8 @@ MisfitHolds t object IsNotEmpty = (dir : ℕ) × (by : Way) × (object ≡ IsDir
 MisfitHolds t object ByDot = (dir : ℕ) × (object ≡ IsDir dir way.Dot)
 MisfitHolds t object ByDotDot = (dir : ℕ) × (object ≡ IsDir dir way.DotDot)
 MisfitHolds t object ByNothing = (dir : ℕ) × (object ≡ IsDir dir way.Top)
-MisfitHolds t object IsNoSocket = IsNoMissing object × (object ≢ IsFile)
+MisfitHolds t object IsSocket = object ≡ IsSock
+MisfitHolds t object IsNoSocket = IsNoMissing object × (object ≢ IsFile) × (object ≢ IsSock)
 MisfitHolds t object InUse = IsNoMissing object
 
 abbrev pub MisfitsHold : Type 0

@@ -3,7 +3,7 @@ use Rattle.std.specs.Prelude.{ℕ, Bool, true, false, if◌then◌else◌, List,
 use Rattle.pua_tree.specs.Tree.{Tree, kind_at, above, climb}
 use Rattle.pua_path.specs.Resolution.{resolution_of_text}
 pub use Rattle.pua_path.specs.Fits.{found_fits, FoundFits, FoundsFit, is_link_kind, is_link}
-pub use Rattle.pua_policy.specs.Misfits.{Object, IsDir, Is, IsFile, IsProg, IsLink, IsMissing, object_word}
+pub use Rattle.pua_policy.specs.Misfits.{Object, IsDir, Is, IsFile, IsSock, IsProg, IsLink, IsMissing, object_word}
 use Rattle.pua_policy.specs.Misfits.{rmdir_misfit, misfit, misfit_errno}
 use Rattle.pua_calls.specs.Promises.{holds}
 use Rattle.pua_calls.specs.Calls.{CallTable, rule_of, last_of, ending_of}

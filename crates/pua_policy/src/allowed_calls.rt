@@ -16,7 +16,7 @@ use crate::judge::allowed;
 use crate::object::Object;
 use crate::process::Process;
 use pua_calls::{Call, CallTable, Calls, Perms};
-use pua_tree::Kind;
+use pua_tree::{FileType, Kind};
 
 /// How many objects there are: the kinds of nodes, an empty directory, and a name where nothing
 /// stands.
@@ -45,6 +45,30 @@ impl AllowedCalls {
                 allowed(process, table, Cover::All, Object::Node(Kind::File)),
                 allowed(process, table, Cover::All, Object::Node(Kind::Prog)),
                 allowed(process, table, Cover::All, Object::Node(Kind::Link)),
+                allowed(
+                    process,
+                    table,
+                    Cover::All,
+                    Object::Node(Kind::Known(FileType::Plain)),
+                ),
+                allowed(
+                    process,
+                    table,
+                    Cover::All,
+                    Object::Node(Kind::Known(FileType::Sock)),
+                ),
+                allowed(
+                    process,
+                    table,
+                    Cover::All,
+                    Object::Node(Kind::Known(FileType::Fifo)),
+                ),
+                allowed(
+                    process,
+                    table,
+                    Cover::All,
+                    Object::Node(Kind::Known(FileType::Dev)),
+                ),
                 allowed(process, table, Cover::All, Object::Removable),
                 allowed(process, table, Cover::All, Object::Missing),
             ],

@@ -8,7 +8,7 @@ ghost use Rattle.pua_calls.specs.Calls.{rule_of};
 ghost use Rattle.pua_calls.specs.CallSets.{has};
 ghost use Rattle.pua_calls.specs.declared.rules.Rules.TheVariants.{Standard};
 ghost use Rattle.pua_policy.specs.States.{may_any};
-ghost use Rattle.pua_policy.specs.Objects.{object_seen};
+ghost use Rattle.pua_policy.specs.Objects.{misfit_seen, object_seen};
 ghost use Rattle.pua_policy.specs.Verdict.{FoundFits, FoundsFit, verdict, verdict_of};
 ghost use Rattle.pua_policy.specs.Verdict.{covered_verdict, is_allowed, refusal_of, found_fault};
 ghost use Rattle.pua_policy.specs.Verdict.{cover_fault, object_fault, object_of, object_of_kind};
@@ -284,14 +284,19 @@ fn suits_by_standard(call: Call, object: Object) -> bool
     ensures { (t : Tree) (judged : Judged) → object ≡ object_seen t judged →
         result ≡ is_none (object_fault Standard t call judged) }
 {
-    let fits = call.fits();
-    let misfit = match object {
+    misfit_seen(&call.fits(), object).is_none()
+}
+
+/// What is wrong with an object by what a call is on, the veils aside.
+fn misfit_seen(fits: &Fits, object: Object) -> Option<Misfit>
+    ensures { result ≡ misfit_seen fits.now object }
+{
+    match object {
         Object::Missing => fits.missing,
         Object::Node(kind) => fits.on(kind),
         Object::Removable if fits.by_way => None,
         Object::Removable => fits.directory,
-    };
-    misfit.is_none()
+    }
 }
 
 /// What is wrong with removing a directory.

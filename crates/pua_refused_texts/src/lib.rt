@@ -7,6 +7,7 @@
 #![tactic(auto)]
 
 mod audit;
+mod ever;
 mod io;
 mod objects;
 mod roots;

@@ -2,20 +2,21 @@
 use Rattle.pua_script.proofs.Common.{◌≡◌, ℕ, List, true, refl, ap, ◌∙◌, false≢true, Option, Some, None, Found, Call, CallTable}
 use Rattle.pua_script.proofs.Common.{Change, NoChange, Spot, spot_named, node_named}
 use Rattle.pua_calls.specs.declared.call.Call.TheVariants as call
+use Rattle.pua_calls.specs.declared.rules.Rules.{Rules}
 use Rattle.pua_script.specs.Decide.{change_by}
 use Rattle.pua_script.specs.Judged.{edit_by, is_edit}
 
 -- the change is one of the spot and of what stands there
 pub edits_by : (table : CallTable) (c : Call) (object : Found) → is_edit c ≡ true →
-    edit_by c (spot_named object) (node_named object) ≡ change_by table c object
+    edit_by table.whose c (spot_named object) (node_named object) ≡ change_by table c object
 edits_by table call.Chdir object is = absurd (false≢true is)
 edits_by table call.Exec object is = absurd (false≢true is)
 edits_by table _ object is = refl
 
 -- and none where no spot was named
-pub nowhere : (c : Call) (there : Option ℕ) → edit_by c None there ≡ NoChange
-nowhere call.Create there = refl
-nowhere _ there = refl
+pub nowhere : (whose : Rules) (c : Call) (there : Option ℕ) → edit_by whose c None there ≡ NoChange
+nowhere whose call.Create there = refl
+nowhere whose _ there = refl
 
 -- what changes at the spot that was named, its name copied
 module _ (change : Option Spot → Option ℕ → Change) (object : Found) where

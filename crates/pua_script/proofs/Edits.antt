@@ -6,6 +6,7 @@ use Rattle.pua_script.proofs.Common.{object_of, Call, NameFits}
 use Rattle.std.specs.Prelude.{◌&&◌, not}
 use Rattle.std.specs.Option.{option_eq}
 use Rattle.pua_tree.specs.Tree.{has_no_row, kind_at}
+use Rattle.pua_tree.specs.declared.node.FileType.TheVariants.{Plain, Sock, Fifo, Dev}
 use Rattle.pua_tree.specs.declared.node.Kind.TheVariants as kinds
 use Rattle.pua_tree.specs.declared.fault.TreeFault.TheVariants as faults
 use Rattle.pua_policy.specs.Misfits.{misfit_errno}
@@ -55,6 +56,10 @@ module _ (whose : Rules) (t : Tree) where
   no_rmdir : (o : Option Kind) → object_fault whose t calls.Rmdir (object_of_kind o) ≡ None → ⊥
   no_rmdir None is = some_none _ is
   no_rmdir (Some kinds.Dir) is = some_none _ is
+  no_rmdir (Some (kinds.Known Plain)) is = some_none _ is
+  no_rmdir (Some (kinds.Known Sock)) is = some_none _ is
+  no_rmdir (Some (kinds.Known Fifo)) is = some_none _ is
+  no_rmdir (Some (kinds.Known Dev)) is = some_none _ is
   no_rmdir (Some _) is = some_none _ is
 
   pub rmdir_removes : (object : Found) → IsFor whose t calls.Rmdir object → IsRemovable t object

@@ -25,7 +25,7 @@ use Rattle.pua_policy.specs.Verdict.{Object}
 use Rattle.pua_calls.specs.declared.fits.Misfit.{Misfit}
 use Rattle.pua_calls.specs.declared.fits.Misfit.TheVariants.{Missing, Exists, IsDirectory, IsNoFile, IsNoDirectory, IsNoLink}
 use Rattle.pua_calls.specs.declared.rules.Rules.{Rules}
-use Rattle.pua_calls.specs.declared.fits.Misfit.TheVariants.{IsNoProgram, IsNotEmpty, ByDot, ByDotDot, ByNothing, IsNoSocket, InUse}
+use Rattle.pua_calls.specs.declared.fits.Misfit.TheVariants.{IsNoProgram, IsNotEmpty, ByDot, ByDotDot, ByNothing, IsSocket, IsNoSocket, InUse}
 use Rattle.pua_policy.specs.declared.answer.Cover.TheVariants as covers
 use Rattle.pua_policy.specs.declared.answer.UnveilFault.{UnveilFault}
 use Rattle.pua_policy.specs.declared.answer.UnveilFault.TheVariants as unveil_faults
@@ -196,6 +196,7 @@ misfit_apart (Some IsNotEmpty) = λ e. cc
 misfit_apart (Some ByDot) = λ e. cc
 misfit_apart (Some ByDotDot) = λ e. cc
 misfit_apart (Some ByNothing) = λ e. cc
+misfit_apart (Some IsSocket) = λ e. cc
 misfit_apart (Some IsNoSocket) = λ e. cc
 misfit_apart (Some InUse) = λ e. cc
 

@@ -10,7 +10,10 @@ use Rattle.pua_calls.specs.Calls.{effect_of}
 use Rattle.pua_calls.specs.Effects.{makes as makes_name, removes}
 use Rattle.pua_calls.specs.TmpTable.{tmp_table}
 use Rattle.pua_script.specs.Decide.{file_opened, plain_node}
-use Rattle.pua_script.specs.Decide.{link_node, placing, cutting, tying, change_by, adding, removing, made_by, making}
+use Rattle.pua_tree.specs.declared.node.Kind.TheVariants as kind
+use Rattle.pua_calls.specs.declared.rules.Rules.{Rules}
+use Rattle.pua_calls.specs.declared.rules.Rules.TheVariants.{Standard, Openbsd}
+use Rattle.pua_script.specs.Decide.{link_node, placing, cutting, tying, change_by, adding, removing, made_as, made_by, making}
 use Rattle.pua_script.specs.Guards.{IsOpened, OnOne, OnTwo}
 use Rattle.pua_script.specs.declared.request.Action.TheVariants.{Take}
 use Rattle.pua_policy.specs.declared.open_file.OpenFile.{OpenFile}
@@ -140,18 +143,28 @@ module _ (table : CallTable) (t : Tree) (h : ProcessState) where
   no_target : (target : List ℕ) → None ≡ Some target → is_bytes target ≡ true
   no_target target e = cc
 
+  -- what is made has no target, as whichever kind it is made
+  bare_as : (whose : Rules) (made : Kind) → target_fits made None ≡ true → target_fits (made_as whose made) None ≡ true
+  bare_as Standard kind.File fits = fits
+  bare_as Openbsd kind.File fits = fits
+  bare_as whose kind.Dir fits = fits
+  bare_as whose kind.Prog fits = fits
+  bare_as whose kind.Link fits = fits
+  bare_as whose (kind.Known type) fits = fits
+
   -- a call that makes what it may is one of those that make a name
   abbrev is_maker : Call → Option Kind → Bool
   is_maker c None = true
   is_maker c (Some made) = makes c && (adds_node c && target_fits made None)
 
   on_making : (c : Call) (path : List ℕ) (x : Found) → OnOne (tmp_table table) t h c path x → (made : Option Kind) → is_maker c made ≡ true →
-      Grounds table t h (OnPath c path) (making made (spot_named x) (node_named x))
+      Grounds table t h (OnPath c path) (making table.whose made (spot_named x) (node_named x))
   on_making c path x on None is = tt
   on_making c path x on (Some made) is =
       let parts = and_parts (makes c) (adds_node c && target_fits made None) is in
       let more = and_parts (adds_node c) (target_fits made None) parts.1 in
-      on_adding (OnPath c path) c path x (plain_node made) on parts.0 more.1 (λ small. (small, no_target))
+      on_adding (OnPath c path) c path x (plain_node (made_as table.whose made)) on parts.0 (bare_as table.whose made more.1)
+      (λ small. (small, no_target))
       (λ full. and_from (adds_node c) (not (has_room t)) more.0 full)
 
   pub on_call : (c : Call) (path : List ℕ) (x : Found) → OnOne (tmp_table table) t h c path x →

@@ -6,9 +6,9 @@ use Rattle.std.specs.Prelude.{filter_map, option_and_then}
 use Rattle.std.specs.List.{cons_option}
 use Rattle.pua_tree.specs.Tree.{target_at}
 use Rattle.pua_tree.specs.declared.form.Form.{Form}
-use Rattle.pua_tree.specs.Listing.{Entry, made_entry, knows_hard}
-use Rattle.pua_tree.specs.Grammar.{entry_fits, entries_fit, made_fits, target_stands}
-use Rattle.pua_tree.specs.declared.node.Kind.TheVariants.{Dir, File, Prog, Link as LinkKind}
+use Rattle.pua_tree.specs.Listing.{Entry, made_entry}
+use Rattle.pua_tree.specs.Grammar.{entry_fits, entries_fit, kind_known, made_fits, target_stands}
+use Rattle.pua_tree.specs.declared.node.Kind.TheVariants.{Dir, File, Known, Prog, Link as LinkKind}
 use Rattle.pua_tree.proofs.ForCallers.{all_found, listings_are_read, listings_list_trees, fits_parts}
 use Rattle.pua_script.specs.ScriptGrammar.{SpellsLine, blank, request, SpellRequests}
 use Rattle.pua_calls.specs.declared.rules.Rules.{Rules}
@@ -29,22 +29,23 @@ stands_in_bytes LinkKind (Some target) h = (and_parts (is_target target) (is_byt
 stands_in_bytes Dir (Some target) h = cc
 stands_in_bytes File (Some target) h = cc
 stands_in_bytes Prog (Some target) h = cc
+stands_in_bytes (Known type) (Some target) h = cc
 stands_in_bytes kind None h = refl
 
-made_leads : (hard : Bool) (earlier : List Entry) (e : Entry) (made : Option Node) (rest : List (ℕ × Node)) →
-    made_fits hard earlier e made ≡ true
+made_leads : (form : Form) (earlier : List Entry) (e : Entry) (made : Option Node) (rest : List (ℕ × Node)) →
+    made_fits form earlier e made ≡ true
     → list_all node_leads rest ≡ true → list_all node_leads (cons_option (option_map (λ node. (e.number, node)) made) rest) ≡ true
-made_leads hard earlier e None rest fits all = all
-made_leads hard earlier e (Some node) rest fits all =
+made_leads form earlier e None rest fits all = all
+made_leads form earlier e (Some node) rest fits all =
     and_from (leads_to_bytes node.target) _
-    (stands_in_bytes node.kind node.target (and_parts _ (target_stands node.kind node.target) fits).1) all
+    (stands_in_bytes node.kind node.target (and_parts (kind_known form node.kind) _ (and_parts _ _ fits).1).1) all
 
 entries_lead : (form : Form) (earlier es : List Entry) → entries_fit form earlier es ≡ true →
     list_all node_leads (filter_map made_entry es) ≡ true
 entries_lead form earlier [] fit = refl
 entries_lead form earlier (e ∷ es) fit =
     let parts = and_parts (entry_fits form earlier e) (entries_fit form (earlier ++ e ∷ []) es) fit in
-    made_leads (knows_hard form) earlier e e.made (filter_map made_entry es) (fits_parts form earlier e parts.0).made
+    made_leads form earlier e e.made (filter_map made_entry es) (fits_parts form earlier e parts.0).made
     (entries_lead form (earlier ++ e ∷ []) es parts.1)
 
 targets_lead : (t : Tree) → list_all node_leads t.nodes ≡ true → (x : ℕ) (target : List ℕ) → target_at t x ≡ Some target →

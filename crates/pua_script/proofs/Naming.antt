@@ -146,6 +146,7 @@ module _ (t : Tree) (is_tree : IsByteTree t) where
       kinds y n here kind.Dir e is = cc
       kinds y n here kind.File e is = cc
       kinds y n here kind.Prog e is = cc
+      kinds y n here (kind.Known type) e is = cc
       kinds y n here kind.Link e is =
           let same : unwrap_or n.target [] ≡ target = cc in
           subst IsLead same (lead_of y n.target (ap (λ k. target_fits k n.target) (sym e) ∙ ((sound_from t is_tree.tree).node y n here).1)

@@ -9,7 +9,7 @@ use Rattle.pua_path.specs.Paths.{path_fault, text_fault, ends_in_slash}
 use Rattle.pua_path.specs.Resolution.{resolution_of_text}
 use Rattle.pua_path.specs.Fits.{spot_named, node_named}
 use Rattle.pua_calls.specs.Promises.{id, proc, recvfd, unveil}
-use Rattle.pua_calls.specs.Calls.{CallTable, NameRule, PairRule, rule_of, last_of, ending_of, effect_of, execpromises_by}
+use Rattle.pua_calls.specs.Calls.{CallTable, NameRule, PairRule, rule_of, last_of, ending_of, effect_of, execpromises_by, file_by_rules}
 use Rattle.pua_policy.specs.States.{ProcessState, Event, Pledged, Unveiled, Locked, Moved, ToDir, ToRoot, Ended, Filed, start, may_any}
 use Rattle.pua_policy.specs.States.{file_at, is_directory, pledge_fault, unveil_fault}
 use Rattle.pua_policy.specs.Verdict.{place_of, cover, cover_fault, or_fault, object_of, refusal_of}
@@ -164,22 +164,28 @@ rooting _ = NoChange
 abbrev pub made_in : Effect → Option Kind
 made_in (effect.Makes kind.File) = Some kind.File
 made_in (effect.Makes kind.Dir) = Some kind.Dir
+made_in (effect.Makes (kind.Known type)) = Some (kind.Known type)
 made_in _ = None
 
 abbrev pub made_by : Call → Option Kind
 made_by call = made_in (effect_of call)
 
+-- as which kind it is made: of a file rules may know its type
+abbrev pub made_as : Rules → Kind → Kind
+made_as whose kind.File = file_by_rules whose
+made_as whose made = made
+
 -- such a node at a spot, if the call makes one
-abbrev pub making : Option Kind → Option Spot → Option ℕ → Change
-making (Some made) spot there = placing (plain_node made) spot there
-making None spot there = NoChange
+abbrev pub making : Rules → Option Kind → Option Spot → Option ℕ → Change
+making whose (Some made) spot there = placing (plain_node (made_as whose made)) spot there
+making whose None spot there = NoChange
 
 -- what an allowed call changes, by what was found
 abbrev pub change_in : CallTable → Effect → Found → Change
 change_in table effect.Removes object = removing object
 change_in table effect.Enters object = going object
 change_in table effect.Starts object = BeginProgram (execpromises_by table.whose)
-change_in table does object = making (made_in does) (spot_named object) (node_named object)
+change_in table does object = making table.whose (made_in does) (spot_named object) (node_named object)
 
 abbrev pub change_by : CallTable → Call → Found → Change
 change_by table call object = change_in table (effect_of call) object

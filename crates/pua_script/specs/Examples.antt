@@ -16,7 +16,7 @@ use Rattle.pua_script.specs.Replay.{answers_to, kept_at, new_world, told, world_
 use Rattle.pua_script.specs.Family.{is_exec, none_done}
 use Rattle.pua_tree.specs.declared.fault.ListingFault.{ListingFault}
 use Rattle.pua_path.specs.declared.errno.Errno.TheVariants.{EPERM, ENOENT, EBADF, EACCES, EAGAIN, EBUSY, EEXIST, ENOTDIR, EISDIR, EINVAL}
-use Rattle.pua_path.specs.declared.errno.Errno.TheVariants.{ELOOP, ENAMETOOLONG, ENOTEMPTY, ENOSYS, ENOTSOCK, EADDRINUSE}
+use Rattle.pua_path.specs.declared.errno.Errno.TheVariants.{ELOOP, ENAMETOOLONG, ENOTEMPTY, ENOSYS, ENOTSOCK, EOPNOTSUPP, EADDRINUSE}
 use Rattle.pua_calls.specs.declared.call.Call.TheVariants as call
 use Rattle.pua_script.specs.declared.request.Action.TheVariants.{OnPath, Exit}
 use Rattle.pua_script.specs.declared.answer.Answer.{Answer}
@@ -215,7 +215,7 @@ pair_rows = record {
   standard_long = refl;
 }
 
--- a socket, which a listing has as a file, a link to it, and a program
+-- a file that may be a socket, a link to it, and a program
 abbrev pub socket_tree : List (List ℕ)
 socket_tree = root_alone ++ codes "1 dir 0 run" ∷ codes "2 link 1 cur s" ∷ codes "3 file 1 s" ∷ codes "4 prog 1 p" ∷ []
 
@@ -229,6 +229,11 @@ pub record SocketRows : Type 0 where
   pub bound : answers_by_openbsd socket_tree (codes "1 pledge unix -" ∷ codes "1 bind /run/new" ∷ codes "1 connect /run/new"
       ∷ codes "1 bind /run/new" ∷ codes "1 bind /run/cur" ∷ codes "1 bind /run/x/y" ∷ codes "1 unlink /run/new" ∷ []) ≡ Okay ∷ Okay ∷ Okay
       ∷ Failed EADDRINUSE ∷ Failed EADDRINUSE ∷ Failed ENOENT ∷ Killed ∷ []
+  -- what is bound is a socket, what mknod makes is none, and neither is a file that is created
+  pub of_types : answers_by_openbsd socket_tree (codes "1 bind /b" ∷ codes "1 connect /b" ∷ codes "1 open-r /b" ∷ codes "1 create /b"
+      ∷ codes "1 chmod /b" ∷ codes "1 mknod /f" ∷ codes "1 open-rw /f" ∷ codes "1 connect /f" ∷ codes "1 create /c" ∷ codes "1 open-w /c"
+      ∷ codes "1 connect /c" ∷ codes "1 exec /c" ∷ []) ≡ Okay ∷ Okay ∷ Failed EOPNOTSUPP ∷ Failed EOPNOTSUPP ∷ Okay ∷ Okay ∷ Okay
+      ∷ Failed ENOTSOCK ∷ Okay ∷ Okay ∷ Failed ENOTSOCK ∷ Failed EACCES ∷ []
   -- connect needs `w`, bind `c`
   pub by_letters : answers_by_openbsd socket_tree (codes "1 unveil /run rw" ∷ codes "1 unveil /run/c rc" ∷ codes "1 connect /run/s"
       ∷ codes "1 bind /run/x" ∷ codes "1 bind /run/c" ∷ codes "1 connect /run/c" ∷ codes "1 connect /x" ∷ []) ≡ Okay ∷ Okay ∷ Okay
@@ -257,6 +262,7 @@ pub record SocketRows : Type 0 where
 pub socket_rows : SocketRows
 socket_rows = record {
   connected = refl;
+  of_types = refl;
   bound = refl;
   by_letters = refl;
   made = refl;

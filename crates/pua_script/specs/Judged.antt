@@ -5,7 +5,7 @@ use Rattle.pua_tree.specs.declared.node.Kind.TheVariants as kind
 use Rattle.pua_path.specs.Fits.{FoundFits, StandsAsNamed}
 use Rattle.pua_path.specs.declared.text.Ending.{Ending}
 use Rattle.pua_path.specs.declared.found.Found.{Found}
-use Rattle.pua_calls.specs.Calls.{PairRule, effect_of}
+use Rattle.pua_calls.specs.Calls.{PairRule, effect_of, file_by_rules}
 use Rattle.pua_calls.specs.Effects.{edits}
 use Rattle.pua_calls.specs.declared.effect.Effect.{Effect}
 use Rattle.pua_calls.specs.declared.effect.Effect.TheVariants as effect
@@ -36,7 +36,8 @@ pub record NameFits (t : Tree) (object : Found) : Type 0 where
 
 -- a node that is to be added
 abbrev pub node_made : NewNode → Node
-node_made new_nodes.File = plain_node kind.File
+node_made (new_nodes.File whose) = plain_node (file_by_rules whose)
+node_made (new_nodes.Typed type) = plain_node (kind.Known type)
 node_made new_nodes.Directory = plain_node kind.Dir
 node_made (new_nodes.Link target) = link_node target.now.bytes
 
@@ -62,12 +63,12 @@ abbrev pub is_edit : Call → Bool
 is_edit call = edits (effect_of call)
 
 -- what such a call changes, by the spot that its path named and by what stands there
-abbrev pub edit_in : Effect → Option Spot → Option ℕ → Change
-edit_in effect.Removes spot there = cutting spot there
-edit_in does spot there = making (made_in does) spot there
+abbrev pub edit_in : Rules → Effect → Option Spot → Option ℕ → Change
+edit_in whose effect.Removes spot there = cutting spot there
+edit_in whose does spot there = making whose (made_in does) spot there
 
-abbrev pub edit_by : Call → Option Spot → Option ℕ → Change
-edit_by call spot there = edit_in (effect_of call) spot there
+abbrev pub edit_by : Rules → Call → Option Spot → Option ℕ → Change
+edit_by whose call spot there = edit_in whose (effect_of call) spot there
 
 -- what a rename and a link change, as a decision
 abbrev pub shifted : Result (Option Shift) Refusal → Decision

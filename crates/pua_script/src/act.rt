@@ -228,7 +228,11 @@ fn edit<T: FileTree>(
     };
     let dir = spot.dir;
     let name = spot.name.name();
-    answer(tree, process, &Ok(editing(call, dir, &name, there)))
+    answer(
+        tree,
+        process,
+        &Ok(editing(table.rules(), call, dir, &name, there)),
+    )
 }
 
 /// Makes a link with this target.

@@ -15,12 +15,15 @@ use crate::fault::WorldFault;
 use pua_calls::{ExecPromises, Perms, Promises, Rules};
 use pua_path::{Errno, Found, PathText};
 use pua_policy::{OpenFile, Place, Process, UnveilFault};
-use pua_tree::{FileTree, Kind, Name, NodeId, OutOfMemory, TreeFault};
+use pua_tree::{FileTree, FileType, Kind, Name, NodeId, OutOfMemory, TreeFault};
 
 /// A node that is to be added. A link's target was read as a path, as a link's must be.
 #[derive(Clone, Copy)]
 pub(crate) enum NewNode<'a> {
-    File,
+    /// A file, of which these rules may know the type.
+    File(Rules),
+    /// A file of this type.
+    Typed(FileType),
     Directory,
     Link(&'a PathText<'a>),
 }
@@ -33,7 +36,8 @@ impl NewNode<'_> {
         ensures fits { IsTrue (target_fits result.0 (option_copied result.1)) }
     {
         match *self {
-            NewNode::File => (Kind::File, None),
+            NewNode::File(rules) => (rules.file(), None),
+            NewNode::Typed(file_type) => (Kind::Known(file_type), None),
             NewNode::Directory => (Kind::Dir, None),
             NewNode::Link(target) => (Kind::Link, Some(target.bytes())),
         }

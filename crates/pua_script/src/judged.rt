@@ -22,7 +22,7 @@ ghost use Rattle.pua_script.specs.Judged.{node_made, on_judged};
 use crate::front::errno_by;
 use crate::granted::{Granted, NewNode};
 use pua_calls::needs::ending;
-use pua_calls::{Call, CallTable, Effect, Perms, Promises};
+use pua_calls::{Call, CallTable, Effect, Perms, Promises, Rules};
 use pua_path::{
     Counted, Ending, Errno, Found, Last, LentFound, PathText, Probe, Start, resolve_lent,
 };
@@ -151,18 +151,23 @@ pub(crate) fn judge_past<T: FileTree>(
     }
 }
 
-/// What an allowed call changes that makes a name or takes one away, where this node has the name.
+/// What an allowed call changes by these rules that makes a name or takes one away, where this node
+/// has the name.
 pub(crate) fn editing<'a>(
+    rules: Rules,
     call: Call,
     dir: NodeId,
     name: &'a Name,
     there: Option<NodeId>,
 ) -> Granted<'a>
     ensures { (asker : Requester) →
-        decision_by asker result ≡ Ok (edit_by call (Some (dir, name.now)) there) }
+        decision_by asker result ≡ Ok (edit_by rules call (Some (dir, name.now)) there) }
 {
     match call.effect() {
-        Effect::Makes(Kind::File) => adding(NewNode::File, dir, name, there),
+        Effect::Makes(Kind::File) => adding(NewNode::File(rules), dir, name, there),
+        Effect::Makes(Kind::Known(file_type)) => {
+            adding(NewNode::Typed(file_type), dir, name, there)
+        }
         Effect::Makes(Kind::Dir) => adding(NewNode::Directory, dir, name, there),
         Effect::Removes => removing(dir, name, there),
         Effect::Makes(Kind::Prog | Kind::Link) => Granted::NoChange,

@@ -18,7 +18,7 @@ use pua_calls::Calls;
 use pua_ever::EverThing;
 use pua_io::{PutFault, Sink};
 use pua_objects::ObjectKind;
-use pua_tree::{Kind, Name};
+use pua_tree::{FileType, Kind, Name};
 
 /// What a line of a list says, beside the line before it. Without calls it is no line, and only its
 /// names are those to which the next line is put.
@@ -130,9 +130,12 @@ fn kind_bytes(kind: ObjectKind) -> &'static [u8]
 {
     match kind {
         ObjectKind::Node(Kind::Dir) => b"dir ",
-        ObjectKind::Node(Kind::File) => b"file ",
+        ObjectKind::Node(Kind::File | Kind::Known(FileType::Plain)) => b"file ",
         ObjectKind::Node(Kind::Prog) => b"prog ",
         ObjectKind::Node(Kind::Link) => b"link ",
+        ObjectKind::Node(Kind::Known(FileType::Sock)) => b"sock ",
+        ObjectKind::Node(Kind::Known(FileType::Fifo)) => b"fifo ",
+        ObjectKind::Node(Kind::Known(FileType::Dev)) => b"dev ",
         ObjectKind::Missing => b"missing ",
         ObjectKind::Other => b"other ",
     }

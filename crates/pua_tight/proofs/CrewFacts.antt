@@ -12,13 +12,13 @@ use Rattle.pua_policy.specs.declared.answer.Cover.{Cover}
 use Rattle.pua_policy.specs.declared.answer.Cover.TheVariants.{All, Nothing, Only}
 use Rattle.pua_policy.specs.declared.place.Place.{Place}
 use Rattle.pua_policy.specs.declared.place.Place.TheVariants as place
-use Rattle.pua_ever.specs.Ever.{New, NewFile, NewLink, Thing, can_link, can_move}
+use Rattle.pua_ever.specs.Ever.{New, NewFile, NewLink, NewSock, NewFifo, Thing, can_link, can_move}
 use Rattle.pua_jointly.specs.Jointly.{Seat, Old, Made, Source, Row, Maker, Fact, StandsIn, NotAbove, DirCover, NameCover, Free, WayIn, Writes}
 use Rattle.pua_jointly.specs.Jointly.{Makes, StandsAt, Can, stays_in, moved_in, born_in, not_above_root, not_above_up, not_above_made, dir_own}
 use Rattle.pua_jointly.specs.Jointly.{dir_root, dir_within, name_own, name_within, free_none, free_made, free_dir, free_other, way_in_by_c}
 use Rattle.pua_jointly.specs.Jointly.{way_in_by_name, way_in_by_turn, writes_at, makes_at, stays_at, moved_at, born_at, Shows, shows_dir}
 use Rattle.pua_jointly.specs.Jointly.{shows_emptied, shows_others, shows_row, shows_name, shows_new_dir, shows_new_others, shows_new_file}
-use Rattle.pua_jointly.specs.Jointly.{shows_new_link, own_veil, name_veil, is_standing, kind_of_source, may_take}
+use Rattle.pua_jointly.specs.Jointly.{shows_new_link, shows_new_sock, shows_new_fifo, own_veil, name_veil, is_standing, kind_of_source, may_take}
 use Rattle.pua_tight.specs.Narrower.{SetWithin, unset, within, VeilsWithin, no_veils, veils_too, StateWithin}
 use Rattle.pua_tight.specs.JointLaws.{CrewWithin, HasOuter}
 use Rattle.pua_tight.proofs.Sets.{or_more}
@@ -109,9 +109,10 @@ module _ (others : List ProcessState) where
   standing_more t old e = e
   standing_more t (made among less) e = refl
 
-  kind_alike : (t : Tree) {r s : Source} → SourceWithin others r s → kind_of_source t r ≡ kind_of_source t s
-  kind_alike t row = refl
-  kind_alike t (maker among less) = refl
+  kind_alike : (t : Tree) (table : CallTable) {r s : Source} → SourceWithin others r s →
+      kind_of_source t table r ≡ kind_of_source t table s
+  kind_alike t table row = refl
+  kind_alike t table (maker among less) = refl
 
   maker_of : {a : ProcessState} {e : Seat} → SeatWithin others (Made a) e → HasOuter others a
   maker_of (made {b = b} among less) = record { outer = b; among = among; within = less }
@@ -290,10 +291,10 @@ module _ (t : Tree) (table : CallTable) (crew others : List ProcessState) (each 
       let up = (seated h2).1 in
       let over = too h3 (wide others one) up in
       moved_at one.outer up.other name over.cover one.among (too h2 from up) over.can
-      (or_more (can_move table a k) (can_link table a (kind_of_source t r) k) (can_move table one.outer over.cover)
-      (can_link table one.outer (kind_of_source t from.other) over.cover) (moves_more table a one.outer w over.wider)
-      (λ link. ap (λ kind. can_link table one.outer kind over.cover) (sym (kind_alike others t from.source))
-      ∙ linked_more table a one.outer w (kind_of_source t r) over.wider link) h4)
+      (or_more (can_move table a k) (can_link table a (kind_of_source t table r) k) (can_move table one.outer over.cover)
+      (can_link table one.outer (kind_of_source t table from.other) over.cover) (moves_more table a one.outer w over.wider)
+      (λ link. ap (λ kind. can_link table one.outer kind over.cover) (sym (kind_alike others t table from.source))
+      ∙ linked_more table a one.outer w (kind_of_source t table r) over.wider link) h4)
       (too h5 (wide others one) at)
   too (born_at {new = new} {name = name} h1 h2 h3) = λ from at.
       from_maker others (λ r. Can t table others (StandsAt r at.other name)) from
@@ -353,4 +354,22 @@ module _ (t : Tree) (table : CallTable) (crew others : List ProcessState) (each 
         cover = over.cover;
         wider = over.wider;
         shows = shows_new_link one.outer at.other name (too lies (source_by others NewLink one) at) over.can;
+      }
+  shows_too b less (shows_new_sock m d name lies covered) =
+      let one = source_maker_of others (seated lies).0.source in
+      let at = (seated lies).1 in
+      let over = too covered (record { outer = b; within = less }) at in
+      record {
+        cover = over.cover;
+        wider = over.wider;
+        shows = shows_new_sock one.outer at.other name (too lies (source_by others NewSock one) at) over.can;
+      }
+  shows_too b less (shows_new_fifo m d name lies covered) =
+      let one = source_maker_of others (seated lies).0.source in
+      let at = (seated lies).1 in
+      let over = too covered (record { outer = b; within = less }) at in
+      record {
+        cover = over.cover;
+        wider = over.wider;
+        shows = shows_new_fifo one.outer at.other name (too lies (source_by others NewFifo one) at) over.can;
       }

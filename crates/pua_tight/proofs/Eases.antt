@@ -16,7 +16,7 @@ use Rattle.pua_policy.specs.declared.answer.May.{May}
 use Rattle.pua_policy.specs.declared.answer.May.TheVariants as may
 use Rattle.pua_policy.proofs.ForCallers.{holds_through}
 use Rattle.pua_script.specs.Confinement.{has_c}
-use Rattle.pua_ever.specs.Ever.{New, NewDir, NewOthers, NewFile, NewLink, can_link, can_move, file_makers, is_made_by, is_yes, may_link, may_rename}
+use Rattle.pua_ever.specs.Ever.{New, NewDir, NewOthers, NewFile, NewLink, NewSock, NewFifo, can_link, can_move, file_makers, is_made_by, is_yes, may_link, may_rename}
 use Rattle.pua_ever.specs.Ever.{is_turned_by, is_turned_held}
 use Rattle.pua_ever.proofs.ForCallers.{yes_is}
 use Rattle.pua_tight.specs.Narrower.{VeilsWithin, StateWithin}
@@ -78,6 +78,8 @@ made_by_more p q more NewDir e = more call.Mkdir e
 made_by_more p q more NewOthers e = more call.Mkdir e
 made_by_more p q more NewFile e = any_more p q more file_makers e
 made_by_more p q more NewLink e = more call.Symlink e
+made_by_more p q more NewSock e = more call.Bind e
+made_by_more p q more NewFifo e = more call.Mknod e
 
 module _ (table : CallTable) (h k : ProcessState) (w : Eases table h k) where
   renames_more : may_rename table h ≡ true → may_rename table k ≡ true

@@ -1,7 +1,8 @@
 -- The list for ever of a process lies within that of one that it lies within.
 use Rattle.std.proofs.Common.{◌≡◌, ℕ, List, [], ◌∷◌, ◌++◌, refl, sym, ap, ◌∙◌, Bool, true, false, ◌&&◌, map, subst, inl, inr}
 use Rattle.std.proofs.lemmas.Bool.{false≢true}
-use Rattle.std.specs.Prelude.{Option, Some, None, filter, flat_map, is_none, is_some, length, if◌then◌else◌}
+use Rattle.std.specs.List.{list_any}
+use Rattle.std.specs.Prelude.{◌||◌, Option, Some, None, filter, flat_map, is_none, is_some, length, if◌then◌else◌}
 use Rattle.pua_tree.specs.Tree.{Tree, WellFormed, Spot, empty_tree, kind_at, is_dir, look}
 use Rattle.pua_tree.specs.declared.node.Kind.{Kind}
 use Rattle.pua_path.specs.declared.found.Found.TheVariants.{Whole, Slot}
@@ -9,8 +10,7 @@ use Rattle.pua_path.specs.declared.found.Way.TheVariants.{Top}
 use Rattle.pua_calls.specs.Calls.{CallTable, rule_of, calls}
 use Rattle.pua_calls.specs.declared.call.Call.{Call}
 use Rattle.pua_policy.specs.States.{ProcessState, perms_kept, may_any}
-use Rattle.pua_tree.specs.declared.node.Kind.TheVariants.{File}
-use Rattle.pua_policy.specs.Verdict.{Object, Is, IsFile, IsProg, IsLink, IsMissing, cover, cover_fault, covered_verdict, is_allowed}
+use Rattle.pua_policy.specs.Verdict.{Object, Is, IsProg, IsLink, IsMissing, cover, cover_fault, covered_verdict, is_allowed}
 use Rattle.pua_policy.specs.Verdict.{object_fault, or_fault}
 use Rattle.pua_policy.specs.declared.answer.Cover.{Cover}
 use Rattle.pua_policy.specs.declared.place.Place.TheVariants as place
@@ -20,7 +20,7 @@ use Rattle.pua_objects.proofs.ForCallers.{Among, among_left, among_right, among_
 use Rattle.pua_objects.proofs.ForCallers.{among_flat, flat_among, contained, among_contained}
 use Rattle.pua_ever.specs.Ever.{dir_covers, file_covers, name_covers, can_move, can_link, covers_of_dir, covers_of, named_covers, ever_object}
 use Rattle.pua_ever.specs.Ever.{removable_dir, lasting_dir, is_named_way, may_edit, is_allowed_under, turning_calls}
-use Rattle.pua_ever.specs.Ever.{starts_under, is_exec_call, can_allow, is_ever_allowed, ever_calls, New, NewDir, NewOthers, NewFile, NewLink}
+use Rattle.pua_ever.specs.Ever.{starts_under, is_exec_call, can_allow, is_ever_allowed, ever_calls, New, NewDir, NewOthers, NewFile, NewLink, NewSock, NewFifo, may_start}
 use Rattle.pua_ever.specs.Ever.{new_covers, new_object, is_new_named, can_make, can_allow_new, is_new_allowed, new_calls, own_spot}
 use Rattle.pua_ever.specs.Ever.{can_be_freed, freed_at, names_to_free, subjects_of, all_new, ever_line, new_line, EverLine}
 use Rattle.pua_ever.specs.Ever.{has_ever_calls, is_turned, is_turned_held, ever}
@@ -66,10 +66,20 @@ module _ (table : CallTable) (h k : ProcessState) (w : Eases table h k) where
 
   allow_more : (a b : Bool) → (a ≡ true → b ≡ true) → (xs ys : List Cover) → CoversWithin xs ys → (o : Object) (c : Call) →
       can_allow table h a xs o c ≡ true → can_allow table k b ys o c ≡ true
-  allow_more a b held xs ys less (Is File) c e =
-      or_more _ _ _ _ (under_more xs ys less IsFile IsFile c (λ fine. fine))
-      (and_more _ _ _ _ (or_more a _ b _ held (any_more (is_allowed_under table h xs IsFile) (is_allowed_under table k ys IsFile)
-      (λ turning. under_more xs ys less IsFile IsFile turning (λ fine. fine)) turning_calls)) (starts_more xs ys less c)) e
+  allow_more a b held xs ys less (Is kind) c e = by (may_start kind) e
+    where
+      by : (starts : Bool) →
+          (if starts then (is_allowed_under table h xs (Is kind) c
+          || ((a || list_any (is_allowed_under table h xs (Is kind)) turning_calls) && starts_under table h xs c))
+          else is_allowed_under table h xs (Is kind) c) ≡ true →
+          (if starts then (is_allowed_under table k ys (Is kind) c
+          || ((b || list_any (is_allowed_under table k ys (Is kind)) turning_calls) && starts_under table k ys c))
+          else is_allowed_under table k ys (Is kind) c) ≡ true
+      by true =
+          or_more _ _ _ _ (under_more xs ys less (Is kind) (Is kind) c (λ fine. fine))
+          (and_more _ _ _ _ (or_more a _ b _ held (any_more (is_allowed_under table h xs (Is kind)) (is_allowed_under table k ys (Is kind))
+          (λ turning. under_more xs ys less (Is kind) (Is kind) turning (λ fine. fine)) turning_calls)) (starts_more xs ys less c))
+      by false = under_more xs ys less (Is kind) (Is kind) c (λ fine. fine)
   allow_more a b held xs ys less o c e = under_more xs ys less o o c (λ fine. fine) e
 
   -- a directory that can be removed is allowed what one that can't is
@@ -173,6 +183,8 @@ module _ (table : CallTable) (h k : ProcessState) (w : Eases table h k) where
     new_covers_more NewOthers = dirs_more table h k w t
     new_covers_more NewFile = files_more table h k w t
     new_covers_more NewLink = files_more table h k w t
+    new_covers_more NewSock = files_more table h k w t
+    new_covers_more NewFifo = files_more table h k w t
 
     made_more : (new : New) → can_make t table h new ≡ true → can_make t table k new ≡ true
     made_more new e =
@@ -183,11 +195,15 @@ module _ (table : CallTable) (h k : ProcessState) (w : Eases table h k) where
         (λ c. under_more _ _ less IsMissing IsMissing c (λ fine. fine)) new e
 
     new_allowed_more : (new : New) (c : Call) → can_allow_new t table h new c ≡ true → can_allow_new t table k new c ≡ true
-    new_allowed_more NewFile c e = or_more _ _ _ _ (under_more _ _ (new_covers_more NewFile) IsFile IsFile c (λ fine. fine))
-        (starts_more _ _ (new_covers_more NewFile) c) e
-    new_allowed_more NewDir c e = under_more _ _ (new_covers_more NewDir) (new_object NewDir) (new_object NewDir) c (λ fine. fine) e
+    new_allowed_more NewFile c e = or_more _ _ _ _ (under_more _ _ (new_covers_more NewFile) (new_object table NewFile) (new_object table NewFile) c
+        (λ fine. fine)) (starts_more _ _ (new_covers_more NewFile) c) e
+    new_allowed_more NewDir c e = under_more _ _ (new_covers_more NewDir) (new_object table NewDir) (new_object table NewDir) c (λ fine. fine) e
     new_allowed_more NewOthers c e = under_more _ _ (new_covers_more NewOthers) IsMissing IsMissing c (λ fine. fine) e
     new_allowed_more NewLink c e = under_more _ _ (new_covers_more NewLink) IsLink IsLink c (λ fine. fine) e
+    new_allowed_more NewSock c e =
+        under_more _ _ (new_covers_more NewSock) (new_object table NewSock) (new_object table NewSock) c (λ fine. fine) e
+    new_allowed_more NewFifo c e =
+        under_more _ _ (new_covers_more NewFifo) (new_object table NewFifo) (new_object table NewFifo) c (λ fine. fine) e
 
     new_calls_more : (new : New) (c : Call) → Among (new_calls t table h new) c → Among (new_calls t table k new) c
     new_calls_more new c a = by (may_edit table h && can_make t table h new) refl a

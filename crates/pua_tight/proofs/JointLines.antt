@@ -49,6 +49,8 @@ module _ (t : Tree) (table : CallTable) (crew others : List ProcessState) (each 
       let there = shows_too t table crew others each b less is.shows in
       record {
         cover = there.cover;
+        is = is.is;
+        starts = is.starts;
         shows = there.shows;
         allowed = allowed_more table a b (eases table a b less) there.wider IsProg call.Exec is.allowed;
       }

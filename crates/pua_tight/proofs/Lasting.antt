@@ -12,8 +12,7 @@ use Rattle.pua_calls.specs.Calls.{CallTable, rule_of, calls}
 use Rattle.pua_calls.specs.Tables.{NoCallNeedsError}
 use Rattle.pua_calls.specs.declared.call.Call.{Call}
 use Rattle.pua_policy.specs.States.{ProcessState, may_any, held_set, with_both}
-use Rattle.pua_policy.specs.Verdict.{Object, Is, IsFile, IsProg, IsLink, IsMissing, cover_fault}
-use Rattle.pua_tree.specs.declared.node.Kind.TheVariants.{File}
+use Rattle.pua_policy.specs.Verdict.{Object, Is, IsProg, IsLink, IsMissing, cover_fault}
 use Rattle.pua_policy.specs.Verdict.{covered_verdict, is_allowed, object_fault, or_fault}
 use Rattle.pua_tree.specs.Tree.{empty_tree}
 use Rattle.pua_policy.specs.declared.answer.Cover.{Cover}
@@ -23,7 +22,7 @@ use Rattle.pua_audit.specs.Reach.{Word}
 use Rattle.pua_objects.specs.Objects.{Subject, items, is_named_by}
 use Rattle.pua_objects.proofs.ForCallers.{Among, among_map, map_among, among_filter, filter_among, among_either, contained, among_contained}
 use Rattle.pua_ever.specs.Ever.{is_allowed_under, turning_calls, is_exec_call, is_turned, can_allow, covers_of, ever_object, is_ever_allowed}
-use Rattle.pua_ever.specs.Ever.{New, NewDir, NewOthers, NewFile, NewLink, is_made_by, new_covers, new_object, file_covers, name_covers, dir_covers}
+use Rattle.pua_ever.specs.Ever.{New, NewDir, NewOthers, NewFile, NewLink, NewSock, NewFifo, is_made_by, may_start, starts_under, new_covers, new_object, file_covers, name_covers, dir_covers}
 use Rattle.pua_ever.specs.Ever.{can_make, can_allow_new, is_new_named, is_new_allowed, may_edit, subjects_of, all_new, ever_line}
 use Rattle.pua_ever.specs.Ever.{new_line, Thing, Stands, Comes, EverLine, has_ever_calls, ever}
 use Rattle.pua_ever.specs.Through.{is_promised_by, is_promised_by_one, can_come, let_through, only_through, ever_through, has_exec, bound_of}
@@ -128,16 +127,25 @@ module _ (table : CallTable) (t : Tree) (well : WellFormed t) where
         promised xs IsProg c (and_parts (is_exec_call c) _ (and_parts turned _ e).1).1
 
     promised_on : (held : Bool) (xs : List Cover) (o : Object) (c : Call) → can_allow table k held xs o c ≡ true → passes c ≡ true
-    promised_on held xs (Is File) c e = one_way (is_allowed_under table k xs IsFile c) _ c (promised xs IsFile c)
-        (started xs (held || list_any (is_allowed_under table k xs IsFile) turning_calls) c) e
+    promised_on held xs (Is kind) c e = by (may_start kind) e
+      where
+        by : (starts : Bool) →
+            (if starts then (is_allowed_under table k xs (Is kind) c
+            || ((held || list_any (is_allowed_under table k xs (Is kind)) turning_calls) && starts_under table k xs c))
+            else is_allowed_under table k xs (Is kind) c) ≡ true → passes c ≡ true
+        by true = one_way (is_allowed_under table k xs (Is kind) c) _ c (promised xs (Is kind) c)
+            (started xs (held || list_any (is_allowed_under table k xs (Is kind)) turning_calls) c)
+        by false = promised xs (Is kind) c
     promised_on held xs o c e = promised xs o c e
 
     promised_new : (new : New) (c : Call) → can_allow_new t table k new c ≡ true → passes c ≡ true
-    promised_new NewFile c e = one_way (is_allowed_under table k (file_covers t table k) IsFile c) _ c
-        (promised (file_covers t table k) IsFile c) (started (file_covers t table k) true c) e
-    promised_new NewDir c e = promised (new_covers t table k NewDir) (new_object NewDir) c e
+    promised_new NewFile c e = one_way (is_allowed_under table k (file_covers t table k) (new_object table NewFile) c) _ c
+        (promised (file_covers t table k) (new_object table NewFile) c) (started (file_covers t table k) true c) e
+    promised_new NewDir c e = promised (new_covers t table k NewDir) (new_object table NewDir) c e
     promised_new NewOthers c e = promised (new_covers t table k NewOthers) IsMissing c e
     promised_new NewLink c e = promised (new_covers t table k NewLink) IsLink c e
+    promised_new NewSock c e = promised (new_covers t table k NewSock) (new_object table NewSock) c e
+    promised_new NewFifo c e = promised (new_covers t table k NewFifo) (new_object table NewFifo) c e
 
     -- the calls of each line pass
     abbrev Passes : EverLine → Type 0

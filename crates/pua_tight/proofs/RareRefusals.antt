@@ -32,7 +32,7 @@ use Rattle.pua_policy.specs.Misfits.{misfit, misfit_errno}
 use Rattle.pua_policy.specs.Verdict.{cover, cover_fault, object_of, or_fault, place_of}
 use Rattle.pua_calls.specs.declared.fits.Misfit.{Misfit}
 use Rattle.pua_calls.specs.declared.fits.Misfit.TheVariants.{Missing, Exists, IsDirectory, IsNoFile, IsNoDirectory, IsNoLink}
-use Rattle.pua_calls.specs.declared.fits.Misfit.TheVariants.{IsNoProgram, IsNotEmpty, ByDot, ByDotDot, ByNothing, IsNoSocket, InUse}
+use Rattle.pua_calls.specs.declared.fits.Misfit.TheVariants.{IsNoProgram, IsNotEmpty, ByDot, ByDotDot, ByNothing, IsSocket, IsNoSocket, InUse}
 use Rattle.pua_policy.specs.declared.answer.Cover.{Cover}
 use Rattle.pua_policy.specs.declared.answer.Cover.TheVariants as covers
 use Rattle.pua_policy.specs.declared.answer.UnveilFault.{UnveilFault}
@@ -203,6 +203,7 @@ misfit_plain (Some IsNotEmpty) = refl
 misfit_plain (Some ByDot) = refl
 misfit_plain (Some ByDotDot) = refl
 misfit_plain (Some ByNothing) = refl
+misfit_plain (Some IsSocket) = refl
 misfit_plain (Some IsNoSocket) = refl
 misfit_plain (Some InUse) = refl
 

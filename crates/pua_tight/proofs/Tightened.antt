@@ -8,7 +8,7 @@ use Rattle.pua_calls.specs.Promises.{holds, lacking}
 use Rattle.pua_calls.specs.Calls.{CallTable}
 use Rattle.pua_path.specs.declared.errno.Errno.{Errno}
 use Rattle.pua_path.specs.declared.errno.Errno.TheVariants.{EPERM, ENOENT, E2BIG, EACCES, EAGAIN, EBUSY, EEXIST, ENOTDIR, EISDIR, EINVAL}
-use Rattle.pua_path.specs.declared.errno.Errno.TheVariants.{ENOSPC, ELOOP, ENAMETOOLONG, ENOTEMPTY, ENOSYS, ENOTSOCK, EADDRINUSE, EBADF}
+use Rattle.pua_path.specs.declared.errno.Errno.TheVariants.{ENOSPC, ELOOP, ENAMETOOLONG, ENOTEMPTY, EOPNOTSUPP, ENOSYS, ENOTSOCK, EADDRINUSE, EBADF}
 use Rattle.pua_script.specs.Requests.{Asked}
 use Rattle.pua_script.specs.Replay.{World, answers_to}
 use Rattle.pua_script.specs.declared.answer.Answer.{Answer}
@@ -84,10 +84,11 @@ errno_from : ℕ → Errno
 errno_from n =
     cond (n == 0) EPERM (cond (n == 1) ENOENT (cond (n == 2) E2BIG (cond (n == 3) EACCES (cond (n == 4) EAGAIN (cond (n == 5) EBUSY
     (cond (n == 6) EEXIST (cond (n == 7) ENOTDIR (cond (n == 8) EISDIR (cond (n == 9) EINVAL (cond (n == 10) ENOSPC (cond (n == 11) ELOOP
-    (cond (n == 12) ENAMETOOLONG (cond (n == 13) ENOTEMPTY (cond (n == 14) ENOSYS (cond (n == 15) ENOTSOCK (cond (n == 16) EADDRINUSE EBADF))))))))))))))))
+    (cond (n == 12) ENAMETOOLONG (cond (n == 13) ENOTEMPTY (cond (n == 14) ENOSYS (cond (n == 15) ENOTSOCK (cond (n == 16) EADDRINUSE
+    (cond (n == 17) EBADF EOPNOTSUPP)))))))))))))))))
 
 answer_from : ℕ → Answer
-answer_from n = cond (n == 18) Okay (cond (n == 19) Killed (cond (n == 20) Gone (Failed (errno_from n))))
+answer_from n = cond (n == 19) Okay (cond (n == 20) Killed (cond (n == 21) Gone (Failed (errno_from n))))
 
 back : (a : Answer) → answer_from (answer_number a) ≡ a
 unfolding errno_from answer_from
@@ -112,6 +113,7 @@ back (Failed ENOSYS) = refl
 back (Failed ENOTSOCK) = refl
 back (Failed EADDRINUSE) = refl
 back (Failed EBADF) = refl
+back (Failed EOPNOTSUPP) = refl
 
 pub same_number : (a b : Answer) → answer_number a ≡ answer_number b → a ≡ b
 same_number a b e = sym (back a) ∙ ap answer_from e ∙ back b

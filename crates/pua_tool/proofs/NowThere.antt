@@ -6,6 +6,7 @@ use Rattle.std.specs.Prelude.{is_none, option_and_then, ◌&&◌}
 use Rattle.pua_tree.specs.Tree.{Spot, is_dir, is_dir_kind, kind_at, look, node_at}
 use Rattle.pua_tree.specs.declared.node.Kind.{Kind}
 use Rattle.pua_tree.specs.declared.node.Kind.TheVariants as node
+use Rattle.pua_tree.specs.declared.node.FileType.TheVariants.{Plain}
 use Rattle.pua_path.specs.declared.found.Found.TheVariants.{Whole, Slot}
 use Rattle.pua_path.specs.declared.found.Way.{Way}
 use Rattle.pua_path.specs.declared.found.Way.TheVariants.{Named, Top}
@@ -17,7 +18,7 @@ use Rattle.pua_objects.specs.declared.kind.ObjectKind.{ObjectKind}
 use Rattle.pua_objects.specs.declared.kind.ObjectKind.TheVariants as kind
 use Rattle.pua_ever.specs.Ever.{Thing, Stands, Comes}
 use Rattle.pua_how.specs.PathQuestion.{directory_at_name, thing_word}
-use Rattle.pua_how.proofs.ForCallers.{IsDirBy, IsPlaced, kind_is, node_kind, spot_by, spot_in}
+use Rattle.pua_how.proofs.ForCallers.{IsDirBy, IsPlaced, by_its_word, node_kind, spot_by, spot_in}
 use Rattle.pua_tool.specs.RowColumns.{is_now_on, is_there}
 use Rattle.pua_tool.specs.EverHowTexts.{is_now, subject_at, subject_in, subject_now, subject_there}
 
@@ -42,6 +43,22 @@ module _ (t : Tree) where
   by_spot one [] dir name at = cc
   by_spot one (first ∷ more) dir name at = in_spot one more 0 first ∙ ap (option_and_then (There one)) at
 
+  -- kinds of one word find the same
+  plain_there : (dir : ℕ) (name : List ℕ) (o : Option ℕ) →
+      subject_there t (kind.Node node.File) dir name o ≡ subject_there t (kind.Node (node.Known Plain)) dir name o
+  plain_there dir name None = refl
+  plain_there dir name (Some x) = refl
+
+  plain_at : (word : Word) → subject_at t (kind.Node node.File) word ≡ subject_at t (kind.Node (node.Known Plain)) word
+  plain_at [] = refl
+  plain_at (first ∷ more) =
+      in_spot (kind.Node node.File) more 0 first
+      ∙ (λ i. option_and_then (λ spot. plain_there spot.0 spot.1 (look t spot.0 spot.1) i) (spot_in t 0 first more))
+      ∙ sym (in_spot (kind.Node (node.Known Plain)) more 0 first)
+
+  same_subject : (one other : ObjectKind) → kind_word one ≡ kind_word other → (word : Word) → subject_at t one word ≡ subject_at t other word
+  same_subject one other same word = by_its_word (Option Subject) (λ k. subject_at t k word) (plain_at word) one other same
+
   -- a directory, and its further names
   dir_now : (word : Word) (dir : ℕ) (way : Way) → IsDirBy t word dir way → is_dir t dir ≡ true →
       (subject_at t (kind.Node node.Dir) word ≡ Some (At (Whole dir way))) × (subject_at t kind.Other word ≡ Some (Others dir))
@@ -62,6 +79,7 @@ module _ (t : Tree) where
   node_now node.File dir name x is other = rw other refl
   node_now node.Prog dir name x is other = rw other refl
   node_now node.Link dir name x is other = rw other refl
+  node_now (node.Known type) dir name x is other = rw other refl
 
   -- a name, while nothing stands there
   free_now : (dir : ℕ) (name : List ℕ) (o : Option ℕ) →
@@ -77,17 +95,17 @@ module _ (t : Tree) where
     subject_meant : (word : Word) (subject : Subject) → IsPlaced t h word (Stands subject) → (one : ObjectKind) →
         kind_word one ≡ thing_word t (Stands subject) → subject_at t one word ≡ cond (is_there t subject) (Some subject) None
     subject_meant word (At (Whole dir way)) placed one told =
-        ap (λ k. subject_at t k word) (kind_is one (kind.Node node.Dir) told) ∙ (dir_now word dir way placed.0 placed.1).0
+        same_subject one (kind.Node node.Dir) told word ∙ (dir_now word dir way placed.0 placed.1).0
     subject_meant word (Others dir) placed one told =
-        ap (λ k. subject_at t k word) (kind_is one kind.Other told) ∙ (dir_now word dir placed.0.0 placed.0.1 placed.1).1
+        same_subject one kind.Other told word ∙ (dir_now word dir placed.0.0 placed.0.1 placed.1).1
     subject_meant word (At (Slot dir name (Some x))) placed one told =
         let own = node_kind one (node_at t x) placed.3 told in
-        ap (λ k. subject_at t k word) own.2
+        same_subject one (kind.Node own.0) own.2 word
         ∙ by_spot (kind.Node own.0) word dir name placed.0
         ∙ ap (subject_there t (kind.Node own.0) dir name) placed.1
         ∙ node_now own.0 dir name x own.1 placed.2
     subject_meant word (At (Slot dir name None)) placed one told =
-        ap (λ k. subject_at t k word) (kind_is one kind.Missing told) ∙ by_spot kind.Missing word dir name placed.0 ∙ free_now dir name (look t dir name)
+        same_subject one kind.Missing told word ∙ by_spot kind.Missing word dir name placed.0 ∙ free_now dir name (look t dir name)
 
     pub now_meant : (table : CallTable) (word : Word) (thing : Thing) → IsPlaced t h word thing → (one : ObjectKind) →
         kind_word one ≡ thing_word t thing → (call : Call) →

@@ -8,6 +8,7 @@ use Rattle.std.proofs.lemmas.List.{length-map, take_more}
 use Rattle.std.proofs.lemmas.List.Elements.{filter_agree}
 use Rattle.pua_tree.specs.Tree.{WellFormed, look}
 use Rattle.pua_tree.specs.declared.node.Kind.TheVariants as node
+use Rattle.pua_tree.specs.declared.node.FileType.TheVariants.{Sock, Fifo}
 use Rattle.pua_tree.proofs.ForCallers.{same_Some, None≢Some}
 use Rattle.pua_path.specs.declared.found.Found.TheVariants.{Slot}
 use Rattle.pua_calls.specs.Calls.{calls}
@@ -25,7 +26,7 @@ use Rattle.pua_objects.specs.declared.item.Subject.TheVariants as subject
 use Rattle.pua_objects.specs.declared.kind.ObjectKind.{ObjectKind}
 use Rattle.pua_objects.specs.declared.kind.ObjectKind.TheVariants as kind
 use Rattle.pua_objects.proofs.ForCallers.{Among, contained}
-use Rattle.pua_ever.specs.Ever.{EverLine, Thing, Stands, Comes, NewDir, NewOthers, NewFile, NewLink, has_ever_calls}
+use Rattle.pua_ever.specs.Ever.{EverLine, Thing, Stands, Comes, NewDir, NewOthers, NewFile, NewLink, NewSock, NewFifo, has_ever_calls}
 use Rattle.pua_ever.specs.EverLines.{IsThing, line_with, new_of}
 use Rattle.pua_ever.specs.EverList.{AreEverTold, IsAboutOn, thing_by, word_of_row}
 use Rattle.pua_ever.specs.ShownForEver.{shown_lasting}
@@ -304,6 +305,8 @@ of_thing t (Comes NewDir) = (kind.Node node.Dir, refl)
 of_thing t (Comes NewOthers) = (kind.Other, refl)
 of_thing t (Comes NewFile) = (kind.Node node.File, refl)
 of_thing t (Comes NewLink) = (kind.Node node.Link, refl)
+of_thing t (Comes NewSock) = (kind.Node (node.Known Sock), refl)
+of_thing t (Comes NewFifo) = (kind.Node (node.Known Fifo), refl)
 
 module _ (rules : Rules) (done : Replayed) (process : ℕ) (h : ProcessState) where
   uncounted : (about : PathQuestion) (kind : ObjectKind) (cs : List Call) →

@@ -27,7 +27,7 @@ pub record TreeTextRows : Type 0 where
       ∷ codes "2 file 1 c" ∷ codes "3 hard 0 b 2" ∷ []))
   pub bad_listing : tree_text by_standard (codes "tree 1") tying ≡ Err (Listing (BadLine 2))
   pub by_openbsd : tree_text (record { rules = Openbsd; rows = None }) (text_of_lines (codes "tree 1" ∷ codes "0 dir" ∷ [])) binding
-      ≡ Ok (text_of_lines (codes "tree 1" ∷ codes "0 dir" ∷ codes "1 file 0 s" ∷ []))
+      ≡ Ok (text_of_lines (codes "tree 3" ∷ codes "0 dir" ∷ codes "1 sock 0 s" ∷ []))
   pub not_by_standard : tree_text by_standard listed_before binding ≡ Err (Script (BadCall 1))
   pub too_many : as_listed (Err unlisted.TooManyNames) ≡ Err TooManyNames
   pub told : fault_line TooManyNames ≡ text_of_lines (codes "pua: tree: too many names" ∷ [])

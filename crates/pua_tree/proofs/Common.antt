@@ -42,6 +42,6 @@ pub use Rattle.pua_tree.specs.Writes.{room_after}
 pub use Rattle.pua_tree.specs.declared.fault.ListingFault.{ListingFault}
 pub use Rattle.pua_tree.specs.declared.list.ListRow.{ListRow}
 pub use Rattle.pua_tree.specs.declared.node.Kind.{Kind}
-pub use Rattle.pua_tree.specs.declared.node.Kind.TheVariants.{Dir, File, Link, Prog}
+pub use Rattle.pua_tree.specs.declared.node.Kind.TheVariants.{Dir, File, Known, Link, Prog}
 pub use Rattle.pua_tree.specs.declared.slots.SlotNode.{SlotNode}
 pub use Rattle.pua_tree.specs.declared.slots.Slots.{Slots}

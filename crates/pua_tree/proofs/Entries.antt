@@ -1,6 +1,6 @@
 -- The rows and nodes of a listing's entries, looked up and added to.
 use Rattle.pua_tree.specs.declared.form.Form.{Form}
-use Rattle.pua_tree.specs.Listing.{most_names_of, knows_hard, most_listed_of}
+use Rattle.pua_tree.specs.Listing.{most_names_of, most_listed_of}
 use Rattle.pua_tree.proofs.Common.{◌≡◌, ℕ, suc, ◌+◌, ◌<◌, ◌≤◌, Bool, true, false, cond, not, ◌&&◌, ◌||◌, T, eqb, leb, ltb, List, [], ◌∷◌}
 use Rattle.pua_tree.proofs.Common.{◌++◌, map, length, Option, Some, None, option_map, is_some, refl, sym, ap, subst, ◌∙◌, arith, append-nil}
 use Rattle.pua_tree.proofs.Common.{append_assoc, true≢false, inl, inr, IsTrue, list_all, list_any, cons_option, Equal-is, tied_itself}
@@ -63,12 +63,12 @@ pub record Fits (form : Form) (es : List Entry) (e : Entry) : Type 0 where
   pub named : IsTrue (is_name e.name)
   pub free : is_taken es e.parent e.name ≡ false
   pub room : length es + 1 < most_listed_of form
-  pub made : IsTrue (made_fits (knows_hard form) es e e.made)
+  pub made : IsTrue (made_fits form es e e.made)
 
 pub fits_parts : (form : Form) (es : List Entry) (e : Entry) → IsTrue (entry_fits form es e) → Fits form es e
 fits_parts form es e h =
     let p = seven (ltb (last_number es) e.number) (leb e.number 999999) (is_earlier_dir es e.parent) (is_name e.name)
-    (not (is_taken es e.parent e.name)) (ltb (length es + 1) (most_listed_of form)) (made_fits (knows_hard form) es e e.made) h in
+    (not (is_taken es e.parent e.name)) (ltb (length es + 1) (most_listed_of form)) (made_fits form es e e.made) h in
     record {
       above = ltb-true _ _ p.0;
       small = leb-true _ _ p.1;
@@ -291,7 +291,7 @@ tree_push form es e h f = by e.made refl
         ap (λ l. (0, root_node) ∷ l) (append-nil (filter_map made_entry es)) in
         λ i. record { rows = rows_push es e f.free i; nodes = nodes i; next = next_push i; room = most_names_of form }
     by (Some made) is =
-        let own : e.node ≡ e.number = eqb-true e.node e.number (and_parts _ _ (subst (λ m. IsTrue (made_fits (knows_hard form) es e m)) is f.made)).0 in
+        let own : e.node ≡ e.number = eqb-true e.node e.number (and_parts _ _ (subst (λ m. IsTrue (made_fits form es e m)) is f.made)).0 in
         let below = node_numbers_below form e.number es (entries_rise form [] es h) f.above in
         let rows : (tree_of form (es ++ e ∷ [])).rows ≡ put spot_cmp (e.parent, e.name) e.number (tree_of form es).rows =
         rows_push es e f.free ∙ ap (λ x. put spot_cmp (e.parent, e.name) x (rows_of_entries es)) own in

@@ -1,7 +1,6 @@
 -- How a line is judged by what the lines before it have gathered.
 use Rattle.pua_tree.specs.declared.form.Form.{Form}
-use Rattle.pua_tree.specs.Listing.{knows_hard}
-use Rattle.pua_tree.proofs.Common.{◌≡◌, ℕ, Bool, not, ◌&&◌, List, [], Option, Some, None, Ok, Err, ltb, refl, ap, ◌∙◌, is_target, name_of}
+use Rattle.pua_tree.proofs.Common.{◌≡◌, ℕ, not, ◌&&◌, List, [], Option, Some, None, Ok, Err, ltb, refl, ap, ◌∙◌, is_target, name_of}
 use Rattle.pua_tree.proofs.Common.{number_within, bytes_spelled, Node, Tree, is_dir, is_living, ListingLine, only_if, number_in, parent_in}
 use Rattle.pua_tree.proofs.Common.{hard_node_in, node_of, listing_line, entry_of, is_earlier_dir, is_earlier_other, Gathers}
 use Rattle.pua_tree.proofs.Common.{Kind, Link, ListingFault}
@@ -51,23 +50,23 @@ pub no_node : (es : List listing.Entry) (n number : ℕ) (line : ListingLine) �
 no_node es n number line k e = rw (k, e) refl
 
 pub bad_parent : (form : Form) (es : List listing.Entry) (n : ℕ) (text : List ℕ) (line : ListingLine) (number : ℕ) →
-    listing_line (knows_hard form) text ≡ Some line → number_in es line ≡ Some number → parent_in es line ≡ None →
+    listing_line form text ≡ Some line → number_in es line ≡ Some number → parent_in es line ≡ None →
     entry_of form es n text ≡ Err (BadParent n)
 bad_parent form es n text line number l m p = rw (l, m, p) refl
 
 pub bad_name : (form : Form) (es : List listing.Entry) (n : ℕ) (text : List ℕ) (line : ListingLine) (number parent : ℕ)
-    (fault : NameFault) → listing_line (knows_hard form) text ≡ Some line → number_in es line ≡ Some number → parent_in es line ≡ Some parent →
+    (fault : NameFault) → listing_line form text ≡ Some line → number_in es line ≡ Some number → parent_in es line ≡ Some parent →
     name_of line.name ≡ Err fault
     → entry_of form es n text ≡ Err (BadName n)
 bad_name form es n text line number parent fault l m p q = rw (l, m, p, q) refl
 
 pub bad_node : (form : Form) (es : List listing.Entry) (n : ℕ) (text : List ℕ) (line : ListingLine) (number parent : ℕ) (name : List ℕ)
-    (fault : ListingFault) → listing_line (knows_hard form) text ≡ Some line → number_in es line ≡ Some number → parent_in es line ≡ Some parent
+    (fault : ListingFault) → listing_line form text ≡ Some line → number_in es line ≡ Some number → parent_in es line ≡ Some parent
     → name_of line.name ≡ Ok name → node_of es n number line line.kind ≡ Err fault → entry_of form es n text ≡ Err fault
 bad_node form es n text line number parent name fault l m p q k = rw (l, m, p, q, k) refl
 
 pub whole_entry : (form : Form) (es : List listing.Entry) (n : ℕ) (text : List ℕ) (line : ListingLine) (number parent : ℕ) (name : List ℕ)
-    (node : ℕ) (made : Option Node) → listing_line (knows_hard form) text ≡ Some line → number_in es line ≡ Some number → parent_in es line ≡ Some parent
+    (node : ℕ) (made : Option Node) → listing_line form text ≡ Some line → number_in es line ≡ Some number → parent_in es line ≡ Some parent
     → name_of line.name ≡ Ok name → node_of es n number line line.kind ≡ Ok (node, made) →
     entry_of form es n text ≡ entry_or_fault form es n (record { number = number; parent = parent; name = name; node = node; made = made })
 whole_entry form es n text line number parent name node made l m p q k = rw (l, m, p, q, k) refl

@@ -1,15 +1,15 @@
 -- A listing is read as the entries that its lines spell, and as nothing else.
-use Rattle.pua_tree.specs.Limits.{most_wide_names}
 use Rattle.pua_tree.specs.declared.form.Form.{Form}
 use Rattle.pua_tree.specs.declared.form.Form.TheVariants.{First, Second, Third}
-use Rattle.pua_tree.specs.Listing.{knows_hard, most_listed_of, most_lines_of}
+use Rattle.pua_tree.specs.declared.node.FileType.TheVariants.{Plain, Sock, Fifo, Dev}
+use Rattle.pua_tree.specs.Listing.{knows_hard, knows_types, most_lines_of}
 use Rattle.pua_tree.proofs.Common.{◌≡◌, ℕ, suc, ◌+◌, ◌<◌, ◌≤◌, Bool, true, false, cond, not, ◌&&◌, leb, ltb, List, [], ◌∷◌, ◌++◌, map}
 use Rattle.pua_tree.proofs.Common.{length, Option, Some, None, Result, Ok, Err, option_map, refl, sym, ap, subst, ◌∙◌, arith, append-nil}
 use Rattle.pua_tree.proofs.Common.{append_assoc, true≢false, IsTrue, list_all, lt-ltb, ltb-true, ltb-false, le-ltb, and_parts, and_from}
 use Rattle.pua_tree.proofs.Common.{cond-true, cond-false, length-append, is_name, is_target, has_byte, same_bytes, bytes_spelled, name_of}
 use Rattle.pua_tree.proofs.Common.{fields, is_field, number_within, Node, Tree, WellFormed, Entry, ListingLine, line_of_fields}
 use Rattle.pua_tree.proofs.Common.{listing_line, last_number, is_earlier_dir, is_earlier_other, only_if, number_in, parent_in, hard_node_in}
-use Rattle.pua_tree.proofs.Common.{node_of, is_taken, entry_of, tree_of, made_fits, entry_fits, entries_fit, Kind, Dir, File, Prog, Link}
+use Rattle.pua_tree.proofs.Common.{node_of, is_taken, entry_of, tree_of, made_fits, entry_fits, entries_fit, Kind, Dir, File, Prog, Link, Known}
 use Rattle.pua_tree.proofs.Common.{ListingFault}
 use Rattle.std.proofs.Common.{ok_or, decimal, codes}
 use Rattle.std.specs.List.{join_with_byte}
@@ -19,14 +19,14 @@ use Rattle.std.proofs.lemmas.Bool.{eq-eqb, eqb-true}
 use Rattle.pua_tree.specs.Names.{has_short_components}
 use Rattle.pua_tree.specs.Spelling.{spelling}
 use Rattle.pua_tree.specs.Steps.{◌>>=◌}
-use Rattle.pua_tree.specs.Listing.{plain_kind, long_kind}
+use Rattle.pua_tree.specs.Listing.{file_by, plain_kind, long_kind, typed_kind}
 use Rattle.pua_tree.specs.Listing.{target_in}
 use Rattle.pua_tree.specs.Listing.{entries_of, header, after_header, listing_of_lines}
-use Rattle.pua_tree.specs.Grammar.{listing_kind_word, line_word, target_field, last_field, entry_text, target_stands}
+use Rattle.pua_tree.specs.Grammar.{kind_known, file_word, listing_kind_word, line_word, target_field, last_field, entry_text, target_stands}
 use Rattle.pua_tree.specs.Grammar.{header_text, ListingsAreRead, SecondFormsAgree, ThirdFormsAgree, ListingsListTrees, SpellingsAreRead}
 use Rattle.pua_tree.specs.declared.fault.ListingFault.TheVariants.{BadHeader, BadLine, BadNumber, BadParent, BadName, BadTarget, Taken}
 use Rattle.pua_tree.specs.declared.fault.ListingFault.TheVariants.{TooMany, BadNode}
-use Rattle.pua_tree.proofs.Base.{same_Some, None≢Some, Some≢None, mapped, Err≢Ok, same_Ok, past, passed, ok_or_read, result_ok_read}
+use Rattle.pua_tree.proofs.Base.{same_Some, None≢Some, mapped, Err≢Ok, same_Ok, past, passed, ok_or_read, result_ok_read}
 use Rattle.pua_tree.proofs.Base.{same_word, step_read, step_from, only_if_read}
 use Rattle.pua_tree.proofs.Entries.{Fits, fits_parts, fits_from, entries_rise, entries_push, parent_below, earlier_below}
 use Rattle.pua_tree.proofs.ListingIsTree.{well_formed}
@@ -41,103 +41,126 @@ last_text (Some Link) last = 32 ∷ last
 last_text (Some Dir) last = []
 last_text (Some File) last = []
 last_text (Some Prog) last = []
+last_text (Some (Known type)) last = []
 
-abbrev line_text : ListingLine → List ℕ
-line_text l = l.number ++ 32 ∷ (line_word l.kind ++ 32 ∷ (l.parent ++ 32 ∷ (l.name ++ last_text l.kind l.last)))
+abbrev line_text : Form → ListingLine → List ℕ
+line_text form l = l.number ++ 32 ∷ (line_word form l.kind ++ 32 ∷ (l.parent ++ 32 ∷ (l.name ++ last_text l.kind l.last)))
 
 regrouped : (a b c d t : List ℕ) → a ++ 32 ∷ b ++ 32 ∷ c ++ 32 ∷ d ++ t ≡ a ++ 32 ∷ (b ++ 32 ∷ (c ++ 32 ∷ (d ++ t)))
 regrouped a b c d t = append_assoc (a ++ 32 ∷ b ++ 32 ∷ c) (32 ∷ d) t ∙ append_assoc (a ++ 32 ∷ b) (32 ∷ c) (32 ∷ (d ++ t)) ∙
     append_assoc a (32 ∷ b) (32 ∷ (c ++ 32 ∷ (d ++ t)))
 
-plain_kind_read : (word : List ℕ) (kind : Kind) → plain_kind word ≡ Some kind → (word ≡ listing_kind_word kind) × ((last : List ℕ) →
-    last_text (Some kind) last ≡ [])
-plain_kind_read word kind e = dir (same_bytes word (codes "dir")) (same_bytes word (codes "file")) (same_bytes word (codes "prog")) refl
-    refl refl e
+-- a word names one kind, whose word it is, and which the form knows
+abbrev IsPlain : Form → List ℕ → Kind → Type 0
+IsPlain form word kind = (word ≡ listing_kind_word form kind) × IsTrue (kind_known form kind) × ((last : List ℕ) → last_text (Some kind) last ≡ [])
+
+file_read : (form : Form) (word : List ℕ) → word ≡ codes "file" → IsPlain form word (file_by (knows_types form))
+file_read First word e = (e, refl, λ last. refl)
+file_read Second word e = (e, refl, λ last. refl)
+file_read Third word e = (e, refl, λ last. refl)
+
+plain_kind_read : (form : Form) (word : List ℕ) (kind : Kind) → plain_kind (knows_types form) word ≡ Some kind → IsPlain form word kind
+plain_kind_read form word kind e =
+    dir (same_bytes word (codes "dir")) (same_bytes word (codes "file")) (same_bytes word (codes "prog")) refl refl refl e
   where
-    is : (k : Kind) → word ≡ listing_kind_word k → ((last : List ℕ) → last_text (Some k) last ≡ []) → Some k ≡ Some kind →
-        (word ≡ listing_kind_word kind) × ((last : List ℕ) → last_text (Some kind) last ≡ [])
-    is k w l q = subst (λ x. (word ≡ listing_kind_word x) × ((last : List ℕ) → last_text (Some x) last ≡ [])) (same_Some k kind q) (w, l)
+    is : (k : Kind) → IsPlain form word k → Some k ≡ Some kind → IsPlain form word kind
+    is k p q = subst (IsPlain form word) (same_Some k kind q) p
 
-    dir : (a b c : Bool) → same_bytes word (codes "dir") ≡ a → same_bytes word (codes "file") ≡ b → same_bytes word (codes "prog") ≡ c →
-        cond a (Some Dir) (cond b (Some File) (cond c (Some Prog) None)) ≡ Some kind → (word ≡ listing_kind_word kind) × ((last : List ℕ) →
-        last_text (Some kind) last ≡ [])
-    dir true b c p q r e = is Dir (same_word word _ p) (λ last. refl) e
-    dir false true c p q r e = is File (same_word word _ q) (λ last. refl) e
-    dir false false true p q r e = is Prog (same_word word _ r) (λ last. refl) e
-    dir false false false p q r e = absurd (None≢Some kind e)
+    typed : (a b c d : Bool) → same_bytes word (codes "any") ≡ a → same_bytes word (codes "sock") ≡ b → same_bytes word (codes "fifo") ≡ c
+        → same_bytes word (codes "dev") ≡ d → form ≡ Third
+        → cond a (Some File) (cond b (Some (Known Sock)) (cond c (Some (Known Fifo)) (cond d (Some (Known Dev)) None))) ≡ Some kind
+        → IsPlain form word kind
+    typed true b c d p q r s third e = is File (same_word word _ p ∙ ap file_word (sym third), refl, λ last. refl) e
+    typed false true c d p q r s third e = is (Known Sock) (same_word word _ q, ap knows_types third, λ last. refl) e
+    typed false false true d p q r s third e = is (Known Fifo) (same_word word _ r, ap knows_types third, λ last. refl) e
+    typed false false false true p q r s third e = is (Known Dev) (same_word word _ s, ap knows_types third, λ last. refl) e
+    typed false false false false p q r s third e = absurd (None≢Some kind e)
 
--- a kind is none where hard links are known
-abbrev IsKnown : Bool → Option Kind → Type 0
-IsKnown hard kind = kind ≡ None → IsTrue hard
+    other : (f : Form) → form ≡ f → cond (knows_types f) (typed_kind word) None ≡ Some kind → IsPlain form word kind
+    other First is e = absurd (None≢Some kind e)
+    other Second is e = absurd (None≢Some kind e)
+    other Third is e = typed (same_bytes word (codes "any")) (same_bytes word (codes "sock")) (same_bytes word (codes "fifo"))
+        (same_bytes word (codes "dev")) refl refl refl refl is e
 
-abbrev IsLong : Bool → List ℕ → Option Kind → Type 0
-IsLong hard word kind = (word ≡ line_word kind) × IsKnown hard kind × ((last : List ℕ) → last_text kind last ≡ 32 ∷ last)
+    dir : (a b c : Bool) → same_bytes word (codes "dir") ≡ a → same_bytes word (codes "file") ≡ b → same_bytes word (codes "prog") ≡ c
+        → cond a (Some Dir) (cond b (Some (file_by (knows_types form))) (cond c (Some Prog) (cond (knows_types form) (typed_kind word) None)))
+        ≡ Some kind → IsPlain form word kind
+    dir true b c p q r e = is Dir (same_word word _ p, refl, λ last. refl) e
+    dir false true c p q r e = is (file_by (knows_types form)) (file_read form word (same_word word _ q)) e
+    dir false false true p q r e = is Prog (same_word word _ r, refl, λ last. refl) e
+    dir false false false p q r e = other form refl e
 
-long_kind_read : (hard : Bool) (word : List ℕ) (kind : Option Kind) → long_kind hard word ≡ Some kind → IsLong hard word kind
-long_kind_read hard word kind e = link (same_bytes word (codes "link")) (hard && same_bytes word (codes "hard")) refl refl e
+-- a line's kind is known in the form, and is none where hard links are known
+abbrev IsKnown : Form → Option Kind → Type 0
+IsKnown form None = IsTrue (knows_hard form)
+IsKnown form (Some kind) = IsTrue (kind_known form kind)
+
+abbrev IsLong : Form → List ℕ → Option Kind → Type 0
+IsLong form word kind = (word ≡ line_word form kind) × IsKnown form kind × ((last : List ℕ) → last_text kind last ≡ 32 ∷ last)
+
+long_kind_read : (form : Form) (word : List ℕ) (kind : Option Kind) → long_kind (knows_hard form) word ≡ Some kind → IsLong form word kind
+long_kind_read form word kind e = link (same_bytes word (codes "link")) (knows_hard form && same_bytes word (codes "hard")) refl refl e
   where
-    link : (a b : Bool) → same_bytes word (codes "link") ≡ a → (hard && same_bytes word (codes "hard")) ≡ b →
-        cond a (Some (Some Link)) (cond b (Some None) None) ≡ Some kind → IsLong hard word kind
-    link true b p q e = subst (IsLong hard word) (same_Some (Some Link) kind e) (
-      same_word word _ p,
-      λ z. absurd (Some≢None Link z),
-      λ last. refl,
-    )
-    link false true p q e = let parts = and_parts hard _ q in subst (IsLong hard word) (same_Some None kind e) (
+    link : (a b : Bool) → same_bytes word (codes "link") ≡ a → (knows_hard form && same_bytes word (codes "hard")) ≡ b →
+        cond a (Some (Some Link)) (cond b (Some None) None) ≡ Some kind → IsLong form word kind
+    link true b p q e = subst (IsLong form word) (same_Some (Some Link) kind e) (same_word word _ p, refl, λ last. refl)
+    link false true p q e = let parts = and_parts (knows_hard form) _ q in subst (IsLong form word) (same_Some None kind e) (
       same_word word _ parts.1,
-      λ z. parts.0,
+      parts.0,
       λ last. refl,
     )
     link false false p q e = absurd (None≢Some kind e)
 
-fields_read : (hard : Bool) (fs : List (List ℕ)) (l : ListingLine) → line_of_fields hard fs ≡ Some l →
-    (join_with_byte 32 fs ≡ line_text l) × IsKnown hard l.kind
-fields_read hard [] l e = absurd (None≢Some l e)
-fields_read hard (a ∷ []) l e = absurd (None≢Some l e)
-fields_read hard (a ∷ b ∷ []) l e = absurd (None≢Some l e)
-fields_read hard (a ∷ b ∷ c ∷ []) l e = absurd (None≢Some l e)
-fields_read hard (a ∷ b ∷ c ∷ d ∷ []) l e =
-    let kind = mapped (λ kind. record { number = a; kind = Some kind; parent = c; name = d; last = [] }) (plain_kind b) l e in
-    let word = plain_kind_read b kind.0 kind.1 in
+fields_read : (form : Form) (fs : List (List ℕ)) (l : ListingLine) → line_of_fields form fs ≡ Some l →
+    (join_with_byte 32 fs ≡ line_text form l) × IsKnown form l.kind
+fields_read form [] l e = absurd (None≢Some l e)
+fields_read form (a ∷ []) l e = absurd (None≢Some l e)
+fields_read form (a ∷ b ∷ []) l e = absurd (None≢Some l e)
+fields_read form (a ∷ b ∷ c ∷ []) l e = absurd (None≢Some l e)
+fields_read form (a ∷ b ∷ c ∷ d ∷ []) l e =
+    let kind = mapped (λ kind. record { number = a; kind = Some kind; parent = c; name = d; last = [] }) (plain_kind (knows_types form) b) l e in
+    let word = plain_kind_read form b kind.0 kind.1 in
     let text = (λ i. a ++ 32 ∷ (word.0 i ++ 32 ∷ (c ++ 32 ∷ (sym (append-nil d) i)))) ∙
-    ap (λ t. a ++ 32 ∷ (listing_kind_word kind.0 ++ 32 ∷ (c ++ 32 ∷ (d ++ t)))) (sym (word.1 [])) in
-    (text ∙ ap line_text kind.2, subst (λ (x : ListingLine). IsKnown hard x.kind) kind.2 (λ z. absurd (Some≢None kind.0 z)))
-fields_read hard (a ∷ b ∷ c ∷ d ∷ last ∷ []) l e =
-    let kind = mapped (λ kind. record { number = a; kind = kind; parent = c; name = d; last = last }) (long_kind hard b) l e in
-    let word = long_kind_read hard b kind.0 kind.1 in
+    ap (λ t. a ++ 32 ∷ (listing_kind_word form kind.0 ++ 32 ∷ (c ++ 32 ∷ (d ++ t)))) (sym (word.2 [])) in
+    (text ∙ ap (line_text form) kind.2, subst (λ (x : ListingLine). IsKnown form x.kind) kind.2 word.1)
+fields_read form (a ∷ b ∷ c ∷ d ∷ last ∷ []) l e =
+    let kind = mapped (λ kind. record { number = a; kind = kind; parent = c; name = d; last = last }) (long_kind (knows_hard form) b) l e in
+    let word = long_kind_read form b kind.0 kind.1 in
     let text = ap (λ w. a ++ 32 ∷ (w ++ 32 ∷ (c ++ 32 ∷ (d ++ 32 ∷ last)))) word.0 ∙
-    ap (λ t. a ++ 32 ∷ (line_word kind.0 ++ 32 ∷ (c ++ 32 ∷ (d ++ t)))) (sym (word.2 last)) in
-    (text ∙ ap line_text kind.2, subst (λ (x : ListingLine). IsKnown hard x.kind) kind.2 word.1)
-fields_read hard (a ∷ b ∷ c ∷ d ∷ f ∷ g ∷ more) l e = absurd (None≢Some l e)
+    ap (λ t. a ++ 32 ∷ (line_word form kind.0 ++ 32 ∷ (c ++ 32 ∷ (d ++ t)))) (sym (word.2 last)) in
+    (text ∙ ap (line_text form) kind.2, subst (λ (x : ListingLine). IsKnown form x.kind) kind.2 word.1)
+fields_read form (a ∷ b ∷ c ∷ d ∷ f ∷ g ∷ more) l e = absurd (None≢Some l e)
 
-line_read : (hard : Bool) (text : List ℕ) (l : ListingLine) → listing_line hard text ≡ Some l → (text ≡ line_text l) × IsKnown hard l.kind
-line_read hard text l e =
-    let read = fields_read hard (fields text) l (go (list_all is_field (fields text)) e) in
+line_read : (form : Form) (text : List ℕ) (l : ListingLine) → listing_line form text ≡ Some l → (text ≡ line_text form l) × IsKnown form l.kind
+line_read form text l e =
+    let read = fields_read form (fields text) l (go (list_all is_field (fields text)) e) in
     (sym (fields_joined text) ∙ read.0, read.1)
   where
-    go : (t : Bool) → cond t (line_of_fields hard (fields text)) None ≡ Some l → line_of_fields hard (fields text) ≡ Some l
+    go : (t : Bool) → cond t (line_of_fields form (fields text)) None ≡ Some l → line_of_fields form (fields text) ≡ Some l
     go true e = e
     go false e = absurd (None≢Some l e)
 
 -- the node of a line's row, as its last field tells it
-module _ (hard : Bool) (earlier : List Entry) (n number parent : ℕ) (name : List ℕ) (l : ListingLine) where
+module _ (form : Form) (earlier : List Entry) (n number parent : ℕ) (name : List ℕ) (l : ListingLine) where
   abbrev entry : ℕ × Option Node → Entry
   entry p = record { number = number; parent = parent; name = name; node = p.0; made = p.1 }
 
   abbrev Told : Option Kind → ℕ × Option Node → Type 0
-  Told kind p = (option_map (λ m. m.kind) p.1 ≡ kind) × IsTrue (made_fits hard earlier (entry p) p.1) ×
+  Told kind p = (option_map (λ m. m.kind) p.1 ≡ kind) × IsTrue (made_fits form earlier (entry p) p.1) ×
       (last_text kind l.last ≡ last_field p.0 p.1)
 
-  node_read : (kind : Option Kind) (p : ℕ × Option Node) → IsKnown hard kind → node_of earlier n number l kind ≡ Ok p → Told kind p
+  node_read : (kind : Option Kind) (p : ℕ × Option Node) → IsKnown form kind → node_of earlier n number l kind ≡ Ok p → Told kind p
   node_read None p known e =
       let read = step_read (ok_or (hard_node_in earlier l) (BadNode n)) (λ x. Ok (x, None)) p e in
       let node = only_if_read (is_earlier_other earlier) (number_within 1 999999 l.last) read.0
       (ok_or_read (hard_node_in earlier l) (BadNode n) read.0 read.1) in
       let spelled = number_read 1 999999 l.last read.0 (omega arith) node.0 in
-      subst (Told None) (same_Ok (read.0, None) p read.2) (refl, and_from hard _ (known refl) node.1, ap (λ s. 32 ∷ s) spelled.0)
+      subst (Told None) (same_Ok (read.0, None) p read.2) (refl, and_from (knows_hard form) _ known node.1, ap (λ s. 32 ∷ s) spelled.0)
   node_read (Some Dir) p known e = subst (Told (Some Dir)) (same_Ok _ p e) (refl, and_from _ _ (eq-eqb number number refl) refl, refl)
   node_read (Some File) p known e = subst (Told (Some File)) (same_Ok _ p e) (refl, and_from _ _ (eq-eqb number number refl) refl, refl)
   node_read (Some Prog) p known e = subst (Told (Some Prog)) (same_Ok _ p e) (refl, and_from _ _ (eq-eqb number number refl) refl, refl)
+  node_read (Some (Known type)) p known e =
+      subst (Told (Some (Known type))) (same_Ok _ p e) (refl, and_from _ _ (eq-eqb number number refl) (and_from _ _ known refl), refl)
   node_read (Some Link) p known e =
       let read = step_read (ok_or (target_in l) (BadTarget n)) (λ target. Ok (number, Some (record { kind = Link; target = Some target })))
       p e in
@@ -151,28 +174,28 @@ module _ (hard : Bool) (earlier : List Entry) (n number parent : ℕ) (name : Li
 -- the parts of a line, put together
 parts_read : (form : Form) (earlier : List Entry) (n : ℕ) (text : List ℕ) (l : ListingLine) (number parent : ℕ) (name : List ℕ) (p : ℕ ×
     Option Node) (e : Entry) → n ≡ length earlier + 3
-    → listing_line (knows_hard form) text ≡ Some l → number_in earlier l ≡ Some number → parent_in earlier l ≡ Some parent → name_of l.name ≡ Ok name →
+    → listing_line form text ≡ Some l → number_in earlier l ≡ Some number → parent_in earlier l ≡ Some parent → name_of l.name ≡ Ok name →
     node_of earlier n number l l.kind ≡ Ok p
     → cond (is_taken earlier parent name) (Err (Taken n))
     (cond (ltb (most_lines_of form) n) (Err (TooMany n)) (Ok (record { number = number; parent = parent; name = name; node = p.0; made = p.1 }))) ≡ Ok e
-    → (text ≡ entry_text e) × Fits form earlier e
+    → (text ≡ entry_text form e) × Fits form earlier e
 parts_read form earlier n text l number parent name p e place line_is number_is parent_is name_is node_is whole =
     let entry : Entry = record { number = number; parent = parent; name = name; node = p.0; made = p.1 } in
-    let line = line_read (knows_hard form) text l line_is in
+    let line = line_read form text l line_is in
     let a = only_if_read (λ m. ltb (last_number earlier) m) (number_within 1 999999 l.number) number number_is in
     let b = number_read 1 999999 l.number number (omega arith) a.0 in
     let c = only_if_read (is_earlier_dir earlier) (number_within 0 999999 l.parent) parent parent_is in
     let d = number_read 0 999999 l.parent parent (omega arith) c.0 in
     let f = name_read l.name name name_is in
-    let g = node_read (knows_hard form) earlier n number parent name l l.kind p line.1 node_is in
+    let g = node_read form earlier n number parent name l l.kind p line.1 node_is in
     let free : is_taken earlier parent name ≡ false = (past (is_taken earlier parent name) (Taken n) _ e whole).0 in
     let rest = passed (is_taken earlier parent name) (Taken n) _ e whole in
     let small = ltb-false (most_lines_of form) n ((past (ltb (most_lines_of form) n) (TooMany n) _ e rest).0) in
     let same : entry ≡ e = same_Ok entry e (passed (ltb (most_lines_of form) n) (TooMany n) _ e rest) in
-    subst (λ x. (text ≡ entry_text x) × Fits form earlier x) same (
+    subst (λ x. (text ≡ entry_text form x) × Fits form earlier x) same (
       line.0
-          ∙ (λ i. b.0 i ++ 32 ∷ (line_word (sym g.0 i) ++ 32 ∷ (d.0 i ++ 32 ∷ (f.0 i ++ g.2 i))))
-          ∙ sym (regrouped (decimal number) (line_word (option_map (λ m. m.kind) p.1)) (decimal parent) (spelling name)
+          ∙ (λ i. b.0 i ++ 32 ∷ (line_word form (sym g.0 i) ++ 32 ∷ (d.0 i ++ 32 ∷ (f.0 i ++ g.2 i))))
+          ∙ sym (regrouped (decimal number) (line_word form (option_map (λ m. m.kind) p.1)) (decimal parent) (spelling name)
           (last_field p.0 p.1)),
       record {
         above = ltb-true _ _ a.1;
@@ -187,9 +210,9 @@ parts_read form earlier n text l number parent name p e place line_is number_is 
 
 -- what a line says is spelled by that line alone, and fits the earlier lines
 pub entry_read : (form : Form) (earlier : List Entry) (n : ℕ) (text : List ℕ) (e : Entry) → n ≡ length earlier + 3 →
-    entry_of form earlier n text ≡ Ok e → (text ≡ entry_text e) × Fits form earlier e
+    entry_of form earlier n text ≡ Ok e → (text ≡ entry_text form e) × Fits form earlier e
 entry_read form earlier n text e place h =
-    let line = step_read (ok_or (listing_line (knows_hard form) text) (BadLine n)) _ e h in
+    let line = step_read (ok_or (listing_line form text) (BadLine n)) _ e h in
     let number = step_read (ok_or (number_in earlier line.0) (BadNumber n)) _ e line.2 in
     let parent = step_read (ok_or (parent_in earlier line.0) (BadParent n)) _ e number.2 in
     let name = step_read (ok_or (result_ok (name_of line.0.name)) (BadName n)) _ e parent.2 in
@@ -214,28 +237,28 @@ four_fields : (a w c rest : List ℕ) → IsTrue (is_field a) → IsTrue (is_fie
 four_fields a w c rest p q r = fields_cons a _ (visible a p) ∙
     ap (λ l. a ∷ l) (fields_cons w _ (visible w q) ∙ ap (λ l. w ∷ l) (fields_cons c rest (visible c r)))
 
-from_fields : (hard : Bool) (text : List ℕ) (fs : List (List ℕ)) (l : ListingLine) → fields text ≡ fs → IsTrue (list_all is_field fs) →
-    line_of_fields hard fs ≡ Some l → listing_line hard text ≡ Some l
-from_fields hard text fs l e h g = ap (λ (xs : List (List ℕ)). cond (list_all is_field xs) (line_of_fields hard xs) None) e ∙
-    cond-true (list_all is_field fs) (line_of_fields hard fs) None h ∙ g
+from_fields : (form : Form) (text : List ℕ) (fs : List (List ℕ)) (l : ListingLine) → fields text ≡ fs → IsTrue (list_all is_field fs) →
+    line_of_fields form fs ≡ Some l → listing_line form text ≡ Some l
+from_fields form text fs l e h g = ap (λ (xs : List (List ℕ)). cond (list_all is_field xs) (line_of_fields form xs) None) e ∙
+    cond-true (list_all is_field fs) (line_of_fields form fs) None h ∙ g
 
-plain_line : (hard : Bool) (a w c d : List ℕ) (kind : Kind) → IsTrue (is_field a) → IsTrue (is_field c) → IsTrue (is_field d) →
-    IsTrue (is_field w) → plain_kind w ≡ Some kind
-    → listing_line hard (a ++ 32 ∷ (w ++ 32 ∷ (c ++ 32 ∷ (d ++ []))))
+plain_line : (form : Form) (a w c d : List ℕ) (kind : Kind) → IsTrue (is_field a) → IsTrue (is_field c) → IsTrue (is_field d) →
+    IsTrue (is_field w) → plain_kind (knows_types form) w ≡ Some kind
+    → listing_line form (a ++ 32 ∷ (w ++ 32 ∷ (c ++ 32 ∷ (d ++ []))))
     ≡ Some (record { number = a; kind = Some kind; parent = c; name = d; last = [] })
-plain_line hard a w c d kind p q r s e =
-    from_fields hard (a ++ 32 ∷ (w ++ 32 ∷ (c ++ 32 ∷ (d ++ [])))) (a ∷ w ∷ c ∷ d ∷ [])
+plain_line form a w c d kind p q r s e =
+    from_fields form (a ++ 32 ∷ (w ++ 32 ∷ (c ++ 32 ∷ (d ++ [])))) (a ∷ w ∷ c ∷ d ∷ [])
     (record { number = a; kind = Some kind; parent = c; name = d; last = [] })
     (four_fields a w c (d ++ []) p s q ∙ ap (λ l. a ∷ w ∷ c ∷ l) (ap fields (append-nil d) ∙ fields_one d (visible d r)))
     (and_from (is_field a) _ p (and_from (is_field w) _ s (and_from (is_field c) _ q (and_from (is_field d) _ r refl))))
     (ap (λ (o : Option Kind). option_map (λ k. record { number = a; kind = Some k; parent = c; name = d; last = [] }) o) e)
 
-long_line : (hard : Bool) (a w c d f : List ℕ) (kind : Option Kind) → IsTrue (is_field a) → IsTrue (is_field c) → IsTrue (is_field d) →
-    IsTrue (is_field f) → IsTrue (is_field w) → long_kind hard w ≡ Some kind
-    → listing_line hard (a ++ 32 ∷ (w ++ 32 ∷ (c ++ 32 ∷ (d ++ 32 ∷ f))))
+long_line : (form : Form) (a w c d f : List ℕ) (kind : Option Kind) → IsTrue (is_field a) → IsTrue (is_field c) → IsTrue (is_field d) →
+    IsTrue (is_field f) → IsTrue (is_field w) → long_kind (knows_hard form) w ≡ Some kind
+    → listing_line form (a ++ 32 ∷ (w ++ 32 ∷ (c ++ 32 ∷ (d ++ 32 ∷ f))))
     ≡ Some (record { number = a; kind = kind; parent = c; name = d; last = f })
-long_line hard a w c d f kind p q r s t e =
-    from_fields hard (a ++ 32 ∷ (w ++ 32 ∷ (c ++ 32 ∷ (d ++ 32 ∷ f)))) (a ∷ w ∷ c ∷ d ∷ f ∷ [])
+long_line form a w c d f kind p q r s t e =
+    from_fields form (a ++ 32 ∷ (w ++ 32 ∷ (c ++ 32 ∷ (d ++ 32 ∷ f)))) (a ∷ w ∷ c ∷ d ∷ f ∷ [])
     (record { number = a; kind = kind; parent = c; name = d; last = f })
     (four_fields a w c (d ++ 32 ∷ f) p t q ∙ ap (λ l. a ∷ w ∷ c ∷ l) (fields_cons d f (visible d r) ∙
     ap (λ l. d ∷ l) (fields_one f (visible f s))))
@@ -253,10 +276,26 @@ target_parts target h =
       parts.1,
     )
 
+-- the word of a kind that the form knows is read as that kind
+word_written : (form : Form) (kind : Kind) → IsTrue (kind_known form kind) → IsTrue (target_stands kind None) →
+    IsTrue (is_field (listing_kind_word form kind)) × (plain_kind (knows_types form) (listing_kind_word form kind) ≡ Some kind)
+word_written form Dir known h = (refl, refl)
+word_written form Prog known h = (refl, refl)
+word_written form Link known h = absurd (true≢false (sym h))
+word_written First File known h = (refl, refl)
+word_written Second File known h = (refl, refl)
+word_written Third File known h = (refl, refl)
+word_written First (Known type) known h = absurd (true≢false (sym known))
+word_written Second (Known type) known h = absurd (true≢false (sym known))
+word_written Third (Known Plain) known h = (refl, refl)
+word_written Third (Known Sock) known h = (refl, refl)
+word_written Third (Known Fifo) known h = (refl, refl)
+word_written Third (Known Dev) known h = (refl, refl)
+
 -- an entry's line is that of its fields
-line_made : (hard : Bool) (a c d : List ℕ) (node : ℕ) (kind : Kind) (target : Option (List ℕ)) → IsTrue (is_field a) → IsTrue (is_field c) →
-    IsTrue (is_field d) → IsTrue (target_stands kind target)
-    → listing_line hard (a ++ 32 ∷ (listing_kind_word kind ++ 32 ∷ (c ++ 32 ∷ (d ++ target_field target))))
+line_made : (form : Form) (a c d : List ℕ) (node : ℕ) (kind : Kind) (target : Option (List ℕ)) → IsTrue (is_field a) → IsTrue (is_field c) →
+    IsTrue (is_field d) → IsTrue (kind_known form kind) → IsTrue (target_stands kind target)
+    → listing_line form (a ++ 32 ∷ (listing_kind_word form kind ++ 32 ∷ (c ++ 32 ∷ (d ++ target_field target))))
     ≡ Some (record {
       number = a;
       kind = Some kind;
@@ -264,22 +303,22 @@ line_made : (hard : Bool) (a c d : List ℕ) (node : ℕ) (kind : Kind) (target 
       name = d;
       last = spelled_last node (Some (record { kind = kind; target = target }));
     })
-line_made hard a c d node Dir None p q r h = plain_line hard a (listing_kind_word Dir) c d Dir p q r refl refl
-line_made hard a c d node File None p q r h = plain_line hard a (listing_kind_word File) c d File p q r refl refl
-line_made hard a c d node Prog None p q r h = plain_line hard a (listing_kind_word Prog) c d Prog p q r refl refl
-line_made hard a c d node Link None p q r h = absurd (true≢false (sym h))
-line_made hard a c d node Dir (Some t) p q r h = absurd (true≢false (sym h))
-line_made hard a c d node File (Some t) p q r h = absurd (true≢false (sym h))
-line_made hard a c d node Prog (Some t) p q r h = absurd (true≢false (sym h))
-line_made hard a c d node Link (Some t) p q r h = let parts = target_parts t h in
-    long_line hard a (listing_kind_word Link) c d (spelling t) (Some Link) p q r (is_field-spelling t parts.0 parts.2) refl refl
+line_made form a c d node kind None p q r known h =
+    let word = word_written form kind known h in
+    plain_line form a (listing_kind_word form kind) c d kind p q r word.0 word.1
+line_made form a c d node Dir (Some t) p q r known h = absurd (true≢false (sym h))
+line_made form a c d node File (Some t) p q r known h = absurd (true≢false (sym h))
+line_made form a c d node Prog (Some t) p q r known h = absurd (true≢false (sym h))
+line_made form a c d node (Known type) (Some t) p q r known h = absurd (true≢false (sym h))
+line_made form a c d node Link (Some t) p q r known h = let parts = target_parts t h in
+    long_line form a (listing_kind_word form Link) c d (spelling t) (Some Link) p q r (is_field-spelling t parts.0 parts.2) refl refl
 
-line_tied : (hard : Bool) (a c d : List ℕ) (node : ℕ) → IsTrue hard → IsTrue (is_field a) → IsTrue (is_field c) → IsTrue (is_field d) →
-    IsTrue (is_field (decimal node))
-    → listing_line hard (a ++ 32 ∷ (codes "hard" ++ 32 ∷ (c ++ 32 ∷ (d ++ 32 ∷ decimal node))))
+line_tied : (form : Form) (a c d : List ℕ) (node : ℕ) → IsTrue (knows_hard form) → IsTrue (is_field a) → IsTrue (is_field c) →
+    IsTrue (is_field d) → IsTrue (is_field (decimal node))
+    → listing_line form (a ++ 32 ∷ (codes "hard" ++ 32 ∷ (c ++ 32 ∷ (d ++ 32 ∷ decimal node))))
     ≡ Some (record { number = a; kind = None; parent = c; name = d; last = decimal node })
-line_tied hard a c d node known p q r s =
-    long_line hard a (codes "hard") c d (decimal node) None p q r s refl (ap (λ b. long_kind b (codes "hard")) known)
+line_tied form a c d node known p q r s =
+    long_line form a (codes "hard") c d (decimal node) None p q r s refl (ap (λ b. long_kind b (codes "hard")) known)
 
 -- what it makes is read from its last field
 node_made : (earlier : List Entry) (n number node : ℕ) (l : ListingLine) (kind : Kind) (target : Option (List ℕ)) →
@@ -288,10 +327,12 @@ node_made : (earlier : List Entry) (n number node : ℕ) (l : ListingLine) (kind
 node_made earlier n number node l Dir None e own h = ap (λ x. Ok (x, Some (record { kind = Dir; target = None }))) (sym own)
 node_made earlier n number node l File None e own h = ap (λ x. Ok (x, Some (record { kind = File; target = None }))) (sym own)
 node_made earlier n number node l Prog None e own h = ap (λ x. Ok (x, Some (record { kind = Prog; target = None }))) (sym own)
+node_made earlier n number node l (Known type) None e own h = ap (λ x. Ok (x, Some (record { kind = Known type; target = None }))) (sym own)
 node_made earlier n number node l Link None e own h = absurd (true≢false (sym h))
 node_made earlier n number node l Dir (Some t) e own h = absurd (true≢false (sym h))
 node_made earlier n number node l File (Some t) e own h = absurd (true≢false (sym h))
 node_made earlier n number node l Prog (Some t) e own h = absurd (true≢false (sym h))
+node_made earlier n number node l (Known type) (Some t) e own h = absurd (true≢false (sym h))
 node_made earlier n number node l Link (Some t) e own h =
     let parts = target_parts t h in
     step_from (ok_or (target_in l) (BadTarget n)) (λ target. Ok (number, Some (record { kind = Link; target = Some target }))) t (
@@ -331,14 +372,14 @@ abbrev line_for : Entry → ListingLine
 line_for e = line_by e e.made
 
 abbrev Written : Form → List Entry → ℕ → Entry → Option Node → Type 0
-Written hard earlier n e m =
-    (listing_line (knows_hard hard) (decimal e.number ++ 32 ∷ line_word (option_map (λ made. made.kind) m) ++ 32 ∷ decimal e.parent ++ 32
+Written form earlier n e m =
+    (listing_line form (decimal e.number ++ 32 ∷ line_word form (option_map (λ made. made.kind) m) ++ 32 ∷ decimal e.parent ++ 32
     ∷ spelling e.name ++ last_field e.node m) ≡ Some (line_by e m))
     × (node_of earlier n e.number (line_by e m) (option_map (λ made. made.kind) m) ≡ Ok (e.node, m))
 
 last_written : (form : Form) (earlier : List Entry) (n : ℕ) (e : Entry) → IsTrue (entries_fit form [] earlier) → Fits form earlier e
     → IsTrue (is_field (decimal e.number)) → IsTrue (is_field (decimal e.parent)) → IsTrue (is_field (spelling e.name))
-    → (listing_line (knows_hard form) (entry_text e) ≡ Some (line_for e)) × (node_of earlier n e.number (line_for e) (line_for e).kind ≡ Ok (
+    → (listing_line form (entry_text form e) ≡ Some (line_for e)) × (node_of earlier n e.number (line_for e) (line_for e).kind ≡ Ok (
       e.node,
       e.made,
     ))
@@ -346,24 +387,26 @@ last_written form earlier n e h f p q r = by e.made refl
   where
     by : (m : Option Node) → e.made ≡ m → Written form earlier n e m
     by None is =
-        let fits = and_parts (knows_hard form) _ (subst (λ m. IsTrue (made_fits (knows_hard form) earlier e m)) is f.made) in
+        let fits = and_parts (knows_hard form) _ (subst (λ m. IsTrue (made_fits form earlier e m)) is f.made) in
         let between = earlier_below form earlier e (entries_rise form [] earlier h) f fits.1 in (
-          ap (listing_line (knows_hard form)) (regrouped (decimal e.number) (codes "hard") (decimal e.parent) (spelling e.name) (32 ∷ decimal e.node))
-              ∙ line_tied (knows_hard form) (decimal e.number) (decimal e.parent) (spelling e.name) e.node fits.0 p q r
+          ap (listing_line form) (regrouped (decimal e.number) (codes "hard") (decimal e.parent) (spelling e.name) (32 ∷ decimal e.node))
+              ∙ line_tied form (decimal e.number) (decimal e.parent) (spelling e.name) e.node fits.0 p q r
               (is_field-decimal e.node (omega (arith, between.1, f.small))),
           node_tied earlier n e.number e.node (line_by e None) refl fits.1 (omega (arith, between.0)) (omega (arith, between.1, f.small)),
         )
     by (Some made) is =
-        let fits = and_parts _ (target_stands made.kind made.target) (subst (λ m. IsTrue (made_fits (knows_hard form) earlier e m)) is f.made) in (
-          ap (listing_line (knows_hard form)) (regrouped (decimal e.number) (listing_kind_word made.kind) (decimal e.parent) (spelling e.name)
+        let fits = and_parts _ (kind_known form made.kind && target_stands made.kind made.target)
+        (subst (λ m. IsTrue (made_fits form earlier e m)) is f.made) in
+        let stands = and_parts (kind_known form made.kind) _ fits.1 in (
+          ap (listing_line form) (regrouped (decimal e.number) (listing_kind_word form made.kind) (decimal e.parent) (spelling e.name)
               (target_field made.target))
-              ∙ line_made (knows_hard form) (decimal e.number) (decimal e.parent) (spelling e.name) e.node made.kind made.target p q r fits.1,
-          node_made earlier n e.number e.node (line_by e (Some made)) made.kind made.target refl (eqb-true e.node e.number fits.0) fits.1,
+              ∙ line_made form (decimal e.number) (decimal e.parent) (spelling e.name) e.node made.kind made.target p q r stands.0 stands.1,
+          node_made earlier n e.number e.node (line_by e (Some made)) made.kind made.target refl (eqb-true e.node e.number fits.0) stands.1,
         )
 
 -- an entry that fits is read from its line
 pub entry_written : (form : Form) (earlier : List Entry) (n : ℕ) (e : Entry) → n ≡ length earlier + 3 →
-    IsTrue (entries_fit form [] earlier) → Fits form earlier e → entry_of form earlier n (entry_text e) ≡ Ok e
+    IsTrue (entries_fit form [] earlier) → Fits form earlier e → entry_of form earlier n (entry_text form e) ≡ Ok e
 entry_written form earlier n e place h f =
     let l : ListingLine = line_for e in
     let below : e.parent < e.number = parent_below form earlier e (entries_rise form [] earlier h) f in
@@ -385,7 +428,7 @@ entry_written form earlier n e place h f =
       below,
     )))
     ∙ cond-true (is_earlier_dir earlier e.parent) (Some e.parent) None f.in_dir in
-    step_from (ok_or (listing_line (knows_hard form) (entry_text e)) (BadLine n)) _ l e (ap (λ o. ok_or o (BadLine n)) written.0)
+    step_from (ok_or (listing_line form (entry_text form e)) (BadLine n)) _ l e (ap (λ o. ok_or o (BadLine n)) written.0)
     (step_from (ok_or (number_in earlier l) (BadNumber n)) _ e.number e (ap (λ o. ok_or o (BadNumber n)) number_is)
     (step_from (ok_or (parent_in earlier l) (BadParent n)) _ e.parent e (ap (λ o. ok_or o (BadParent n)) parent_is)
     (step_from (ok_or (result_ok (name_of (spelling e.name))) (BadName n)) _ e.name e
@@ -406,7 +449,7 @@ entries_stop form earlier n text texts fault h = ap (λ r. r >>= λ e. entries_o
 -- further lines say entries that fit, each spelled by its line
 pub entries_read : (form : Form) (earlier : List Entry) (n : ℕ) (texts : List (List ℕ)) (es : List Entry) → n ≡ length earlier + 3 →
     entries_of form earlier n texts ≡ Ok es
-    → (more : List Entry) × (es ≡ earlier ++ more) × (texts ≡ map entry_text more) × IsTrue (entries_fit form earlier more)
+    → (more : List Entry) × (es ≡ earlier ++ more) × (texts ≡ map (entry_text form) more) × IsTrue (entries_fit form earlier more)
 entries_read form earlier n [] es place h = ([], sym (same_Ok earlier es h) ∙ sym (append-nil earlier), refl, refl)
 entries_read form earlier n (text ∷ texts) es place h =
     let step = step_read (entry_of form earlier n text) (λ e. entries_of form (earlier ++ e ∷ []) (suc n) texts) es h in
@@ -421,11 +464,11 @@ entries_read form earlier n (text ∷ texts) es place h =
 
 pub entries_written : (form : Form) (earlier : List Entry) (n : ℕ) (more : List Entry) → n ≡ length earlier + 3 →
     IsTrue (entries_fit form [] earlier) → IsTrue (entries_fit form earlier more) →
-    entries_of form earlier n (map entry_text more) ≡ Ok (earlier ++ more)
+    entries_of form earlier n (map (entry_text form) more) ≡ Ok (earlier ++ more)
 entries_written form earlier n [] place h k = ap Ok (sym (append-nil earlier))
 entries_written form earlier n (e ∷ more) place h k =
     let parts = and_parts (entry_fits form earlier e) (entries_fit form (earlier ++ e ∷ []) more) k in
-    step_from (entry_of form earlier n (entry_text e)) (λ e. entries_of form (earlier ++ e ∷ []) (suc n) (map entry_text more)) e
+    step_from (entry_of form earlier n (entry_text form e)) (λ e. entries_of form (earlier ++ e ∷ []) (suc n) (map (entry_text form) more)) e
     (earlier ++ e ∷ more) (entry_written form earlier n e place h (fits_parts form earlier e parts.0))
     (entries_written form (earlier ++ e ∷ []) (suc n) more (omega (arith, place, length-append earlier (e ∷ [])))
     (entries_push form [] earlier e h parts.0) parts.1 ∙ ap Ok (append_assoc earlier (e ∷ []) more))
@@ -454,7 +497,7 @@ header_written Third texts = refl
 
 -- what is read was spelled so
 after_read : (form : Form) (ls : List (List ℕ)) (t : Tree) → after_header form ls ≡ Ok t →
-    (es : List Entry) × IsTrue (entries_fit form [] es) × (ls ≡ codes "0 dir" ∷ map entry_text es) × (t ≡ tree_of form es)
+    (es : List Entry) × IsTrue (entries_fit form [] es) × (ls ≡ codes "0 dir" ∷ map (entry_text form) es) × (t ≡ tree_of form es)
 after_read form [] t h = absurd (Err≢Ok (BadLine 2) t h)
 after_read form (text ∷ texts) t h =
     let root = held (same_bytes text (codes "0 dir")) (BadLine 2) (entries_of form [] 3 texts >>= λ es. Ok (tree_of form es)) t h in
@@ -463,7 +506,7 @@ after_read form (text ∷ texts) t h =
     (rest.0, rest.3, (λ i. same_word text (codes "0 dir") root.0 i ∷ rest.2 i), sym (same_Ok (tree_of form step.0) t step.2) ∙ ap (tree_of form) rest.1)
 
 lines_read : (ls : List (List ℕ)) (t : Tree) → listing_of_lines ls ≡ Ok t →
-    (form : Form) × (es : List Entry) × IsTrue (entries_fit form [] es) × (ls ≡ header_text form ∷ codes "0 dir" ∷ map entry_text es) ×
+    (form : Form) × (es : List Entry) × IsTrue (entries_fit form [] es) × (ls ≡ header_text form ∷ codes "0 dir" ∷ map (entry_text form) es) ×
     (t ≡ tree_of form es)
 lines_read [] t h = absurd (Err≢Ok BadHeader t h)
 lines_read (text ∷ texts) t h =
@@ -472,17 +515,27 @@ lines_read (text ∷ texts) t h =
     (first.0, rest.0, rest.1, (λ i. header_read text first.0 first.1 i ∷ rest.2 i), rest.3)
 
 lines_written : (form : Form) (es : List Entry) → IsTrue (entries_fit form [] es) →
-    listing_of_lines (header_text form ∷ codes "0 dir" ∷ map entry_text es) ≡ Ok (tree_of form es)
+    listing_of_lines (header_text form ∷ codes "0 dir" ∷ map (entry_text form) es) ≡ Ok (tree_of form es)
 lines_written form es h =
-    header_written form (codes "0 dir" ∷ map entry_text es)
-    ∙ step_from (entries_of form [] 3 (map entry_text es)) (λ es. Ok (tree_of form es)) es (tree_of form es)
+    header_written form (codes "0 dir" ∷ map (entry_text form) es)
+    ∙ step_from (entries_of form [] 3 (map (entry_text form) es)) (λ es. Ok (tree_of form es)) es (tree_of form es)
     (entries_written form [] 3 es refl refl h) refl
 
--- entries fit where hard links are known as they do where none are
-made_more : (earlier : List Entry) (e : Entry) (m : Option Node) → IsTrue (made_fits false earlier e m) →
-    IsTrue (made_fits true earlier e m)
+-- what a line of the first form makes may stand in the second, and is spelled alike there
+made_more : (earlier : List Entry) (e : Entry) (m : Option Node) → IsTrue (made_fits First earlier e m) →
+    IsTrue (made_fits Second earlier e m)
 made_more earlier e None h = absurd (true≢false (sym h))
-made_more earlier e (Some made) h = h
+made_more earlier e (Some made) h =
+    let parts = and_parts _ _ h in
+    let known = and_parts (kind_known First made.kind) _ parts.1 in
+    and_from _ _ parts.0 (and_from _ _ (by made.kind known.0) known.1)
+  where
+    by : (kind : Kind) → IsTrue (kind_known First kind) → IsTrue (kind_known Second kind)
+    by Dir h = refl
+    by File h = refl
+    by Prog h = refl
+    by Link h = refl
+    by (Known type) h = h
 
 fit_more : (earlier es : List Entry) → IsTrue (entries_fit First earlier es) → IsTrue (entries_fit Second earlier es)
 fit_more earlier [] h = refl
@@ -502,13 +555,44 @@ fit_more earlier (e ∷ es) h =
     }))
     (fit_more (earlier ++ e ∷ []) es parts.1)
 
+same_kind_word : (kind : Kind) → listing_kind_word First kind ≡ listing_kind_word Second kind
+same_kind_word Dir = refl
+same_kind_word File = refl
+same_kind_word Prog = refl
+same_kind_word Link = refl
+same_kind_word (Known type) = refl
+
+same_line_word : (kind : Option Kind) → line_word First kind ≡ line_word Second kind
+same_line_word None = refl
+same_line_word (Some kind) = same_kind_word kind
+
+same_texts : (es : List Entry) → map (entry_text First) es ≡ map (entry_text Second) es
+same_texts [] = refl
+same_texts (e ∷ es) = λ i.
+    (decimal e.number ++ 32 ∷ same_line_word (option_map (λ made. made.kind) e.made) i ++ 32 ∷ decimal e.parent ++ 32 ∷ spelling e.name
+    ++ last_field e.node e.made) ∷ same_texts es i
+
 pub second_forms_agree : SecondFormsAgree
 second_forms_agree texts t h =
     let read = after_read First texts t (sym (header_written First texts) ∙ h) in
-    ap (λ (ls : List (List ℕ)). listing_of_lines (header_text Second ∷ ls)) read.2 ∙ lines_written Second read.0 (fit_more [] read.0 read.1) ∙
-    ap Ok (sym read.3)
+    ap (λ (ls : List (List ℕ)). listing_of_lines (header_text Second ∷ ls)) (read.2 ∙ ap (λ ls. codes "0 dir" ∷ ls) (same_texts read.0))
+    ∙ lines_written Second read.0 (fit_more [] read.0 read.1) ∙ ap Ok (sym read.3)
 
--- and in a listing of the third form there is room for more
+-- and in a listing of the third form all kinds are known, and there is room for more
+known_there : (kind : Kind) → IsTrue (kind_known Third kind)
+known_there Dir = refl
+known_there File = refl
+known_there Prog = refl
+known_there Link = refl
+known_there (Known type) = refl
+
+made_wide : (earlier : List Entry) (e : Entry) (m : Option Node) → IsTrue (made_fits Second earlier e m) →
+    IsTrue (made_fits Third earlier e m)
+made_wide earlier e None h = h
+made_wide earlier e (Some made) h =
+    let parts = and_parts _ _ h in
+    and_from _ _ parts.0 (and_from _ _ (known_there made.kind) (and_parts (kind_known Second made.kind) _ parts.1).1)
+
 fit_wide : (earlier es : List Entry) → IsTrue (entries_fit Second earlier es) → IsTrue (entries_fit Third earlier es)
 fit_wide earlier [] h = refl
 fit_wide earlier (e ∷ es) h =
@@ -523,15 +607,12 @@ fit_wide earlier (e ∷ es) h =
       named = f.named;
       free = f.free;
       room = omega (arith, f.room);
-      made = f.made;
+      made = made_wide earlier e e.made f.made;
     }))
     (fit_wide (earlier ++ e ∷ []) es parts.1)
 
 pub third_forms_agree : ThirdFormsAgree
-third_forms_agree texts t h =
-    let read = after_read Second texts t (sym (header_written Second texts) ∙ h) in
-    ap (λ (ls : List (List ℕ)). listing_of_lines (header_text Third ∷ ls)) read.2 ∙ lines_written Third read.0 (fit_wide [] read.0 read.1) ∙
-    ap (λ (u : Tree). Ok (record u { room = most_wide_names })) (sym read.3)
+third_forms_agree es h = lines_written Third es (fit_wide [] es h)
 
 pub listings_are_read : ListingsAreRead
 listings_are_read bytes t = (λ h. lines_read (lines bytes) t h, λ l. ap listing_of_lines l.3 ∙ lines_written l.0 l.1 l.2 ∙ ap Ok (sym l.4))

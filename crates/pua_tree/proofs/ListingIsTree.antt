@@ -2,14 +2,14 @@
 use Rattle.pua_tree.specs.declared.form.Form.{Form}
 use Rattle.pua_tree.specs.declared.form.Form.TheVariants.{First, Second, Third}
 use Rattle.pua_tree.specs.Listing.{knows_hard, most_listed_of, most_names_of}
-use Rattle.pua_tree.proofs.Common.{◌<◌}
-use Rattle.pua_tree.proofs.Common.{◌≡◌, ℕ, ◌+◌, Bool, true, false, ltb, List, [], ◌∷◌, ◌++◌, length, Option, Some, None, is_some, refl, sym}
+use Rattle.pua_tree.proofs.Common.{◌<◌, ◌&&◌}
+use Rattle.pua_tree.proofs.Common.{◌≡◌, ℕ, ◌+◌, true, false, ltb, List, [], ◌∷◌, ◌++◌, length, Option, Some, None, is_some, refl, sym}
 use Rattle.pua_tree.proofs.Common.{subst, ◌∙◌, arith, append-nil, append_assoc, IsTrue, lt-ltb, and_parts, not-true, Node, WellFormed}
 use Rattle.pua_tree.proofs.Common.{is_dir, is_living, look, target_fits, Entry, tree_of, entry_fits, entries_fit, made_fits, Follows}
-use Rattle.pua_tree.proofs.Common.{Enters, Kind, Dir, File, Prog, Link}
+use Rattle.pua_tree.proofs.Common.{Enters, Kind, Dir, File, Prog, Link, Known}
 use Rattle.std.proofs.lemmas.Bool.{eqb-true}
 use Rattle.pua_tree.specs.Listing.{rows_of_entries}
-use Rattle.pua_tree.specs.Grammar.{target_stands}
+use Rattle.pua_tree.specs.Grammar.{kind_known, target_stands}
 use Rattle.pua_tree.proofs.Raised.{grown_keeps}
 use Rattle.pua_tree.proofs.Entries.{Fits, fits_parts, entries_rise, entries_push, earlier_dir_is_found, earlier_other_is_found}
 use Rattle.pua_tree.proofs.Entries.{taken_is_found, rows_few, tree_push}
@@ -18,10 +18,12 @@ target_kept : (kind : Kind) (target : Option (List ℕ)) → IsTrue (target_stan
 target_kept Dir None h = refl
 target_kept File None h = refl
 target_kept Prog None h = refl
+target_kept (Known type) None h = refl
 target_kept Link None h = h
 target_kept Dir (Some t) h = h
 target_kept File (Some t) h = h
 target_kept Prog (Some t) h = h
+target_kept (Known type) (Some t) h = h
 target_kept Link (Some t) h = (and_parts _ _ h).0
 
 -- a listing's lines leave room in its tree
@@ -51,15 +53,16 @@ fit_follows form es e h f = record {
     small : ltb e.number 4294967295 ≡ true
     small = lt-ltb _ _ (omega (arith, f.small))
 
-    enters : (m : Option Node) → IsTrue (made_fits (knows_hard form) es e m) → Enters (tree_of form es) e m
+    enters : (m : Option Node) → IsTrue (made_fits form es e m) → Enters (tree_of form es) e m
     enters None made =
         let other = and_parts _ _ (earlier_other_is_found form es e.node 0 (entries_rise form [] es h) ∙ (and_parts (knows_hard form) _ made).1) in
         let living : is_living (tree_of form es) e.node ≡ true = other.0 in
         let no_dir : is_dir (tree_of form es) e.node ≡ false = not-true _ other.1 in
         rw (in_dir, living, no_dir, free, few) refl
     enters (Some node) made =
-        let parts = and_parts _ (target_stands node.kind node.target) made in
-        (eqb-true e.node e.number parts.0, target_kept node.kind node.target parts.1, rw (in_dir, free, few, small) refl)
+        let parts = and_parts _ (kind_known form node.kind && target_stands node.kind node.target) made in
+        let stands = and_parts (kind_known form node.kind) _ parts.1 in
+        (eqb-true e.node e.number parts.0, target_kept node.kind node.target stands.1, rw (in_dir, free, few, small) refl)
 
 root_is_tree : (form : Form) → WellFormed (tree_of form [])
 root_is_tree form = record { rows_in_order = refl; nodes_in_order = refl; root = refl; rows_fit = refl; nodes_fit = refl }

@@ -7,11 +7,11 @@ use Rattle.pua_tree.specs.declared.numbering.Numbering.{Numbering}
 use Rattle.pua_tree.specs.Tree as tree
 use Rattle.pua_tree.specs.Tree.{target_at, spot_of, dir_spot, is_empty, has_no_row}
 use Rattle.pua_tree.specs.Tree.{found_at}
+use Rattle.pua_tree.specs.NamedRows.{spot_at}
 use Rattle.pua_tree.specs.Slots.{row_in, standing_of_dir}
 use Rattle.pua_tree.specs.declared.slots.Stance.{Stance}
-use Rattle.pua_tree.specs.declared.spot.Spot.{Spot}
 use Rattle.pua_tree.proofs.Common.{unwrap_or}
-use Rattle.pua_tree.specs.declared.slots.RowNode.{RowNode}
+use Rattle.pua_tree.specs.declared.spot.RowNode.{RowNode}
 use Rattle.pua_tree.proofs.Common.{IsSome}
 use Rattle.pua_tree.proofs.SlabEdits.{living_in, row_living}
 use Rattle.pua_tree.proofs.SlotsHold.{node_of_row, nodes_found, rows_found}
@@ -20,12 +20,12 @@ use Rattle.pua_tree.proofs.Sound.{sound_from, row_of, spot_stands, dir_kind}
 -- a directory knows its spot
 spot_known : (s : Slots) (numbering : Numbering) (d : ℕ) (n : SlotNode) → WellFormed (held_in_slots s numbering) → AreConsistent s →
     is_dir (held_in_slots s numbering) d ≡ true → d ≢ 0 → node_in s d ≡ Some n → n.kind ≡ Dir →
-    spot_of (held_in_slots s numbering) d ≡ Some (n.standing.spot.dir, n.standing.spot.name)
+    spot_of (held_in_slots s numbering) d ≡ spot_at s.rows.names n.standing.key
 spot_known s numbering d n w kept dir below here kind =
     let sound = sound_from (held_in_slots s numbering) w in
     let row = row_of (held_in_slots s numbering) sound d dir below in
     spot_stands (held_in_slots s numbering) sound d row.0 dir below row.1
-    ∙ ap (λ (k : Spot). Some (k.dir, k.name)) (sym (kept.standing.dir_spot row.0 d n row.1 here kind))
+    ∙ sym (kept.standing.dir_spot row.0 d n row.1 here kind)
 
 no_row_counted : (rows : List (tree.Spot × ℕ)) (d : ℕ) →
     list_all (λ row. eqb (cond (row.0.0 == d) 1 0) 0) rows ≡ not (list_any (λ row. row.0.0 == d) rows)
@@ -92,16 +92,17 @@ module _ (s : Slots) (numbering : Numbering) (d : ℕ) (w : WellFormed (held_in_
   dir_by : (o : Option SlotNode) → node_in s d ≡ o → is_dir held d ≡ is_dir_kind (option_map (λ (n : SlotNode). n.kind) o)
   dir_by o e = ap is_dir_kind (sym (kind_known s numbering d) ∙ ap (λ (o : Option SlotNode). option_map (λ n. n.kind) o) e)
 
-  pub spot_of_dir : (standing : Option Stance) → d ≢ 0 → standing ≡ option_and_then standing_of_dir (node_in s d) →
-      option_map (λ (st : Stance). (st.spot.dir, st.spot.name)) standing ≡ dir_spot held d
-  spot_of_dir standing below is = ap (option_map (λ (st : Stance). (st.spot.dir, st.spot.name))) is ∙ by (node_in s d) refl
+  -- the spot to which a node came last
+  abbrev came_to : Option Stance → Option tree.Spot
+  came_to o = option_and_then (λ (st : Stance). spot_at s.rows.names st.key) o
+
+  pub spot_of_dir : d ≢ 0 → came_to (option_and_then standing_of_dir (node_in s d)) ≡ dir_spot held d
+  spot_of_dir below = by (node_in s d) refl
     where
-      by : (o : Option SlotNode) → node_in s d ≡ o →
-          option_map (λ (st : Stance). (st.spot.dir, st.spot.name)) (option_and_then standing_of_dir o) ≡ dir_spot held d
+      by : (o : Option SlotNode) → node_in s d ≡ o → came_to (option_and_then standing_of_dir o) ≡ dir_spot held d
       by None e = sym (ap (λ b. cond b (spot_of held d) None) (dir_by None e))
       by (Some n) e =
-          elim (is_dir_kind (Some n.kind)) as (λ b. is_dir_kind (Some n.kind) ≡ b →
-          option_map (λ (st : Stance). (st.spot.dir, st.spot.name)) (cond b (Some n.standing) None) ≡ dir_spot held d) [
+          elim (is_dir_kind (Some n.kind)) as (λ b. is_dir_kind (Some n.kind) ≡ b → came_to (cond b (Some n.standing) None) ≡ dir_spot held d) [
             | true ↦ λ k. (let dir = dir_by (Some n) e ∙ k in
                 sym (ap (λ b. cond b (spot_of held d) None) dir ∙ spot_known s numbering d n w kept dir below e (dir_kind n.kind k)))
             | false ↦ λ k. sym (ap (λ b. cond b (spot_of held d) None) (dir_by (Some n) e ∙ k))

@@ -1,13 +1,13 @@
 -- A copy of rows and nodes holds the same tree, and is as consistent.
 use Rattle.pua_tree.proofs.Common.{◌≡◌, ℕ, zero, suc, List, [], ◌∷◌, Option, Some, None, option_map, is_some, refl, sym, ap, subst, ◌∙◌, option_and_then}
-use Rattle.pua_tree.proofs.Common.{lookup, made_of, node_in, slot_of, held_rows, held_nodes, held_in_slots, rows_in, names_of, AreConsistent, Slots}
+use Rattle.pua_tree.proofs.Common.{lookup, made_of, node_in, slot_of, held_in_slots, rows_in, names_of, AreConsistent, Slots}
 use Rattle.pua_tree.proofs.Common.{SlotNode, find, spot_cmp, count_by, length, ◌+◌, cond}
 use Rattle.std.specs.List.{AllZip, fold}
-use Rattle.slab.specs.Slab.{get as slot_get, slab_len, IsSlotClone}
+use Rattle.slab.specs.Slab.{get as slot_get, IsSlotClone}
 use Rattle.std.specs.Prelude.{slice_index_or}
 use Rattle.pua_tree.specs.declared.numbering.Numbering.{Numbering}
-use Rattle.pua_tree.specs.Tree as tree
-use Rattle.pua_tree.specs.Slots.{IsNodeCopy, AreCopied, key_at, row_in}
+use Rattle.pua_tree.specs.NamedRows.{key_at, spot_at}
+use Rattle.pua_tree.specs.Slots.{IsNodeCopy, AreCopied}
 use Rattle.pua_tree.proofs.Base.{same_Some, None≢Some}
 use Rattle.pua_tree.proofs.SlotsHold.{nodes_same, rows_by_entries}
 use Rattle.pua_tree.specs.contracts.spot.SpotPartialEq.TheImpl.{ghosts as spot_ghosts}
@@ -86,7 +86,7 @@ module _ (old new : Slots) (c : AreCopied old new) where
       names_counted = λ x n e. (let was = back_at (node_in old x) (node_in new x) (node_copied x) n e in
           ap (λ s. s.names) was.2.standing ∙ kept.standing.names_counted x was.0 was.1 ∙ ap (λ r. names_of r x) (sym rows));
       dir_spot = λ at x n f e d. (let was = back_at (node_in old x) (node_in new x) (node_copied x) n e in
-          ap (λ s. s.spot) was.2.standing ∙ kept.standing.dir_spot at x was.0 (ap (find spot_cmp at) (sym rows) ∙ f) was.1
+          (λ i. spot_at (c.names i) (was.2.standing i).key) ∙ kept.standing.dir_spot at x was.0 (ap (find spot_cmp at) (sym rows) ∙ f) was.1
           (sym (ap (λ m. m.kind) was.2.made) ∙ d));
     };
     kinds = λ at row n r e. (let was = back_at (node_in old row.node) (node_in new row.node) (node_copied row.node) n e in

@@ -10,7 +10,7 @@ use Rattle.indexmap.specs.IndexMap.{IsUnique}
 use Rattle.pua_tree.specs.Tree as tree
 use Rattle.pua_tree.specs.Slots.{IsFiled}
 use Rattle.pua_tree.specs.declared.spot.Spot.{Spot}
-use Rattle.pua_tree.specs.declared.slots.RowNode.{RowNode}
+use Rattle.pua_tree.specs.declared.spot.RowNode.{RowNode}
 use Rattle.pua_tree.specs.contracts.spot.SpotPartialEq.TheImpl.{ghosts as spot_ghosts}
 use Rattle.pua_tree.specs.contracts.node.NodeIdPartialEq.TheImpl.{ghosts as number_ghosts}
 use Rattle.pua_tree.proofs.Base.{Some≢None}
@@ -45,7 +45,7 @@ rows_as_many (e ∷ es) d =
     ap node_of_row (first_only spot_ghosts.eq e.0 es (IsDistinct-head spot_ghosts.eq e.0 (keys_of es) d)))
     ∙ ap suc (rows_as_many es (IsDistinct-tail spot_ghosts.eq e.0 (keys_of es) d))
 
-pub row_count_is : (s : Slots) → IsUnique spot_ghosts.eq s.rows → length (held_rows s) ≡ index_map_len s.rows
+pub row_count_is : (s : Slots) → IsDistinct spot_ghosts.eq (keys_of s.rows.entries) → length (held_rows s) ≡ length s.rows.entries
 row_count_is s d = rows_as_many s.rows.entries d
 
 some_value : {X : Type 0} (o : Option X) → IsSome o → (x : X) × (o ≡ Some x)

@@ -4,12 +4,12 @@ use Rattle.pua_tree.proofs.Common.{sym, ap, subst, ◌∙◌, eqb-true, eq-eqb, 
 use Rattle.pua_tree.proofs.Common.{tied_itself, Equal-is, find, put, is_sorted, nat_cmp-IsAntisymmetric, where_key, find-put, is_sorted-put}
 use Rattle.pua_tree.proofs.Common.{is_sorted-where_key, same_entries, and_parts, and_from, same_from_decides, bytes_decides, Slab, spot_cmp}
 use Rattle.pua_tree.proofs.Common.{row_at, node_in, made_of, in_order, with_entry, held_rows, held_nodes, Slots, SlotNode}
-use Rattle.indexmap.specs.IndexMap.{UpdatesBy}
 use Rattle.slab.specs.Slab.{get as slot_get}
 use Rattle.pua_tree.specs.Tree as tree
-use Rattle.pua_tree.specs.Slots.{key_at, row_in}
+use Rattle.pua_tree.specs.NamedRows.{key_at, ChangesAt}
+use Rattle.pua_tree.specs.Slots.{row_in}
 use Rattle.pua_tree.specs.declared.spot.Spot.{Spot}
-use Rattle.pua_tree.specs.declared.slots.RowNode.{RowNode}
+use Rattle.pua_tree.specs.declared.spot.RowNode.{RowNode}
 use Rattle.pua_tree.specs.contracts.spot.SpotPartialEq.TheImpl.{ghosts as spot_ghosts}
 use Rattle.pua_tree.specs.contracts.node.NodeIdPartialEq.TheImpl.{ghosts as number_ghosts}
 use Rattle.pua_tree.proofs.Content.{spots_total, exact_spots}
@@ -65,25 +65,24 @@ nodes_sorted s = sorted_in_order nat_cmp nat_cmp_total
 
 -- a row put
 pub rows_put : (old new : Slots) (at : tree.Spot) (row : RowNode) →
-    UpdatesBy spot_ghosts.eq (spot_ghosts.eq (key_at at)) old.rows new.rows (Some row)
-    → held_rows new ≡ put spot_cmp at row.node (held_rows old)
+    ChangesAt at (Some row) old.rows new.rows → held_rows new ≡ put spot_cmp at row.node (held_rows old)
 rows_put old new at row u =
     let x = row.node in
     same_entries spot_cmp spots_total exact_spots (held_rows new) (put spot_cmp at x (held_rows old)) (rows_sorted new)
     (is_sorted-put spot_cmp spots_total at x (held_rows old) (rows_sorted old))
-    (λ q. rows_found new q ∙ ap node_of_row (u.0 (key_at q))
+    (λ q. rows_found new q ∙ ap node_of_row (u (key_at q))
     ∙ node_of_one (spot_ghosts.eq (key_at at) (key_at q)) (Some row) (row_in old q)
     ∙ ap (λ b. cond b (Some x) (row_at old q)) (same_key at q ∙ turned_key at q)
     ∙ ap (λ v. cond (is_eq (spot_cmp q at)) (Some x) v) (sym (rows_found old q))
     ∙ sym (find-put spot_cmp spots_total q at x (held_rows old)))
 
 -- a row taken away
-pub rows_taken : (old new : Slots) (at : tree.Spot) → UpdatesBy spot_ghosts.eq (spot_ghosts.eq (key_at at)) old.rows new.rows None
+pub rows_taken : (old new : Slots) (at : tree.Spot) → ChangesAt at None old.rows new.rows
     → held_rows new ≡ where_key spot_cmp (λ spot. not (is_eq (spot_cmp at spot))) (held_rows old)
 rows_taken old new at u =
     same_entries spot_cmp spots_total exact_spots (held_rows new) (where_key spot_cmp (λ spot. not (is_eq (spot_cmp at spot)))
     (held_rows old)) (rows_sorted new) (is_sorted-where_key spot_cmp _ (held_rows old) (rows_sorted old))
-    (λ q. rows_found new q ∙ ap node_of_row (u.0 (key_at q))
+    (λ q. rows_found new q ∙ ap node_of_row (u (key_at q))
     ∙ node_of_one (spot_ghosts.eq (key_at at) (key_at q)) None (row_in old q)
     ∙ ap (λ b. cond b None (row_at old q)) (same_key at q)
     ∙ ap (λ v. cond (is_eq (spot_cmp at q)) None v) (sym (rows_found old q))

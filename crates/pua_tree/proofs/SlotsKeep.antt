@@ -3,16 +3,15 @@ use Rattle.pua_tree.proofs.Common.{◌≡◌, ◌≢◌, ℕ, ◌+◌, ◌-◌, 
 use Rattle.pua_tree.proofs.Common.{option_map, refl, sym, ap, ◌∙◌, arith, inl, inr, eqb-true, eq-eqb, IfSome, is_eq, find, put, where_key}
 use Rattle.pua_tree.proofs.Common.{spot_cmp, node_in, made_of, held_rows, held_nodes, rows_in, names_of, AreConsistent, Dir, Slots}
 use Rattle.pua_tree.proofs.Common.{SlotNode, subst, Kind}
-use Rattle.std.proofs.Common.{BuildHasherDefault, FoldHasher}
 use Rattle.std.proofs.lemmas.List.Sums.{count_by-le-length}
-use Rattle.indexmap.specs.IndexMap.{IndexMap, UpdatesBy}
 use Rattle.pua_tree.specs.Tree as tree
 use Rattle.pua_tree.specs.Slots.{with_stance, one_at, row_gained}
 use Rattle.pua_tree.specs.Slots.{row_lost, name_gained, name_lost, Restands, MayEnter, HasRow, IsFiled}
 use Rattle.pua_tree.specs.declared.slots.Stance.{Stance}
-use Rattle.pua_tree.specs.declared.slots.RowNode.{RowNode}
-use Rattle.pua_tree.specs.declared.spot.Spot.{Spot}
-use Rattle.pua_tree.specs.Slots.{key_at, row_in}
+use Rattle.pua_tree.specs.declared.spot.RowKey.{RowKey}
+use Rattle.pua_tree.specs.declared.spot.RowNode.{RowNode}
+use Rattle.pua_tree.specs.NamedRows.{HeldRows, key_at, spot_at, ChangesAt, KeepsNames}
+use Rattle.pua_tree.specs.Slots.{row_in}
 use Rattle.std.specs.Prelude.{Bool}
 use Rattle.pua_tree.specs.contracts.spot.SpotPartialEq.TheImpl.{ghosts as spot_ghosts}
 use Rattle.pua_tree.proofs.Base.{mapped, same_Some, Some≢None}
@@ -83,44 +82,44 @@ module _ (old more : Slots) (at : tree.Spot) (x : ℕ) (kept : AreConsistent old
       omega (arith, counted, within, small, names))
 
 -- a row put
-module _ (old more mid : Slots) (at : tree.Spot) (x : ℕ) (enters : MayEnter old at x) (small : length (held_rows old) < 2 ^ 63)
-    (row_more : IsFiled old → IfSome (node_in old at.0) (λ node. node.standing.rows < 2 ^ 63) → Restands old more (row_gained at.0))
+module _ (old more new : Slots) (rows : HeldRows) (at : tree.Spot) (x : ℕ) (key : RowKey) (enters : MayEnter old at x)
+    (small : length (held_rows old) < 2 ^ 63)
+    (row_more : IsFiled (record old { rows = rows }) → IfSome (node_in old at.0) (λ node. node.standing.rows < 2 ^ 63) →
+    Restands (record old { rows = rows }) more (row_gained at.0))
     (name_more : IsFiled more → IfSome (node_in more x) (λ node. node.standing.names < 2 ^ 63) →
-    Restands more mid (name_gained (key_at at) x)) where
+    Restands more new (name_gained key x)) where
   abbrev before_put : AreConsistent old
   before_put = enters.kept
 
-  abbrev gained_row : Restands old more (row_gained at.0)
-  gained_row = row_more before_put.filed (few_rows old more at x before_put small)
+  gained_row : Restands old more (row_gained at.0)
+  gained_row = let gained = row_more (record { filled = before_put.filed.filled; apart = before_put.filed.apart; no_other = before_put.filed.no_other })
+      (few_rows old more at x before_put small) in record { filed = gained.filed; nodes = gained.nodes }
 
-  abbrev gained_name : Restands more mid (name_gained (key_at at) x)
+  gained_name : Restands more new (name_gained key x)
   gained_name = name_more gained_row.filed (few_names old more at x before_put small gained_row)
 
-  pub nodes_after_put : held_nodes mid ≡ held_nodes old
-  nodes_after_put = nodes_same old mid (made_alike old more mid (row_gained at.0) (name_gained (key_at at) x) gained_row gained_name)
+  pub nodes_after_put : held_nodes new ≡ held_nodes old
+  nodes_after_put = nodes_same old new (made_alike old more new (row_gained at.0) (name_gained key x) gained_row gained_name)
 
-  module _ (kind : Kind) (rows : IndexMap Spot RowNode (BuildHasherDefault FoldHasher)) (same_rows : mid.rows ≡ old.rows)
-      (updates : UpdatesBy spot_ghosts.eq (spot_ghosts.eq (key_at at)) mid.rows rows (Some (record { node = x; kind = kind }))) where
-    abbrev new : Slots
-    new = record mid { rows = rows }
-
+  module _ (kind : Kind) (changes : ChangesAt at (Some (record { node = x; kind = kind })) old.rows rows)
+      (names : KeepsNames old.rows rows) (key_is : spot_at rows.names key ≡ Some at) (same_rows : new.rows ≡ rows) where
     abbrev placed : RowNode
     placed = record { node = x; kind = kind }
 
     none_there : find spot_cmp at (held_rows old) ≡ None
     none_there = rows_found old at ∙ enters.free
 
-    rows_after_put : held_rows new ≡ put spot_cmp at x (held_rows old)
-    rows_after_put = rows_put mid new at placed updates ∙ ap (put spot_cmp at x) (rows_by mid old same_rows)
+    pub rows_after_put : held_rows new ≡ put spot_cmp at x (held_rows old)
+    rows_after_put = rows_by new (record old { rows = rows }) same_rows ∙ rows_put old (record old { rows = rows }) at placed changes
 
     stood : (y : ℕ) (m : SlotNode) → node_in new y ≡ Some m →
         (n : SlotNode) × (node_in old y ≡ Some n)
-        × (changed old more mid (row_gained at.0) (name_gained (key_at at) x) gained_row gained_name y n ≡ m)
-    stood = was old more mid (row_gained at.0) (name_gained (key_at at) x) gained_row gained_name
+        × (changed old more new (row_gained at.0) (name_gained key x) gained_row gained_name y n ≡ m)
+    stood = was old more new (row_gained at.0) (name_gained key x) gained_row gained_name
 
-    pub kept_after_put : ((n : SlotNode) → node_in more x ≡ Some n → n.kind ≡ kind) → AreConsistent new
+    pub kept_after_put : ((n : SlotNode) → node_in old x ≡ Some n → n.kind ≡ kind) → AreConsistent new
     kept_after_put kind_is = record {
-      filed = record { filled = gained_name.filed.filled; apart = gained_name.filed.apart; no_other = gained_name.filed.no_other };
+      filed = gained_name.filed;
       standing = record {
         rows_counted = λ y m e. (let w = stood y m e in
             sym (ap (λ (n : SlotNode). n.standing.rows) w.2)
@@ -135,45 +134,43 @@ module _ (old more mid : Slots) (at : tree.Spot) (x : ℕ) (enters : MayEnter ol
         dir_spot = λ spot y m f e d. (let w = stood y m e in
             let found : find spot_cmp spot (put spot_cmp at x (held_rows old)) ≡ Some y = ap (find spot_cmp spot) (sym rows_after_put) ∙
             f in
-            let now : m.standing.spot ≡ cond (x == y) (key_at at) w.0.standing.spot = sym (ap (λ (n : SlotNode). n.standing.spot) w.2) in
+            let now : m.standing.key ≡ cond (x == y) key w.0.standing.key = sym (ap (λ (n : SlotNode). n.standing.key) w.2) in
             let kind : w.0.kind ≡ Dir = ap (λ (n : SlotNode). n.kind) w.2 ∙ d in
+            ap (spot_at new.rows.names) now ∙ ap (λ r. spot_at r.names (cond (x == y) key w.0.standing.key)) same_rows ∙
             elim (same_or_other spot_cmp spots_total exact_spots spot at) [
               | inl s ↦ (let here : x ≡ y = same_Some x y (sym (put_here spot_cmp spots_total exact_spots at x (held_rows old)) ∙
                   ap (λ q. find spot_cmp q (put spot_cmp at x (held_rows old))) (sym s.0) ∙ found) in
-                  now ∙ ap (λ t. cond t (key_at at) w.0.standing.spot) (eq-eqb x y here) ∙ ap key_at (sym s.0))
-              | inr s ↦ (let row : find spot_cmp spot (held_rows old) ≡ Some y =
-                  sym (put_elsewhere spot_cmp spots_total exact_spots spot at x (held_rows old) s.0) ∙ found in
-                  now ∙ elsewhere spot y w.0 kind w.1 row)
+                  ap (λ t. spot_at rows.names (cond t key w.0.standing.key)) (eq-eqb x y here) ∙ key_is ∙ ap Some (sym s.0))
+              | inr s ↦ elsewhere spot y w.0 kind w.1
+                  (sym (put_elsewhere spot_cmp spots_total exact_spots spot at x (held_rows old) s.0) ∙ found)
             ]);
       };
       kinds = λ q row m r e. (let w = stood row.node m e in
           sym (ap (λ (n : SlotNode). n.kind) w.2) ∙
-          said q row w.0 w.1 (spot_ghosts.eq (key_at at) (key_at q)) (sym (updates.0 (key_at q)) ∙ r));
+          said q row w.0 w.1 (spot_ghosts.eq (key_at at) (key_at q)) (sym (changes (key_at q)) ∙
+          sym (row_by new (record old { rows = rows }) same_rows q) ∙ r));
     }
       where
         elsewhere : (spot : tree.Spot) (y : ℕ) (n : SlotNode) → n.kind ≡ Dir → node_in old y ≡ Some n →
-            find spot_cmp spot (held_rows old) ≡ Some y → cond (x == y) (key_at at) n.standing.spot ≡ key_at spot
+            find spot_cmp spot (held_rows old) ≡ Some y → spot_at rows.names (cond (x == y) key n.standing.key) ≡ Some spot
         elsewhere spot y n kind e row =
-            elim (x == y) as (λ b. (x == y) ≡ b → cond b (key_at at) n.standing.spot ≡ key_at spot) [
+            elim (x == y) as (λ b. (x == y) ≡ b → spot_at rows.names (cond b key n.standing.key) ≡ Some spot) [
               | true ↦ λ t. (let here : x ≡ y = eqb-true x y t in
                   absurd (named (held_rows old) spot y row (ap (names_of (held_rows old)) (sym here) ∙
                   enters.may.dir_once n (ap (node_in old) here ∙ e) kind)))
-              | false ↦ λ _. before_put.standing.dir_spot spot y n row e kind
+              | false ↦ λ _. names n.standing.key spot (before_put.standing.dir_spot spot y n row e kind)
             ] refl
 
         said : (q : tree.Spot) (row : RowNode) (n : SlotNode) → node_in old row.node ≡ Some n → (here : Bool) →
-            cond here (Some placed) (row_in mid q) ≡ Some row → n.kind ≡ row.kind
+            cond here (Some placed) (row_in old q) ≡ Some row → n.kind ≡ row.kind
         said q row n e true r =
             let same = same_Some placed row r in
-            let here = ap (λ (p : RowNode). node_in old p.node) same ∙ e in
-            kind_is (with_stance (row_gained at.0 x n.standing) n) (gained_row.nodes x ∙
-            ap (option_map (λ m. with_stance (row_gained at.0 x m.standing) m)) here)
-            ∙ ap (λ (p : RowNode). p.kind) same
-        said q row n e false r = before_put.kinds q row n (sym (row_by mid old same_rows q) ∙ r) e
+            kind_is n (ap (λ (p : RowNode). node_in old p.node) same ∙ e) ∙ ap (λ (p : RowNode). p.kind) same
+        said q row n e false r = before_put.kinds q row n r e
 
 -- a row taken away
-module _ (old more new : Slots) (rows : IndexMap Spot RowNode (BuildHasherDefault FoldHasher)) (at : tree.Spot) (x : ℕ)
-    (has : HasRow old at x) (updates : UpdatesBy spot_ghosts.eq (spot_ghosts.eq (key_at at)) old.rows rows None)
+module _ (old more new : Slots) (rows : HeldRows) (at : tree.Spot) (x : ℕ)
+    (has : HasRow old at x) (changes : ChangesAt at None old.rows rows) (same_names : rows.names ≡ old.rows.names)
     (row_less : IsFiled (record old { rows = rows }) → Restands (record old { rows = rows }) more (row_lost at.0))
     (name_less : IsFiled more → Restands more new (name_lost x)) (same_rows : new.rows ≡ rows) where
   abbrev before_take : AreConsistent old
@@ -201,7 +198,7 @@ module _ (old more new : Slots) (rows : IndexMap Spot RowNode (BuildHasherDefaul
   one_name_fewer y = counted-without spot_cmp spots_total exact_spots (λ row. row.1 == y) at x (held_rows old) (rows_sorted old) found_there
 
   rows_after_take : held_rows new ≡ where_key spot_cmp (λ spot. not (is_eq (spot_cmp at spot))) (held_rows old)
-  rows_after_take = rows_by new between same_rows ∙ rows_taken old between at updates
+  rows_after_take = rows_by new between same_rows ∙ rows_taken old between at changes
 
   pub nodes_after_take : held_nodes new ≡ held_nodes old
   nodes_after_take = nodes_same old new (made_alike between more new (row_lost at.0) (name_lost x) lost_row lost_name)
@@ -239,12 +236,13 @@ module _ (old more new : Slots) (rows : IndexMap Spot RowNode (BuildHasherDefaul
           (one_name_fewer y)
           ∙ sym (ap (λ rows. names_of rows y) rows_after_take));
       dir_spot = λ spot y m f e d. (let w = left y m e in
-          sym (ap (λ (n : SlotNode). n.standing.spot) w.2)
+          ap (spot_at new.rows.names) (sym (ap (λ (n : SlotNode). n.standing.key) w.2))
+          ∙ ap (λ r. spot_at r.names w.0.standing.key) same_rows ∙ ap (λ names. spot_at names w.0.standing.key) same_names
           ∙ before_take.standing.dir_spot spot y w.0 (row_was spot y f) w.1 (ap (λ (n : SlotNode). n.kind) w.2 ∙ d));
     };
     kinds = λ q row m r e. (let w = left row.node m e in
         sym (ap (λ (n : SlotNode). n.kind) w.2) ∙
-        before_take.kinds q row w.0 (stayed (row_in old q) (spot_ghosts.eq (key_at at) (key_at q)) row (sym (updates.0 (key_at q)) ∙
+        before_take.kinds q row w.0 (stayed (row_in old q) (spot_ghosts.eq (key_at at) (key_at q)) row (sym (changes (key_at q)) ∙
         sym (row_by new between same_rows q) ∙ r)) w.1);
   }
     where

@@ -5,7 +5,8 @@ use Rattle.pua_tree.proofs.Common.{node_in, held_rows, rows_in, names_of, AreCon
 use Rattle.std.proofs.Common.{ne_eqb}
 use Rattle.slab.specs.Slab.{get as slot_get, slab_len, Updates}
 use Rattle.std.specs.Option.{OnSome}
-use Rattle.pua_tree.specs.Slots.{key_at, IsFiled}
+use Rattle.pua_tree.specs.NamedRows.{key_at, spot_at}
+use Rattle.pua_tree.specs.Slots.{IsFiled}
 use Rattle.pua_tree.proofs.Base.{same_Some, None≢Some}
 use Rattle.pua_tree.specs.contracts.spot.SpotPartialEq.TheImpl.{ghosts as spot_ghosts}
 use Rattle.pua_tree.proofs.Common.{lookup}
@@ -13,14 +14,15 @@ use Rattle.pua_tree.proofs.SlotsHold.{node_of_row, rows_found, rows_by_entries}
 use Rattle.pua_tree.proofs.SlotsKeep.{named, rows_by, row_by}
 
 -- what is found alike is kept alike
-pub kept_alike : (old new : Slots) → old.rows.entries ≡ new.rows.entries → ((x : ℕ) → node_in new x ≡ node_in old x) → IsFiled new →
+pub kept_alike : (old new : Slots) → old.rows.entries ≡ new.rows.entries → old.rows.names ≡ new.rows.names → ((x : ℕ) → node_in new x ≡ node_in old x) → IsFiled new →
     AreConsistent old → AreConsistent new
-kept_alike old new entries found filed kept = let rows = rows_by_entries new old (sym entries) in record {
+kept_alike old new entries names found filed kept = let rows = rows_by_entries new old (sym entries) in record {
   filed = filed;
   standing = record {
     rows_counted = λ x n e. kept.standing.rows_counted x n (sym (found x) ∙ e) ∙ ap (λ r. rows_in r x) (sym rows);
     names_counted = λ x n e. kept.standing.names_counted x n (sym (found x) ∙ e) ∙ ap (λ r. names_of r x) (sym rows);
-    dir_spot = λ at x n f e d. kept.standing.dir_spot at x n (ap (find spot_cmp at) (sym rows) ∙ f) (sym (found x) ∙ e) d;
+    dir_spot = λ at x n f e d. ap (λ ns. spot_at ns n.standing.key) (sym names) ∙
+        kept.standing.dir_spot at x n (ap (find spot_cmp at) (sym rows) ∙ f) (sym (found x) ∙ e) d;
   };
   kinds = λ at row n r e. kept.kinds at row n (ap (lookup (spot_ghosts.eq (key_at at))) entries ∙ r) (sym (found row.node) ∙ e);
 }
@@ -105,8 +107,9 @@ module _ (old new : Slots) (x slot : ℕ) (node : SlotNode) (f : IsFiled old) (f
           sym (ap (names_of (held_rows new)) t ∙ ap (λ r. names_of r x) rows ∙ no_names)) (λ w. kept.standing.names_counted q n w ∙
           ap (λ r. names_of r q) (sym rows));
       dir_spot = λ at q n g e d. (let row : find spot_cmp at (held_rows old) ≡ Some q = ap (find spot_cmp at) (sym rows) ∙ g in
-          by q n e (λ m. m.standing.spot ≡ key_at at) (λ t. absurd (named (held_rows old) at q row (ap (names_of (held_rows old)) t ∙
-          no_names))) (λ w. kept.standing.dir_spot at q n row w d));
+          by q n e (λ m. spot_at new.rows.names m.standing.key ≡ Some at) (λ t. absurd (named (held_rows old) at q row
+          (ap (names_of (held_rows old)) t ∙ no_names))) (λ w. ap (λ r. spot_at r.names n.standing.key) same ∙
+          kept.standing.dir_spot at q n row w d));
     };
     kinds = λ at row n r e. (let row_was = sym (row_by new old same at) ∙ r in
         by row.node n e (λ m. m.kind ≡ row.kind) (λ t. absurd (named (held_rows old) at row.node (rows_found old at ∙
@@ -167,7 +170,8 @@ kept_dropped old new x kept same found filed = let rows = rows_by new old same i
   standing = record {
     rows_counted = λ q n e. kept.standing.rows_counted q n (was q n e) ∙ ap (λ r. rows_in r q) (sym rows);
     names_counted = λ q n e. kept.standing.names_counted q n (was q n e) ∙ ap (λ r. names_of r q) (sym rows);
-    dir_spot = λ at q n g e d. kept.standing.dir_spot at q n (ap (find spot_cmp at) (sym rows) ∙ g) (was q n e) d;
+    dir_spot = λ at q n g e d. ap (λ r. spot_at r.names n.standing.key) same ∙
+        kept.standing.dir_spot at q n (ap (find spot_cmp at) (sym rows) ∙ g) (was q n e) d;
   };
   kinds = λ at row n r e. kept.kinds at row n (sym (row_by new old same at) ∙ r) (was row.node n e);
 }

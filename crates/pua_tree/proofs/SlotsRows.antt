@@ -14,11 +14,10 @@ use Rattle.std.proofs.lemmas.Map.Views.{Contains-from_lookup, lookup-from_Contai
 use Rattle.std.proofs.Math.ListN.{get_or-map}
 use Rattle.std.proofs.lemmas.List.{length-map}
 use lib.ListN.{get_or}
-use Rattle.indexmap.specs.IndexMap.{IsUnique}
 use Rattle.pua_tree.specs.Tree as tree
-use Rattle.pua_tree.specs.Slots.{key_at}
+use Rattle.pua_tree.specs.NamedRows.{key_at, tree_row}
 use Rattle.pua_tree.specs.declared.spot.Spot.{Spot}
-use Rattle.pua_tree.specs.declared.slots.RowNode.{RowNode}
+use Rattle.pua_tree.specs.declared.spot.RowNode.{RowNode}
 use Rattle.pua_tree.specs.declared.tree.LentRow.{LentRow}
 use Rattle.pua_tree.specs.contracts.spot.SpotPartialEq.TheImpl.{ghosts as spot_ghosts}
 use Rattle.pua_tree.specs.contracts.tree.LentRowOrd.TheImpl.{ghosts as lent_ghosts}
@@ -63,26 +62,22 @@ module _ {K X : Type 0} (R : K → K → Ordering) (o : IsTotalOrder R) (exact :
       both true b p q = q
       both false b p q = p
 
--- the row of an entry
-abbrev pub entry_of : Spot × RowNode → tree.Spot × ℕ
-entry_of e = ((e.0.dir, e.0.name), e.1.node)
-
 abbrev same_spot : tree.Spot → tree.Spot → Bool
 same_spot = eq_by_cmp spot_cmp
 
 all_differ : (k : Spot) (es : List (Spot × RowNode)) → AllByRecursion (λ y. spot_ghosts.eq k y ≡ false) (keys_of es) →
-    AllByRecursion (λ y. same_spot (k.dir, k.name) y ≡ false) (keys_of (map entry_of es))
+    AllByRecursion (λ y. same_spot (k.dir, k.name) y ≡ false) (keys_of (map tree_row es))
 all_differ k [] h = tt
 all_differ k (e ∷ es) h = (same_tie (k.dir, k.name) (e.0.dir, e.0.name) ∙ h.0, all_differ k es h.1)
 
 -- distinct keys are distinct spots
-spots_differ : (es : List (Spot × RowNode)) → IsDistinct spot_ghosts.eq (keys_of es) → IsDistinct same_spot (keys_of (map entry_of es))
+spots_differ : (es : List (Spot × RowNode)) → IsDistinct spot_ghosts.eq (keys_of es) → IsDistinct same_spot (keys_of (map tree_row es))
 unfolding IsDistinct
 spots_differ [] d = tt
 spots_differ (e ∷ es) d = (all_differ e.0 es d.0, spots_differ es d.1)
 
 looked_up : (q : tree.Spot) (es : List (Spot × RowNode)) →
-    lookup (same_spot q) (map entry_of es) ≡ node_of_row (lookup (spot_ghosts.eq (key_at q)) es)
+    lookup (same_spot q) (map tree_row es) ≡ node_of_row (lookup (spot_ghosts.eq (key_at q)) es)
 looked_up q [] = refl
 looked_up q (e ∷ es) = (λ i. cond (same_tie q (e.0.dir, e.0.name) i) (Some e.1.node) (looked_up q es i))
     ∙ sym (node_of_one (spot_ghosts.eq (key_at q) e.0) (Some e.1) (lookup (spot_ghosts.eq (key_at q)) es))
@@ -119,16 +114,16 @@ rise (r ∷ rs) order d =
     (sym (λ i. same_spot (read k i) (read (k + 1) i)) ∙ apart_from_distinct same_spot keys k (k + 1) first d (omega arith) small)))
 
 -- the rows that are lent, sorted
-pub rows_lent : (s : Slots) (kept rows : List LentRow) → IsUnique spot_ghosts.eq s.rows →
-    map lent_entry kept ≡ map entry_of s.rows.entries → IsPermutation kept rows → IsSorted lent_ghosts.cmp rows
+pub rows_lent : (s : Slots) (kept rows : List LentRow) → IsDistinct spot_ghosts.eq (keys_of s.rows.entries) →
+    map lent_entry kept ≡ map tree_row s.rows.entries → IsPermutation kept rows → IsSorted lent_ghosts.cmp rows
     → map lent_entry rows ≡ held_rows s
 rows_lent s kept rows unique collected moved order =
-    let moved_rows : IsPermutation (map entry_of s.rows.entries) (map lent_entry rows) =
+    let moved_rows : IsPermutation (map tree_row s.rows.entries) (map lent_entry rows) =
     rw collected at (IsPermutation-map lent_entry kept rows moved) in
-    let differ : IsDistinct same_spot (keys_of (map entry_of s.rows.entries)) = spots_differ s.rows.entries unique in
+    let differ : IsDistinct same_spot (keys_of (map tree_row s.rows.entries)) = spots_differ s.rows.entries unique in
     let still : IsDistinct same_spot (keys_of (map lent_entry rows)) =
     IsDistinct-IsPermutation same_spot turned_key _ _ (IsPermutation-map (λ (e : tree.Spot × ℕ). e.0) _ _ moved_rows) differ in
     same_entries spot_cmp spots_total exact_spots (map lent_entry rows) (held_rows s) (rise rows order still) (rows_sorted s)
     (λ q. find_is spot_cmp spots_total exact_spots q (map lent_entry rows)
-    ∙ sym (found_alike spot_cmp spots_total exact_spots (map entry_of s.rows.entries) (map lent_entry rows) moved_rows differ still q)
+    ∙ sym (found_alike spot_cmp spots_total exact_spots (map tree_row s.rows.entries) (map lent_entry rows) moved_rows differ still q)
     ∙ looked_up q s.rows.entries ∙ sym (rows_found_in s.rows.entries q))

@@ -5,7 +5,7 @@ use Rattle.pua_tree.proofs.Common.{eqb-true, eq-eqb, eqb-false}
 use Rattle.pua_tree.proofs.Common.{option_and_then, passes, list_any, nat_cmp, nat_cmp_total, is_sorted, nat_cmp-IsAntisymmetric}
 use Rattle.pua_tree.proofs.Common.{is_sorted-where_key, and_parts, and_from, or_cases, false≢true, not-true, is_name, Node, Spot, Tree}
 use Rattle.pua_tree.proofs.Common.{WellFormed, spot_cmp, kind_at, look, is_dir, is_dir_kind, is_living, above, climb_within, row_fits}
-use Rattle.pua_tree.proofs.Common.{target_fits, Kind, Dir, File, Prog, Link}
+use Rattle.pua_tree.proofs.Common.{target_fits, Kind, Dir, File, Prog, Link, Known}
 use Rattle.std.proofs.Common.{leb-true}
 use Rattle.std.proofs.Common.{le-leb, ltb-true, lt-ltb, find}
 use Rattle.std.specs.FinMap.{find as find_key}
@@ -212,6 +212,7 @@ dir_kind Dir e = refl
 dir_kind File e = absurd (false≢true e)
 dir_kind Prog e = absurd (false≢true e)
 dir_kind Link e = absurd (false≢true e)
+dir_kind (Known type) e = absurd (false≢true e)
 
 dir_node : (o : Option Node) → is_dir_kind (option_map (λ n. n.kind) o) ≡ true → (n : Node) × (o ≡ Some n) × (n.kind ≡ Dir)
 dir_node None e = absurd (false≢true e)
@@ -223,6 +224,7 @@ named_by t (suc x) Dir n h = let rows = eqb-true (rows_of t (suc x)) 1 (and_part
 named_by t (suc x) File n h = leb-true 1 _ h
 named_by t (suc x) Prog n h = leb-true 1 _ h
 named_by t (suc x) Link n h = leb-true 1 _ h
+named_by t (suc x) (Known type) n h = leb-true 1 _ h
 
 once_by : (t : Tree) (x : ℕ) → x ≢ 0 → rows_fit_kind t x Dir ≡ true → (rows_of t x ≡ 1) × ((k : ℕ) × Reaches t k x)
 once_by t zero n h = absurd (n refl)
@@ -241,6 +243,8 @@ fits_by t f (suc x) File living dir =
 fits_by t f (suc x) Prog living dir =
     le-leb 1 _ (subst (λ r. 1 ≤ r) (tally_counts (λ y. y == suc x) t.rows) (f.named (suc x) living (λ z. omega arith)))
 fits_by t f (suc x) Link living dir =
+    le-leb 1 _ (subst (λ r. 1 ≤ r) (tally_counts (λ y. y == suc x) t.rows) (f.named (suc x) living (λ z. omega arith)))
+fits_by t f (suc x) (Known type) living dir =
     le-leb 1 _ (subst (λ r. 1 ≤ r) (tally_counts (λ y. y == suc x) t.rows) (f.named (suc x) living (λ z. omega arith)))
 
 node_parts : (t : Tree) (x : ℕ) (n : Node) → node_fits t (x, n) ≡ true → (x < t.next) × (target_fits n.kind n.target ≡ true) ×

@@ -6,7 +6,9 @@ use Rattle.pua_tree.specs.Tree.{Node, Tree, WellFormed, empty_tree, root_alone}
 use Rattle.pua_tree.specs.Edits.{add, tie, cut, shift}
 use Rattle.pua_tree.specs.Spelling.{name_of}
 use Rattle.pua_tree.specs.Listing.{Entry, listing, entry_or_fault}
-use Rattle.pua_tree.specs.declared.node.Kind.TheVariants.{Dir, File, Prog, Link}
+use Rattle.pua_tree.specs.declared.node.Kind.{Kind}
+use Rattle.pua_tree.specs.declared.node.Kind.TheVariants.{Dir, File, Prog, Link, Known}
+use Rattle.pua_tree.specs.declared.node.FileType.TheVariants.{Plain, Sock, Fifo, Dev}
 use Rattle.pua_tree.specs.declared.fault.ListingFault.TheVariants.{BadHeader, BadLine, BadNumber, BadParent, BadName, BadTarget, Taken}
 use Rattle.pua_tree.specs.declared.fault.ListingFault.TheVariants.{TooMany, BadNode}
 use Rattle.pua_tree.specs.declared.fault.NameFault.TheVariants.{BadSpelling, Empty, TooLong, NotAName}
@@ -53,6 +55,14 @@ tree_of_two_names = record empty_tree {
   next = 3;
 }
 
+-- the tree that a listing of the third form with one name beside the root lists
+abbrev wide_tree : Kind → Tree
+wide_tree kind = record (root_alone most_wide_names) {
+  rows = ((0, codes "a"), 1) ∷ [];
+  nodes = (0, record { kind = Dir; target = None }) ∷ (1, record { kind = kind; target = None }) ∷ [];
+  next = 2;
+}
+
 -- what is no listing, by its first fault
 pub record ListingRows : Type 0 where
   pub example : listing example_listing ≡ Ok example_tree
@@ -90,6 +100,19 @@ pub record ListingRows : Type 0 where
       ∷ codes "3 file 2 c" ∷ [])) ≡ Err (BadParent 5)
   pub unknown_kind : listing (text_of_lines (codes "tree 1" ∷ codes "0 dir" ∷ codes "1 file 0 a" ∷ codes "2 hard 0 b 1" ∷ []))
       ≡ Err (BadLine 4)
+  pub typed_file : listing (text_of_lines (codes "tree 3" ∷ codes "0 dir" ∷ codes "1 file 0 a" ∷ [])) ≡ Ok (wide_tree (Known Plain))
+  pub typed_any : listing (text_of_lines (codes "tree 3" ∷ codes "0 dir" ∷ codes "1 any 0 a" ∷ [])) ≡ Ok (wide_tree File)
+  pub typed_sock : listing (text_of_lines (codes "tree 3" ∷ codes "0 dir" ∷ codes "1 sock 0 a" ∷ [])) ≡ Ok (wide_tree (Known Sock))
+  pub typed_fifo : listing (text_of_lines (codes "tree 3" ∷ codes "0 dir" ∷ codes "1 fifo 0 a" ∷ [])) ≡ Ok (wide_tree (Known Fifo))
+  pub typed_dev : listing (text_of_lines (codes "tree 3" ∷ codes "0 dir" ∷ codes "1 dev 0 a" ∷ [])) ≡ Ok (wide_tree (Known Dev))
+  pub untyped_any : listing (text_of_lines (codes "tree 2" ∷ codes "0 dir" ∷ codes "1 any 0 a" ∷ [])) ≡ Err (BadLine 3)
+  pub untyped_sock : listing (text_of_lines (codes "tree 2" ∷ codes "0 dir" ∷ codes "1 sock 0 a" ∷ [])) ≡ Err (BadLine 3)
+  pub untyped_fifo : listing (text_of_lines (codes "tree 1" ∷ codes "0 dir" ∷ codes "1 fifo 0 a" ∷ [])) ≡ Err (BadLine 3)
+  pub untyped_dev : listing (text_of_lines (codes "tree 1" ∷ codes "0 dir" ∷ codes "1 dev 0 a" ∷ [])) ≡ Err (BadLine 3)
+  pub sock_holds_nothing : listing (text_of_lines (codes "tree 3" ∷ codes "0 dir" ∷ codes "1 sock 0 a" ∷ codes "2 file 1 b" ∷ []))
+      ≡ Err (BadParent 4)
+  pub hard_to_sock : listing (text_of_lines (codes "tree 3" ∷ codes "0 dir" ∷ codes "1 sock 0 a" ∷ codes "2 hard 0 b 1" ∷ []))
+      ≡ Ok (record (wide_tree (Known Sock)) { rows = ((0, codes "a"), 1) ∷ ((0, codes "b"), 1) ∷ []; next = 3 })
   pub first_0 : listing (take 0 example_listing) ≡ Err BadHeader
   pub first_5 : listing (take 5 example_listing) ≡ Err BadHeader
   pub first_6 : listing (take 6 example_listing) ≡ Err (BadLine 2)
@@ -125,6 +148,17 @@ listing_rows = record {
   hard_taken = refl;
   hard_is_no_dir = refl;
   unknown_kind = refl;
+  typed_file = refl;
+  typed_any = refl;
+  typed_sock = refl;
+  typed_fifo = refl;
+  typed_dev = refl;
+  untyped_any = refl;
+  untyped_sock = refl;
+  untyped_fifo = refl;
+  untyped_dev = refl;
+  sock_holds_nothing = refl;
+  hard_to_sock = refl;
   first_0 = refl;
   first_5 = refl;
   first_6 = refl;

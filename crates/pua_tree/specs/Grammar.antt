@@ -1,5 +1,5 @@
 -- What a listing is as a text: the lines that spell its entries, each of which fits those before it.
-use Rattle.std.specs.Prelude.{◌≡◌, ℕ, ◌+◌, Bool, true, false, not, ◌&&◌, if◌then◌else◌, List, [], ◌∷◌, ◌++◌, map, length, Option, Some}
+use Rattle.std.specs.Prelude.{◌≡◌, ℕ, ◌+◌, Bool, true, false, not, ◌&&◌, List, [], ◌∷◌, ◌++◌, map, length, Option, Some}
 use Rattle.std.specs.Prelude.{None, codes, decimal, IsTrue, nat_lt, nat_le, ◌==◌, option_map, Ok, ◌↔◌}
 use Rattle.std.specs.List.{list_all}
 use Rattle.std.specs.Str.Lines.{lines}
@@ -10,18 +10,25 @@ use Rattle.pua_tree.specs.Kinds.{about_kind}
 use Rattle.pua_tree.specs.Tree.{Node, Tree, WellFormed}
 use Rattle.pua_tree.specs.declared.form.Form.{Form}
 use Rattle.pua_tree.specs.declared.form.Form.TheVariants.{First, Second, Third}
-use Rattle.pua_tree.specs.Listing.{knows_hard, most_listed_of}
+use Rattle.pua_tree.specs.Listing.{knows_hard, knows_types, most_listed_of}
 use Rattle.pua_tree.specs.Listing.{Entry, last_number, is_earlier_dir, is_earlier_other, is_taken, tree_of, listing, listing_of_lines}
 use Rattle.pua_tree.specs.declared.node.Kind.{Kind}
-use Rattle.pua_tree.specs.declared.node.Kind.TheVariants.{Link}
+use Rattle.pua_tree.specs.declared.node.Kind.TheVariants.{File, Link, Known}
 
-abbrev pub listing_kind_word : Kind → List ℕ
-listing_kind_word kind = (about_kind kind).word
+-- the word of a file of which no more is known
+abbrev pub file_word : Form → List ℕ
+file_word First = codes "file"
+file_word Second = codes "file"
+file_word Third = codes "any"
+
+abbrev pub listing_kind_word : Form → Kind → List ℕ
+listing_kind_word form File = file_word form
+listing_kind_word form kind = (about_kind kind).word
 
 -- the word of a line: the kind of what it makes, if it makes something
-abbrev pub line_word : Option Kind → List ℕ
-line_word None = codes "hard"
-line_word (Some kind) = listing_kind_word kind
+abbrev pub line_word : Form → Option Kind → List ℕ
+line_word form None = codes "hard"
+line_word form (Some kind) = listing_kind_word form kind
 
 -- a link's target stands in a field of its own, and so does the node of a hard link
 abbrev pub target_field : Option (List ℕ) → List ℕ
@@ -33,9 +40,9 @@ last_field node None = 32 ∷ decimal node
 last_field node (Some made) = target_field made.target
 
 -- the line that spells an entry
-abbrev pub entry_text : Entry → List ℕ
-entry_text e = decimal e.number ++ 32 ∷ line_word (option_map (λ made. made.kind) e.made) ++ 32 ∷ decimal e.parent ++ 32 ∷ spelling e.name
-    ++ last_field e.node e.made
+abbrev pub entry_text : Form → Entry → List ℕ
+entry_text form e = decimal e.number ++ 32 ∷ line_word form (option_map (λ made. made.kind) e.made) ++ 32 ∷ decimal e.parent ++ 32
+    ∷ spelling e.name ++ last_field e.node e.made
 
 -- a target stands exactly at links, and its bytes are below 256, as a name's are
 abbrev pub target_stands : Kind → Option (List ℕ) → Bool
@@ -44,11 +51,16 @@ target_stands Link None = false
 target_stands _ None = true
 target_stands _ (Some target) = false
 
+-- a type is known where types are
+abbrev pub kind_known : Form → Kind → Bool
+kind_known form (Known type) = knows_types form
+kind_known form kind = true
+
 -- a line makes the node of its row, under its own number; a hard link, where those are known, has a node of an earlier
 -- line that is no directory
-abbrev pub made_fits : Bool → List Entry → Entry → Option Node → Bool
-made_fits hard earlier e None = hard && is_earlier_other earlier e.node
-made_fits hard earlier e (Some made) = e.node == e.number && target_stands made.kind made.target
+abbrev pub made_fits : Form → List Entry → Entry → Option Node → Bool
+made_fits form earlier e None = knows_hard form && is_earlier_other earlier e.node
+made_fits form earlier e (Some made) = e.node == e.number && (kind_known form made.kind && target_stands made.kind made.target)
 
 -- an entry that may follow the earlier ones: its number is above theirs and at most the highest, its parent is a
 -- directory of theirs, its name is one that the parent hasn't yet, and after the root there is room for its line
@@ -56,7 +68,7 @@ abbrev pub entry_fits : Form → List Entry → Entry → Bool
 entry_fits form earlier e =
     nat_lt (last_number earlier) e.number && (nat_le e.number highest_listed && (is_earlier_dir earlier e.parent && (is_name e.name
     && (not (is_taken earlier e.parent e.name) && (nat_lt (length earlier + 1) (most_listed_of form)
-    && made_fits (knows_hard form) earlier e e.made)))))
+    && made_fits form earlier e e.made)))))
 
 abbrev pub entries_fit : Form → List Entry → List Entry → Bool
 entries_fit form earlier [] = true
@@ -71,7 +83,7 @@ header_text Third = codes "tree 3"
 -- the bytes are a listing of the tree
 abbrev pub IsListing : List ℕ → Tree → Type 0
 IsListing bytes t = (form : Form) × (es : List Entry) × IsTrue (entries_fit form [] es)
-    × (lines bytes ≡ header_text form ∷ codes "0 dir" ∷ map entry_text es) × (t ≡ tree_of form es)
+    × (lines bytes ≡ header_text form ∷ codes "0 dir" ∷ map (entry_text form) es) × (t ≡ tree_of form es)
 
 -- the reader accepts exactly the listings of a tree
 abbrev pub ListingsAreRead : Type 0
@@ -82,10 +94,12 @@ abbrev pub SecondFormsAgree : Type 0
 SecondFormsAgree = (texts : List (List ℕ)) (t : Tree) → listing_of_lines (header_text First ∷ texts) ≡ Ok t →
     listing_of_lines (header_text Second ∷ texts) ≡ Ok t
 
--- and those of the second form in the third, with more room
+-- and what is listed in the second form can be listed in the third, which has a word of its own for a file of which no more is
+-- known: it is the same tree, with more room
 abbrev pub ThirdFormsAgree : Type 0
-ThirdFormsAgree = (texts : List (List ℕ)) (t : Tree) → listing_of_lines (header_text Second ∷ texts) ≡ Ok t →
-    listing_of_lines (header_text Third ∷ texts) ≡ Ok (record t { room = most_wide_names })
+ThirdFormsAgree = (es : List Entry) → IsTrue (entries_fit Second [] es) →
+    listing_of_lines (header_text Third ∷ codes "0 dir" ∷ map (entry_text Third) es)
+    ≡ Ok (record (tree_of Second es) { room = most_wide_names })
 
 -- what a listing lists is a tree
 abbrev pub ListingsListTrees : Type 0

@@ -11,7 +11,8 @@ use Rattle.pua_tree.specs.Tree.{Node, Spot, Tree, spot_cmp, is_dir_kind}
 use Rattle.pua_tree.specs.Steps.{◌>>=◌}
 use Rattle.std.specs.Result.{result_ok}
 use Rattle.pua_tree.specs.declared.node.Kind.{Kind}
-use Rattle.pua_tree.specs.declared.node.Kind.TheVariants.{Dir, File, Prog, Link}
+use Rattle.pua_tree.specs.declared.node.Kind.TheVariants.{Dir, File, Prog, Link, Known}
+use Rattle.pua_tree.specs.declared.node.FileType.TheVariants.{Plain, Sock, Fifo, Dev}
 use Rattle.pua_tree.specs.declared.form.Form.{Form}
 use Rattle.pua_tree.specs.declared.form.Form.TheVariants.{First, Second, Third}
 use Rattle.pua_tree.specs.declared.fault.ListingFault.{ListingFault}
@@ -23,6 +24,12 @@ abbrev pub knows_hard : Form → Bool
 knows_hard First = false
 knows_hard Second = true
 knows_hard Third = true
+
+-- whether types of files are known in a form
+abbrev pub knows_types : Form → Bool
+knows_types First = false
+knows_types Second = false
+knows_types Third = true
 
 -- lines of a listing after its header, of which the root's is the first, and with its header
 abbrev pub most_listed_of : Form → ℕ
@@ -55,11 +62,26 @@ pub record ListingLine : Type 0 where
   pub name : List ℕ
   pub last : List ℕ
 
-abbrev pub plain_kind : List ℕ → Option Kind
-plain_kind word =
+-- what a `file` is: of its type no more is known, but where types are known it is a plain file
+abbrev pub file_by : Bool → Kind
+file_by false = File
+file_by true = Known Plain
+
+-- the kinds of the words that there are where types are known: a file of which no more is known, and the other types
+abbrev pub typed_kind : List ℕ → Option Kind
+typed_kind word =
+    if same_bytes word (codes "any") then Some File
+    else (if same_bytes word (codes "sock") then Some (Known Sock)
+    else (if same_bytes word (codes "fifo") then Some (Known Fifo)
+    else (if same_bytes word (codes "dev") then Some (Known Dev) else None)))
+
+-- without a last field, where types are known or not
+abbrev pub plain_kind : Bool → List ℕ → Option Kind
+plain_kind types word =
     if same_bytes word (codes "dir") then Some Dir
-    else (if same_bytes word (codes "file") then Some File
-    else (if same_bytes word (codes "prog") then Some Prog else None))
+    else (if same_bytes word (codes "file") then Some (file_by types)
+    else (if same_bytes word (codes "prog") then Some Prog
+    else (if types then typed_kind word else None)))
 
 -- with a last field: the kind of a link, and none for a hard link, where those are known
 abbrev pub long_kind : Bool → List ℕ → Option (Option Kind)
@@ -68,15 +90,16 @@ long_kind hard word =
     else (if hard && same_bytes word (codes "hard") then Some None else None)
 
 -- four fields for a directory, a file or a program, and five for a link and a hard link
-abbrev pub line_of_fields : Bool → List (List ℕ) → Option ListingLine
-line_of_fields hard (number ∷ word ∷ parent ∷ name ∷ []) =
-    option_map (λ kind. record { number = number; kind = Some kind; parent = parent; name = name; last = [] }) (plain_kind word)
-line_of_fields hard (number ∷ word ∷ parent ∷ name ∷ last ∷ []) =
-    option_map (λ kind. record { number = number; kind = kind; parent = parent; name = name; last = last }) (long_kind hard word)
-line_of_fields hard _ = None
+abbrev pub line_of_fields : Form → List (List ℕ) → Option ListingLine
+line_of_fields form (number ∷ word ∷ parent ∷ name ∷ []) =
+    option_map (λ kind. record { number = number; kind = Some kind; parent = parent; name = name; last = [] })
+    (plain_kind (knows_types form) word)
+line_of_fields form (number ∷ word ∷ parent ∷ name ∷ last ∷ []) =
+    option_map (λ kind. record { number = number; kind = kind; parent = parent; name = name; last = last }) (long_kind (knows_hard form) word)
+line_of_fields form _ = None
 
-abbrev pub listing_line : Bool → List ℕ → Option ListingLine
-listing_line hard text = if list_all is_field (fields text) then line_of_fields hard (fields text) else None
+abbrev pub listing_line : Form → List ℕ → Option ListingLine
+listing_line form text = if list_all is_field (fields text) then line_of_fields form (fields text) else None
 
 -- the number of the line before, or 0
 abbrev pub last_number : List Entry → ℕ
@@ -138,7 +161,7 @@ entry_or_fault form earlier n e =
 -- what line n says after the earlier ones, or its first fault
 abbrev pub entry_of : Form → List Entry → ℕ → List ℕ → Result Entry ListingFault
 entry_of form earlier n text = do
-  line ← ok_or (listing_line (knows_hard form) text) (BadLine n)
+  line ← ok_or (listing_line form text) (BadLine n)
   number ← ok_or (number_in earlier line) (BadNumber n)
   parent ← ok_or (parent_in earlier line) (BadParent n)
   name ← ok_or (result_ok (name_of line.name)) (BadName n)

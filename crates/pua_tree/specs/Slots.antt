@@ -6,29 +6,25 @@ use Rattle.std.specs.Ordering.{nat_cmp, is_eq}
 use Rattle.std.specs.FinMap.{find as find_key, put}
 use Rattle.std.specs.FinMap.Entries.{where_key}
 use Rattle.indexmap.specs.IndexMap.{get, index_map_len, spare}
+use Rattle.pua_tree.specs.NamedRows.{row_of, spot_at}
 use Rattle.slab.specs.Slab.{get as slot_get, slab_len, HasRoomFor, IsSlabClone}
 use Rattle.pua_tree.specs.Tree as tree
 use Rattle.pua_tree.specs.Tree.{spot_cmp}
 use Rattle.pua_tree.specs.declared.node.Kind.TheVariants.{Dir}
 use Rattle.pua_tree.specs.declared.numbering.Numbering.{Numbering}
-use Rattle.pua_tree.specs.declared.spot.Spot.{Spot}
+use Rattle.pua_tree.specs.declared.spot.RowKey.{RowKey}
 use Rattle.pua_tree.specs.declared.slots.Slots.{Slots}
 use Rattle.pua_tree.specs.declared.slots.SlotNode.{SlotNode}
-use Rattle.pua_tree.specs.declared.slots.RowNode.{RowNode}
+use Rattle.pua_tree.specs.declared.spot.RowNode.{RowNode}
 use Rattle.pua_tree.specs.declared.slots.Stance.{Stance}
-use Rattle.pua_tree.specs.contracts.spot.SpotPartialEq.TheImpl.{ghosts as spot_ghosts}
 use Rattle.pua_tree.specs.contracts.node.NodeIdPartialEq.TheImpl.{ghosts as number_ghosts}
 
 abbrev pub made_of : SlotNode → tree.Node
 made_of node = record { kind = node.kind; target = option_map (λ target. target.items) node.target }
 
--- a spot as the key of a row
-abbrev pub key_at : tree.Spot → Spot
-key_at at = record { dir = at.0; name = at.1 }
-
 -- what stands in the row at a spot, and the node there
 abbrev pub row_in : Slots → tree.Spot → Option RowNode
-row_in s at = get spot_ghosts.eq s.rows (key_at at)
+row_in s at = row_of s.rows at
 
 abbrev pub row_at : Slots → tree.Spot → Option ℕ
 row_at s at = option_map (λ row. row.node) (row_in s at)
@@ -79,12 +75,12 @@ pub record IsFiled (s : Slots) : Type 0 where
   pub apart : (x y slot : ℕ) → slot_of s x ≡ Some slot → slot_of s y ≡ Some slot → x ≡ y
   pub no_other : slab_len s.nodes ≡ index_map_len s.numbers
 
--- each node knows how it stands in the rows, and a directory at which spot
+-- each node knows how it stands in the rows, and a directory in which
 pub record StandsIn (rows : List (tree.Spot × ℕ)) (s : Slots) : Type 0 where
   pub rows_counted : (x : ℕ) (node : SlotNode) → node_in s x ≡ Some node → node.standing.rows ≡ rows_in rows x
   pub names_counted : (x : ℕ) (node : SlotNode) → node_in s x ≡ Some node → node.standing.names ≡ names_of rows x
   pub dir_spot : (at : tree.Spot) (x : ℕ) (node : SlotNode) → find_key spot_cmp at rows ≡ Some x → node_in s x ≡ Some node →
-      node.kind ≡ Dir → node.standing.spot ≡ key_at at
+      node.kind ≡ Dir → spot_at s.rows.names node.standing.key ≡ Some at
 
 -- each row says what its node is
 abbrev pub RowsSayKinds : Slots → Type 0
@@ -120,10 +116,10 @@ row_gained dir x standing = record standing { rows = standing.rows + one_at dir 
 abbrev pub row_lost : ℕ → ℕ → Stance → Stance
 row_lost dir x standing = record standing { rows = standing.rows - one_at dir x }
 
--- one name more of a node, at a spot, or one name fewer
-abbrev pub name_gained : Spot → ℕ → ℕ → Stance → Stance
-name_gained spot node x standing =
-    record standing { names = standing.names + one_at node x; spot = if node == x then spot else standing.spot }
+-- one name more of a node, in the row of a key, or one name fewer
+abbrev pub name_gained : RowKey → ℕ → ℕ → Stance → Stance
+name_gained key node x standing =
+    record standing { names = standing.names + one_at node x; key = if node == x then key else standing.key }
 
 abbrev pub name_lost : ℕ → ℕ → Stance → Stance
 name_lost node x standing = record standing { names = standing.names - one_at node x }
@@ -174,5 +170,6 @@ pub record IsNodeCopy (node copy : SlotNode) : Type 0 where
 -- a copy of rows and nodes: the same entries, and a copy of each node in its slot
 pub record AreCopied (s copy : Slots) : Type 0 where
   pub rows : copy.rows.entries ≡ s.rows.entries
+  pub names : copy.rows.names ≡ s.rows.names
   pub numbers : copy.numbers.entries ≡ s.numbers.entries
   pub nodes : IsSlabClone IsNodeCopy s.nodes copy.nodes

@@ -1,7 +1,7 @@
 //! Which of the forms a listing has, by its first line.
 
 ghost use Rattle.std.specs.Prelude.{◌≡◌};
-ghost use Rattle.pua_tree.specs.Listing.{knows_hard, most_lines_of, most_names_of};
+ghost use Rattle.pua_tree.specs.Listing.{knows_hard, knows_types, most_lines_of, most_names_of};
 
 use crate::limits::{MOST_LISTED, MOST_WIDE};
 use crate::tree::{MOST_NAMES, MOST_WIDE_NAMES};
@@ -13,7 +13,7 @@ pub enum Form {
     First,
     /// `tree 2`: hard links are known.
     Second,
-    /// `tree 3`: the same, in a listing of a whole system.
+    /// `tree 3`: the same, in a listing of a whole system, and types of files are known.
     Third,
 }
 
@@ -25,6 +25,16 @@ impl Form {
         match self {
             Form::First => false,
             Form::Second | Form::Third => true,
+        }
+    }
+
+    /// Whether types of files are known.
+    pub(crate) fn knows_types(self) -> bool
+        ensures { result ≡ knows_types self }
+    {
+        match self {
+            Form::First | Form::Second => false,
+            Form::Third => true,
         }
     }
 

@@ -63,6 +63,7 @@ pub(crate) trait Judged {
 
 ghost use Rattle.std.specs.Prelude.{◌≡◌, ◌≢◌, ◌<◌, Some, None, Ok, Err, IsTrue, IfOk, IfSome, OnOk};
 ghost use Rattle.std.specs.Prelude.{MatchResult, MatchOption, ◌==◌, false, IfErr, is_ok, option_map};
+ghost use Rattle.std.specs.Bool.{OnTrue};
 ghost use Rattle.pua_tree.specs.Limits.{number_end};
 ghost use Rattle.pua_tree.specs.Names.{is_name};
 ghost use Rattle.pua_tree.specs.Tree.{Node, is_dir, kind_at, look, found_at, parent, is_within};
@@ -178,20 +179,26 @@ pub(crate) fn may_put<T: Judged>(tree: &T, spot: &Spot, stands: &LineNode) -> bo
     ensures name { IsTrue (is_name spot.now.name) }
 {
     spot.name.known();
-    is_dir(tree, spot.dir) && may_have_row(tree, stands) && may_put_row(tree, spot, stands.number)
+    is_dir(tree, spot.dir)
+        && may_have_row(tree, stands)
+        && may_put_row(tree, spot, tree.node_at(spot), stands.number)
 }
 
-/// Whether a row may come to this spot, whose directory lives, under the number of a line.
-pub(crate) fn may_put_row<T: Judged>(tree: &T, spot: &Spot, number: u32) -> bool
-    ensures follows { result
+/// Whether a row may come to this spot, whose directory lives, under the number of a line. The node
+/// that stands there has been looked up.
+pub(crate) fn may_put_row<T: Judged>(
+    tree: &T,
+    spot: &Spot,
+    there: Option<NodeId>,
+    number: u32,
+) -> bool
+    ensures follows { there ≡ look (T.held tree.now) spot.now.dir spot.now.name → result
         ≡ row_follows (T.held tree.now) number spot.now.dir spot.now.name }
+    ensures last { OnTrue result (number < number_end) }
     ensures name { IsTrue (is_name spot.now.name) }
 {
     spot.name.known();
-    tree.next_number() <= number
-        && number < NUMBER_END
-        && tree.node_at(spot).is_none()
-        && has_name_room(tree)
+    tree.next_number() <= number && number < NUMBER_END && there.is_none() && has_name_room(tree)
 }
 
 /// Whether the node of a line may come to a row: what the line makes has its number, and another

@@ -1,11 +1,12 @@
 //! The fields of a line of a listing by what they are for.
 
 ghost use Rattle.std.specs.Prelude.{◌≡◌, option_map};
-ghost use Rattle.pua_tree.specs.Listing.{listing_line, plain_kind, long_kind};
+ghost use Rattle.pua_tree.specs.Listing.{file_by, listing_line, long_kind, plain_kind, typed_kind};
 ghost use Rattle.pua_tree.specs.Lines.{line_read};
 
 use crate::field::Fields;
-use crate::node::Kind;
+use crate::form::Form;
+use crate::node::{FileType, Kind};
 
 /// A line of a listing after its second: its number, the kind of the node that it makes, the parent
 /// and the name of its row, and a last field, which is a link's target. A hard link has no kind,
@@ -21,23 +22,22 @@ pub(crate) struct ListingLine<'a> {
 }
 
 /// The line that a text without its end is, and None where a field is empty or holds what no field
-/// may, the kind is unknown, or there are more or fewer fields than its kind has. The word `hard`
-/// is known where `hard` says so.
-pub(crate) fn read_line(hard: bool, text: &[u8]) -> Option<ListingLine<'_>>
-    ensures { option_map line_read result ≡ listing_line hard text.now }
+/// may, the kind is unknown in this form, or there are more or fewer fields than its kind has.
+pub(crate) fn read_line(form: Form, text: &[u8]) -> Option<ListingLine<'_>>
+    ensures { option_map line_read result ≡ listing_line form text.now }
 {
     let fields = Fields::read(text)?;
     match fields.as_slice() {
         [number, word, parent, name] => Some(ListingLine {
             number,
-            kind: Some(plain_kind(word)?),
+            kind: Some(plain_kind(form.knows_types(), word)?),
             parent,
             name,
             last: &[],
         }),
         [number, word, parent, name, last] => Some(ListingLine {
             number,
-            kind: long_kind(hard, word)?,
+            kind: long_kind(form.knows_hard(), word)?,
             parent,
             name,
             last,
@@ -46,14 +46,40 @@ pub(crate) fn read_line(hard: bool, text: &[u8]) -> Option<ListingLine<'_>>
     }
 }
 
-/// The kind that a word names, of those whose lines have no last field.
-fn plain_kind(word: &[u8]) -> Option<Kind>
-    ensures { result ≡ plain_kind word.now }
+/// The kind that a word names, of those whose lines have no last field, where types of files are
+/// known or not.
+fn plain_kind(types: bool, word: &[u8]) -> Option<Kind>
+    ensures { result ≡ plain_kind types word.now }
 {
     match word {
         [b'd', b'i', b'r'] => Some(Kind::Dir),
-        [b'f', b'i', b'l', b'e'] => Some(Kind::File),
+        [b'f', b'i', b'l', b'e'] => Some(file_by(types)),
         [b'p', b'r', b'o', b'g'] => Some(Kind::Prog),
+        _ if types => typed_kind(word),
+        _ => None,
+    }
+}
+
+/// What a `file` is: a plain file where types are known, and else one of which no more is known.
+fn file_by(types: bool) -> Kind
+    ensures { result ≡ file_by types }
+{
+    if types {
+        Kind::Known(FileType::Plain)
+    } else {
+        Kind::File
+    }
+}
+
+/// The kind that a further word names where types of files are known.
+fn typed_kind(word: &[u8]) -> Option<Kind>
+    ensures { result ≡ typed_kind word.now }
+{
+    match word {
+        [b'a', b'n', b'y'] => Some(Kind::File),
+        [b's', b'o', b'c', b'k'] => Some(Kind::Known(FileType::Sock)),
+        [b'f', b'i', b'f', b'o'] => Some(Kind::Known(FileType::Fifo)),
+        [b'd', b'e', b'v'] => Some(Kind::Known(FileType::Dev)),
         _ => None,
     }
 }

@@ -212,7 +212,7 @@ impl<T: Gathered> Reading<T> {
             (λ fault. fault ≢ ListingFault.OutOfMemory
             → entry_of self.now.form es n text.now ≡ Err fault) }
     {
-        let Some(line) = read_line(self.form.knows_hard(), text) else {
+        let Some(line) = read_line(self.form, text) else {
             return Err(ListingFault::BadLine(n));
         };
         let Some(number) = number_after(self.greatest, line.number) else {

@@ -40,17 +40,33 @@ impl NodeId {
     }
 }
 
+/// The type of a file (stat(2)), where it is known.
+#[derive(Clone, Copy, PartialEq, Eq, Hash)]
+pub enum FileType {
+    /// A plain file.
+    Plain,
+    /// A socket.
+    Sock,
+    /// A fifo.
+    Fifo,
+    /// A device.
+    Dev,
+}
+
 /// What a node is.
 #[derive(Clone, Copy, PartialEq, Eq, Hash)]
 pub enum Kind {
     /// A directory.
     Dir,
-    /// A file that can't be executed.
+    /// A file that can't be executed, of which no more is known: it may be a plain file, a socket,
+    /// a fifo or a device.
     File,
     /// A file that can be executed.
     Prog,
     /// A symbolic link, which has a target.
     Link,
+    /// A file that can't be executed, of this type.
+    Known(FileType),
 }
 
 /// What is said of a kind, in one place.
@@ -62,7 +78,7 @@ struct AboutKind {
 
 impl Kind {
     /// How many kinds there are.
-    pub const COUNT: usize = 4;
+    pub const COUNT: usize = 8;
 
     /// What is said of it.
     fn about(self) -> AboutKind
@@ -87,6 +103,22 @@ impl Kind {
                 number: 3,
                 word: "link",
             },
+            Kind::Known(FileType::Plain) => AboutKind {
+                number: 4,
+                word: "file",
+            },
+            Kind::Known(FileType::Sock) => AboutKind {
+                number: 5,
+                word: "sock",
+            },
+            Kind::Known(FileType::Fifo) => AboutKind {
+                number: 6,
+                word: "fifo",
+            },
+            Kind::Known(FileType::Dev) => AboutKind {
+                number: 7,
+                word: "dev",
+            },
         }
     }
 
@@ -98,7 +130,7 @@ impl Kind {
         self.about().number
     }
 
-    /// Its word in listings, lists and reasons.
+    /// Its word in lists and reasons: a plain file's is that of a file of which no more is known.
     pub fn word(self) -> &'static str
         ensures { result.now ≡ (about_kind self).word }
     {

@@ -47,15 +47,18 @@ impl FileTree for SlabTree {
     }
 
     fn look(&self, dir: NodeId, name: &Name) -> Option<NodeId> {
-        self.node_at(&Spot { dir, name: *name })
+        self.slots.row(dir, name.bytes())
     }
 
     fn find(&self, dir: NodeId, bytes: &[u8]) -> Option<(NodeId, Kind)> {
-        judgement::find(self, dir, bytes)
+        match self.slots.found(dir, bytes) {
+            Some(row) => Some((row.node, row.kind)),
+            None => None,
+        }
     }
 
     fn find_named(&self, dir: NodeId, name: LentName<'_>) -> Option<(NodeId, Kind)> {
-        judgement::find_named(self, dir, name)
+        self.find(dir, name.bytes)
     }
 
     fn parent(&self, dir: NodeId) -> Option<NodeId> {
@@ -110,7 +113,7 @@ impl FileTree for SlabTree {
         let stands = LineNode { number, node, made };
         let above = self.slots.slot(dir);
         self.slots
-            .put_entry(above, None, &Spot { dir, name }, stands)?;
+            .put_entry(above, None, None, &Spot { dir, name }, stands)?;
         self.numbering.next = number + 1;
         Ok(node)
     }
@@ -177,11 +180,13 @@ impl Gathered for SlabTree {
     fn put(&mut self, spot: &Spot, stands: LineNode) -> Result<bool, OutOfMemory> {
         let above = self.slots.dir_slot(spot.dir);
         let other = self.slots.other_slot(&stands);
+        let place = self.slots.place(spot.name.bytes());
+        let there = self.slots.row_at_place(spot.dir, place);
         let number = stands.number;
-        if above.is_none() || !stands.may_stand(other) || !may_put_row(self, spot, number) {
+        if above.is_none() || !stands.may_stand(other) || !may_put_row(self, spot, there, number) {
             return Ok(false);
         }
-        self.slots.put_entry(above, other, spot, stands)?;
+        self.slots.put_entry(above, other, place, spot, stands)?;
         self.numbering.next = number + 1;
         Ok(true)
     }
@@ -200,14 +205,11 @@ impl Judged for SlabTree {
     }
 
     fn node_at(&self, spot: &Spot) -> Option<NodeId> {
-        self.slots.row(spot)
+        self.slots.row(spot.dir, spot.name.bytes())
     }
 
     fn found(&self, spot: &Spot) -> Option<(NodeId, Kind)> {
-        match self.slots.found(spot) {
-            Some(row) => Some((row.node, row.kind)),
-            None => None,
-        }
+        self.find(spot.dir, spot.name.bytes())
     }
 
     fn dir_spot(&self, dir: NodeId) -> Option<LentSpot<'_>> {
@@ -215,10 +217,7 @@ impl Judged for SlabTree {
         if dir == NodeId::ROOT {
             return None;
         }
-        match self.slots.directory(dir) {
-            Some(standing) => Some(standing.spot.lent()),
-            None => None,
-        }
+        self.slots.spot_of(dir)
     }
 
     fn is_bare(&self, dir: NodeId) -> bool {

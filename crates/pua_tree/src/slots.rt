@@ -2,9 +2,10 @@
 
 use crate::gathered::{LineNode, MadeNode};
 use crate::name::Name;
+use crate::named_rows::NamedRows;
 use crate::node::{Kind, NodeId};
-use crate::spot::Spot;
-use crate::tree::LentRow;
+use crate::spot::{RowKey, RowNode, Spot};
+use crate::tree::{LentRow, LentSpot};
 use indexmap::IndexMap;
 use slab::Slab;
 use std::alloc::{AllocError, Global};
@@ -36,20 +37,13 @@ impl Clone for SlotNode {
     }
 }
 
-/// How a node stands in the tree: the spot to which it came last, which is that of a directory but
+/// How a node stands in the tree: the row to which it came last, which is that of a directory but
 /// the root, how many rows a directory has, and how many names the node has.
 #[derive(Clone, Copy)]
 pub(crate) struct Stance {
-    pub(crate) spot: Spot,
+    pub(crate) key: RowKey,
     pub(crate) rows: usize,
     pub(crate) names: usize,
-}
-
-/// What stands in a row: a node, and what it is.
-#[derive(Clone, Copy)]
-pub(crate) struct RowNode {
-    pub(crate) node: NodeId,
-    pub(crate) kind: Kind,
 }
 
 /// Rows and nodes. A node's number is never given again; its slot is. What a change leaves is said
@@ -57,24 +51,24 @@ pub(crate) struct RowNode {
 /// what it puts. What finds no room is not put.
 #[derive(Drop)]
 pub(crate) struct Slots {
-    pub(crate) rows: IndexMap<Spot, RowNode>,
+    pub(crate) rows: NamedRows,
     pub(crate) numbers: IndexMap<NodeId, usize>,
     pub(crate) nodes: Slab<SlotNode>,
 }
 
-ghost use Rattle.std.specs.Prelude.{ℕ, ◌≡◌, ◌≢◌, ◌<◌, ◌≤◌, ◌==◌, ◌^◌, Some, None, IsSome};
+ghost use Rattle.std.specs.Prelude.{ℕ, List, ◌≡◌, ◌≢◌, ◌<◌, ◌≤◌, ◌==◌, ◌^◌, Some, None, IsSome};
 ghost use Rattle.std.specs.Prelude.{IfSome, IfOk, OnOk, OnErr, if◌then◌else◌, option_copied};
 ghost use Rattle.std.specs.Prelude.{option_map, option_and_then, ◌+◌, length, map, not, is_some};
 ghost use Rattle.std.specs.Prelude.{is_none, true, ◌&&◌};
 ghost use Rattle.std.specs.Ordering.{is_eq, nat_cmp};
 ghost use Rattle.std.specs.FinMap.{put};
 ghost use Rattle.std.specs.FinMap.Entries.{where_key};
-ghost use Rattle.indexmap.specs.IndexMap.{spare};
+ghost use Rattle.pua_tree.specs.NamedRows.{spot_at, IsPlaceOf};
 ghost use Rattle.pua_tree.specs.Tree.{spot_cmp, root_alone, distinct_names, WellFormed};
 ghost use Rattle.pua_tree.specs.Tree.{is_dir_kind};
 ghost use Rattle.pua_tree.specs.Edits.{without_unnamed};
 ghost use Rattle.pua_tree.specs.Reading.{Follows, said_node, entry_at, tree_with};
-ghost use Rattle.pua_tree.specs.LentRows.{lent_entry};
+ghost use Rattle.pua_tree.specs.LentRows.{lent_entry, lent_spot};
 ghost use Rattle.pua_tree.specs.Numbering.{with_next};
 ghost use Rattle.pua_tree.specs.declared.numbering.Numbering.{Numbering};
 ghost use Rattle.pua_tree.specs.Slots.{held_rows, held_nodes, held_in_slots, names_of, IsNew};
@@ -84,19 +78,37 @@ ghost use Rattle.pua_tree.specs.Slots.{AreConsistent, Restands, row_gained, row_
 ghost use Rattle.pua_tree.specs.Slots.{name_lost, IsFiled, standing_of_dir};
 
 impl Slots {
-    /// What stands in the row at this spot.
+    /// What stands in the row of this directory and name.
     #[inline(always)]
-    pub(crate) fn found(&self, spot: &Spot) -> Option<RowNode>
-        ensures { result ≡ row_in self.now (spot.now.dir, spot.now.name) }
+    pub(crate) fn found(&self, dir: NodeId, name: &[u8]) -> Option<RowNode>
+        ensures { result ≡ row_in self.now (dir, name.now) }
     {
-        self.rows.get(spot).copied()
+        self.rows.get(dir, self.rows.place(name))
     }
 
-    /// The node in the row at this spot.
-    pub(crate) fn row(&self, spot: &Spot) -> Option<NodeId>
-        ensures { result ≡ row_at self.now (spot.now.dir, spot.now.name) }
+    /// The node in the row of this directory and name.
+    pub(crate) fn row(&self, dir: NodeId, name: &[u8]) -> Option<NodeId>
+        ensures { result ≡ row_at self.now (dir, name.now) }
     {
-        match self.found(spot) {
+        match self.found(dir, name) {
+            Some(row) => Some(row.node),
+            None => None,
+        }
+    }
+
+    /// The place of a name among those that are kept.
+    pub(crate) fn place(&self, name: &[u8]) -> Option<usize>
+        ensures { IsPlaceOf self.now.rows.names name.now result }
+    {
+        self.rows.place(name)
+    }
+
+    /// The node in the row of this directory and of the name at this place.
+    pub(crate) fn row_at_place(&self, dir: NodeId, place: Option<usize>) -> Option<NodeId>
+        ensures { (name : List ℕ) → IsPlaceOf self.now.rows.names name place →
+            result ≡ row_at self.now (dir, name) }
+    {
+        match self.rows.get(dir, place) {
             Some(row) => Some(row.node),
             None => None,
         }
@@ -145,6 +157,28 @@ impl Slots {
         }
     }
 
+    /// The spot of the directory of this number as far as it came to one, and None for what is no
+    /// living directory.
+    pub(crate) fn spot_of(&self, id: NodeId) -> Option<LentSpot<'_>>
+        ensures { option_map lent_spot result
+            ≡ option_and_then (λ standing. spot_at self.now.rows.names standing.key)
+            (option_and_then standing_of_dir (node_in self.now id)) }
+    {
+        let standing = self.directory(id)?;
+        self.rows.spot(standing.key)
+    }
+
+    /// What the node in this slot is.
+    fn kind_in(&self, slot: Option<usize>) -> Option<Kind>
+        ensures { (node : ℕ) → slot ≡ slot_of self.now node →
+            result ≡ option_map (λ node. node.kind) (node_in self.now node) }
+    {
+        match self.nodes.get(slot?) {
+            Some(node) => Some(node.kind),
+            None => None,
+        }
+    }
+
     /// Counts a further row of the directory in this slot.
     fn gain_row(&mut self, slot: Option<usize>)
         ensures rows { self.new.rows ≡ self.old.rows }
@@ -174,20 +208,20 @@ impl Slots {
         }
     }
 
-    /// Counts a further name of the node in this slot, which is at this spot, and answers what the
-    /// node is.
-    fn gain_name(&mut self, slot: Option<usize>, spot: &Spot) -> Option<Kind>
+    /// Counts a further name of the node in this slot, which is that of this row.
+    fn gain_name(&mut self, slot: Option<usize>, key: RowKey)
         ensures rows { self.new.rows ≡ self.old.rows }
         ensures restands { (node : ℕ) → slot ≡ slot_of self.old node → IsFiled self.old →
             IfSome (node_in self.old node) (λ node. node.standing.names < 2 ^ 63) →
-            Restands self.old self.new (name_gained spot.now node) }
-        ensures kind { (node : ℕ) → slot ≡ slot_of self.old node →
-            result ≡ option_map (λ node. node.kind) (node_in self.old node) }
+            Restands self.old self.new (name_gained key node) }
     {
-        let node = self.nodes.get_mut(slot?)?;
-        node.standing.names = node.standing.names.wrapping_add(1);
-        node.standing.spot = *spot;
-        Some(node.kind)
+        let Some(slot) = slot else {
+            return;
+        };
+        if let Some(node) = self.nodes.get_mut(slot) {
+            node.standing.names = node.standing.names.wrapping_add(1);
+            node.standing.key = key;
+        }
     }
 
     /// Counts a name of a node no more, and answers how many are left.
@@ -248,7 +282,7 @@ impl Slots {
     pub(crate) fn copy(&self) -> Result<Slots, AllocError>
         ensures { IfOk result (λ copy. AreCopied self.now copy) }
     {
-        let rows = self.rows.clone()?;
+        let rows = self.rows.copy()?;
         let numbers = self.numbers.clone()?;
         let nodes = self.nodes.clone()?;
         Ok(Slots {
@@ -275,30 +309,33 @@ impl Slots {
 
     /// Puts a row at a spot that has none, where there is room for it.
     pub(crate) fn put_row(&mut self, spot: &Spot, node: NodeId)
-        ensures kept { 0 < spare self.old.rows →
+        ensures kept { 0 < self.old.rows.room →
             MayEnter self.old (spot.now.dir, spot.now.name) node → AreConsistent self.new }
-        ensures rows { 0 < spare self.old.rows → held_rows self.new
+        ensures rows { 0 < self.old.rows.room → held_rows self.new
             ≡ put spot_cmp (spot.now.dir, spot.now.name) node (held_rows self.old) }
         ensures nodes { MayEnter self.old (spot.now.dir, spot.now.name) node →
             held_nodes self.new ≡ held_nodes self.old }
     {
         let above = self.slot(spot.dir);
         let slot = self.slot(node);
-        self.put_row_under(above, slot, spot, node);
+        let place = self.place(spot.name.bytes());
+        self.put_row_under(above, slot, place, spot, node);
     }
 
-    /// The same, where the slots of the spot's directory and of the node have been looked up.
+    /// The same, where the slots of the spot's directory and of the node, and the place of its name,
+    /// have been looked up.
     fn put_row_under(
         &mut self,
         above: Option<usize>,
         slot: Option<usize>,
+        place: Option<usize>,
         spot: &Spot,
         node: NodeId,
     )
         ensures kept { above ≡ slot_of self.old spot.now.dir → slot ≡ slot_of self.old node →
-            0 < spare self.old.rows →
+            0 < self.old.rows.room →
             MayEnter self.old (spot.now.dir, spot.now.name) node → AreConsistent self.new }
-        ensures rows { 0 < spare self.old.rows → held_rows self.new
+        ensures rows { 0 < self.old.rows.room → held_rows self.new
             ≡ put spot_cmp (spot.now.dir, spot.now.name) node (held_rows self.old) }
         ensures nodes { above ≡ slot_of self.old spot.now.dir → slot ≡ slot_of self.old node →
             MayEnter self.old (spot.now.dir, spot.now.name) node →
@@ -306,11 +343,12 @@ impl Slots {
     {
         let count = self.row_count();
         prove!(count < usize::MAX);
-        self.gain_row(above);
         // A row of a node that is none may say anything.
-        let kind = self.gain_name(slot, spot).unwrap_or(Kind::File);
-        let row = RowNode { node, kind };
-        let _ = self.rows.insert(*spot, row);
+        let kind = self.kind_in(slot).unwrap_or(Kind::File);
+        if let Some(key) = self.rows.put(spot, place, RowNode { node, kind }) {
+            self.gain_row(above);
+            self.gain_name(slot, key);
+        }
     }
 
     /// Takes away the row of this directory and name, in which this node stands, and answers how
@@ -322,12 +360,11 @@ impl Slots {
             (held_rows self.old) }
         ensures nodes { HasRow self.old (dir, name.now) node →
             held_nodes self.new ≡ held_nodes self.old }
-        ensures room { spare self.old.rows ≤ spare self.new.rows }
+        ensures room { self.old.rows.room ≤ self.new.rows.room }
         ensures left { HasRow self.old (dir, name.now) node →
             IfSome (node_in self.new node) (λ _. result ≡ names_of (held_rows self.new) node) }
     {
-        let spot = Spot { dir, name: *name };
-        self.rows.swap_remove(&spot);
+        self.rows.take(dir, name);
         self.lose_row(dir);
         self.lose_name(node)
     }
@@ -342,9 +379,9 @@ impl Slots {
         new_name: Name,
         node: NodeId,
     )
-        ensures kept { 0 < spare self.old.rows →
+        ensures kept { 0 < self.old.rows.room →
             MayMove self.old (from, name.now) (to, new_name) node → AreConsistent self.new }
-        ensures rows { 0 < spare self.old.rows → held_rows self.new ≡ put spot_cmp (
+        ensures rows { 0 < self.old.rows.room → held_rows self.new ≡ put spot_cmp (
           to,
           new_name,
         ) node (where_key spot_cmp
@@ -383,12 +420,12 @@ impl Slots {
         ensures slot { HasNodeRoom self.old → AreConsistent self.old → IsNew self.old id →
             result ≡ slot_of self.new id }
     {
-        let nowhere = Spot {
+        let nowhere = RowKey {
             dir: NodeId::ROOT,
-            name: Name::any(),
+            name: 0,
         };
         let standing = Stance {
-            spot: nowhere,
+            key: nowhere,
             rows: 0,
             names: 0,
         };
@@ -434,12 +471,13 @@ impl Slots {
 
     /// Puts what an entry of a listing says, which may follow a tree that is held: a row at this
     /// spot, and the node that the entry makes, if it makes one. The slots of the spot's directory,
-    /// and of the node where none is made, have been looked up. The only error is that a growth was
-    /// refused; the tree is then as it was.
+    /// and of the node where none is made, have been looked up, and so may have been the place of
+    /// the spot's name. The only error is that a growth was refused; the tree is then as it was.
     pub(crate) fn put_entry(
         &mut self,
         above: Option<usize>,
         other: Option<usize>,
+        place: Option<usize>,
         spot: &Spot,
         stands: LineNode,
     ) -> Result<(), AllocError>
@@ -459,7 +497,7 @@ impl Slots {
         self.reserve_node()?;
         let LineNode { node, made, .. } = stands;
         let slot = self.add_made(node, made, other);
-        self.put_row_under(above, slot, spot, node);
+        self.put_row_under(above, slot, place, spot, node);
         Ok(())
     }
 
@@ -495,9 +533,9 @@ impl Slots {
         ensures kept { AreConsistent self.old → AreConsistent self.new }
         ensures same { (numbering : Numbering) →
             held_in_slots self.new numbering ≡ held_in_slots self.old numbering }
-        ensures room { OnOk result (0 < spare self.new.rows) }
+        ensures room { OnOk result (0 < self.new.rows.room) }
     {
-        self.rows.reserve(1)
+        self.rows.reserve()
     }
 
     /// Makes room for a further row and a further node. The only error is that a growth was
@@ -507,10 +545,10 @@ impl Slots {
         ensures same { (numbering : Numbering) →
             held_in_slots self.new numbering ≡ held_in_slots self.old numbering }
         ensures slots { (x : ℕ) → slot_of self.new x ≡ slot_of self.old x }
-        ensures row_room { OnOk result (0 < spare self.new.rows) }
+        ensures row_room { OnOk result (0 < self.new.rows.room) }
         ensures node_room { OnOk result (HasNodeRoom self.new) }
     {
-        self.rows.reserve(1)?;
+        self.rows.reserve()?;
         self.numbers.reserve(1)?;
         self.nodes.reserve(1)
     }
@@ -524,7 +562,7 @@ impl Slots {
     {
         let nodes = rows.max(1);
         let mut slots = Slots {
-            rows: IndexMap::with_capacity(alloc, rows)?,
+            rows: NamedRows::with_capacity(alloc, rows)?,
             numbers: IndexMap::with_capacity(alloc, nodes)?,
             nodes: Slab::with_capacity(alloc, nodes)?,
         };
@@ -534,29 +572,19 @@ impl Slots {
 
     /// The allocator that rows and nodes take memory from.
     pub(crate) fn allocator(&self) -> Global {
-        *self.rows.allocator()
+        self.rows.allocator()
     }
 
     /// The names in the rows: each once, in the order of their bytes. The only error is that a
     /// growth was refused.
+    #[tactic(auto, using(crate::proofs::SlotsNames::lent_names))]
     pub(crate) fn names(&self, alloc: Global) -> Result<Vec<Name>, AllocError>
         ensures { IfOk result
             (λ all. all.items ≡ distinct_names (map (λ row. row.0.1) (held_rows self.now))) }
     {
-        let names = self.name_set(alloc)?;
+        let rows = self.lent_rows(alloc)?;
+        let names = name_set(alloc, &rows)?;
         names.into_iter().copied().collect(alloc)
-    }
-
-    /// The names in the rows, as a set that lends them.
-    fn name_set(&self, alloc: Global) -> Result<BTreeSet<&Name>, AllocError>
-        ensures { IfOk result (λ names. map (λ name. name.now) names.keys
-            ≡ distinct_names (map (λ row. row.0.1) (held_rows self.now))) }
-    {
-        let mut names = BTreeSet::new(alloc);
-        for spot in self.rows.keys().as_slice().iter().rev() {
-            names.insert(&spot.name)?;
-        }
-        Ok(names)
     }
 
     /// The rows as a tree lends them, in the order of their spots. The only error is that a growth
@@ -564,16 +592,20 @@ impl Slots {
     pub(crate) fn lent_rows(&self, alloc: Global) -> Result<Vec<LentRow<'_>>, AllocError>
         ensures { IfOk result (λ rows. map lent_entry rows.items ≡ held_rows self.now) }
     {
-        let mut rows: Vec<LentRow<'_>> = self
-            .rows
-            .iter()
-            .map(|(spot, row)| LentRow {
-                dir: spot.dir,
-                name: &spot.name,
-                node: row.node,
-            })
-            .collect(alloc)?;
+        let mut rows = self.rows.lent(alloc)?;
         rows.sort_unstable();
         Ok(rows)
     }
+}
+
+/// The names in rows, as a set that lends them.
+fn name_set<'t>(alloc: Global, rows: &[LentRow<'t>]) -> Result<BTreeSet<&'t Name>, AllocError>
+    ensures { IfOk result (λ names. map (λ name. name.now) names.keys
+        ≡ distinct_names (map (λ row. row.name.now) rows.now)) }
+{
+    let mut names = BTreeSet::new(alloc);
+    for row in rows.iter().rev() {
+        names.insert(row.name)?;
+    }
+    Ok(names)
 }

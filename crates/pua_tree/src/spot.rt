@@ -1,11 +1,7 @@
-//! Where a row stands.
-
-ghost use Rattle.std.specs.Prelude.{◌≡◌};
-ghost use Rattle.pua_tree.specs.LentRows.{lent_spot};
+//! Where a row stands, and what stands there.
 
 use crate::name::Name;
-use crate::node::NodeId;
-use crate::tree::LentSpot;
+use crate::node::{Kind, NodeId};
 
 /// A directory, and a name in it.
 #[derive(Clone, Copy, PartialEq, Eq, Hash)]
@@ -14,14 +10,16 @@ pub(crate) struct Spot {
     pub(crate) name: Name,
 }
 
-impl Spot {
-    /// The spot as a tree lends it.
-    pub(crate) fn lent(&self) -> LentSpot<'_>
-        ensures { lent_spot result ≡ (self.now.dir, self.now.name) }
-    {
-        LentSpot {
-            dir: self.dir,
-            name: &self.name,
-        }
-    }
+/// A directory, and the place of a name among the names that are kept.
+#[derive(Clone, Copy, PartialEq, Eq, Hash)]
+pub(crate) struct RowKey {
+    pub(crate) dir: NodeId,
+    pub(crate) name: usize,
+}
+
+/// What stands in a row: a node, and what it is.
+#[derive(Clone, Copy)]
+pub(crate) struct RowNode {
+    pub(crate) node: NodeId,
+    pub(crate) kind: Kind,
 }

@@ -29,7 +29,7 @@ use Rattle.pua_policy.specs.declared.reason.Covering.TheVariants.{InView, NoneOv
 use Rattle.pua_script.specs.Decide.{Side, Sole, Old, New}
 use Rattle.pua_calls.specs.declared.fits.Misfit.{Misfit}
 use Rattle.pua_calls.specs.declared.fits.Misfit.TheVariants.{Missing, Exists, IsDirectory, IsNoFile, IsNoDirectory, IsNoLink}
-use Rattle.pua_calls.specs.declared.fits.Misfit.TheVariants.{IsNoProgram, IsNotEmpty, ByDot, ByDotDot, ByNothing, IsNoSocket, InUse}
+use Rattle.pua_calls.specs.declared.fits.Misfit.TheVariants.{IsNoProgram, IsNotEmpty, ByDot, ByDotDot, ByNothing, IsSocket, IsNoSocket, InUse}
 use Rattle.pua_why.specs.Reasons.{Fault, Ends, LacksPromises, BadTarget, BadPath, NoRoot, Uncovered, LacksLetters, Unfit, Inside}
 use Rattle.pua_why.specs.Reasons.{UnknownPromise, AsksPromises, IsLocked, UnknownLetter, AsksLetters, NoPlaceLeft, NumberTaken, NoProcessLeft, NoRoom}
 use Rattle.pua_why.specs.Reasons.{WrongFile, FileFault, NotOpen, OpenNoDirectory, NotSent, MayNotSend, SendsDirectory}
@@ -122,6 +122,7 @@ misfit_text object IsNotEmpty = object ++ codes " is not empty"
 misfit_text object ByDot = codes "path ends in ."
 misfit_text object ByDotDot = codes "path ends in .."
 misfit_text object ByNothing = codes "path has no component"
+misfit_text object IsSocket = object ++ codes " is a socket"
 misfit_text object IsNoSocket = object ++ codes " is no socket"
 misfit_text object InUse = object ++ codes " exists"
 

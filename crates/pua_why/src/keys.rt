@@ -267,6 +267,7 @@ fn misfit_number(misfit: Misfit) -> u64
         Misfit::ByNothing => 10,
         Misfit::IsNoSocket => 11,
         Misfit::InUse => 12,
+        Misfit::IsSocket => 13,
     }
 }
 

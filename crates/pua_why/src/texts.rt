@@ -453,6 +453,7 @@ fn misfit_words(misfit: Misfit) -> (bool, &'static str)
         Misfit::ByDot => (false, "path ends in ."),
         Misfit::ByDotDot => (false, "path ends in .."),
         Misfit::ByNothing => (false, "path has no component"),
+        Misfit::IsSocket => (true, " is a socket"),
         Misfit::IsNoSocket => (true, " is no socket"),
         Misfit::InUse => (true, " exists"),
     }

@@ -76,7 +76,8 @@ pub(crate) const HOW_CALL: &str = "The call, one with one path";
 
 pub(crate) const HOW_PATH: &str = "What it is about, as a list for ever prints it, or `new`";
 
-pub(crate) const HOW_KIND: &str = "Which line of PATH: dir, file, prog, link, missing, other";
+pub(crate) const HOW_KIND: &str =
+    "Which line: dir, file, prog, link, sock, fifo, dev, missing, other";
 
 pub(crate) const AT: &str = "Serve no line of SCRIPT behind line N";
 
@@ -100,6 +101,8 @@ TREE has a line for each directory, file, program and link; numbers rise:
   5 hard 0 users 2
 A line is NUMBER KIND PARENT NAME, and for a link its target after the name.
 A `hard` line is a further name, here /users, of the node of an earlier line.
+After `tree 3` a `file` is a plain file, and there are `sock`, `fifo` and `dev`
+lines, and `any` for what may be any of these, as `file` may after the others.
 
 SCRIPT has a line for each call: a process, the call, and its arguments.
   1 unveil /etc r
@@ -202,7 +205,8 @@ Serves SCRIPT, and prints the listing of the tree that it leaves: a TREE, which
 is read as this tree under new numbers. Its lines count from 1, a name comes in
 front of what is beneath it, and the names of a directory by their bytes. It
 begins with `tree 1`; with `tree 2` where something has two names; and with
-`tree 3` where there are over 4096 lines or TREE began so.
+`tree 3` where TREE began so, there are over 4096 lines, or something is known
+to be a plain file, a socket, a fifo or a device.
 
 Example: pua tree TREE SCRIPT > LATER",
     "
@@ -216,7 +220,8 @@ Serves `P CALL ARG...` behind the last line of SCRIPT, and prints a line for
 each of these that it passes, and then its answer as `pua run --why` has it:
   needs PROMISES       those by which it is let through, all of them held
   link PATH to TARGET  a link that its path follows
-  names KIND PATH      what its path names: dir, file, prog, link or missing
+  names KIND PATH      what its path names: dir, file, prog, link, sock, fifo,
+                       dev or missing
   veil LETTERS on PATH since line M
                        the veil that covers this; or `no veils`
   ANSWER REASON since line M
@@ -319,10 +324,11 @@ Prints what `pua run` prints, then `objects P`, then the state of process P:
                       name; USES are read, write, chdir, chmod and chown, as the
                       promises let them, whatever the veils are; = for none
 Then `KIND PATH CALLS` for each object on which a call is allowed. KIND is dir,
-file, prog or link; missing, a name that is not there but has a veil of its own;
-or other, all further names of the directory PATH. The calls stand in one order,
-with commas between them. With `--process 1,2,..` the lists of these processes
-come one after another, and with `--process all` those of all that were made.
+file, prog, link, sock, fifo or dev; missing, a name that is not there but has a
+veil of its own; or other, all further names of the directory PATH. The calls
+stand in one order, with commas between them. With `--process 1,2,..` the lists
+of these processes come one after another, and with `--process all` those of all
+that were made.
 
 With `--images` lists of what these processes were stand before those of now: of
 each line N with an exec of one of them that is ok `objects P before N`, and
@@ -331,11 +337,12 @@ what the list of P has where the lines before N are all of SCRIPT.
 With `--ever` the heading is `ever P`, and a line has all calls that can ever be
 allowed on a thing, whatever process P and what it forks do: on what stands at
 PATH now, wherever it is moved, and in the end on what they can make: `dir new`,
-`other new` (the names in such a directory), `file new` and `link new`. Of execs
-the state has `exec bounded`, and what they start is in the list, whatever it
-does; or `exec open`, and the list holds until an exec succeeds; or nothing, and
-then no exec of theirs can succeed. With `--rules openbsd` the state can have
-`receive open`: what is open may come from others too.
+`other new` (the names in such a directory), `file new`, `link new`, and with
+`--rules openbsd` `sock new` and `fifo new`. Of execs the state has `exec
+bounded`, and what they start is in the list, whatever it does; or `exec open`,
+and the list holds until an exec succeeds; or nothing, and then no exec of
+theirs can succeed. With `--rules openbsd` the state can have `receive open`:
+what is open may come from others too.
 It is a list of one process, which can put no veil any more. With `--process
 1,2,..` or `--process all` it is one list of what several can ever touch
 together; those of them that live need the same veils. Then the heading is

@@ -1,7 +1,7 @@
 //! The words of the command line, read by `clap`.
 
 ghost use Rattle.std.specs.Prelude.{◌≡◌, ◌↔◌, IfErr, IfOk, IfSome, Some, codes, map, option_map};
-ghost use Rattle.std.specs.Prelude.{◌++◌, ℕ, [], Bool, None, OnOk, Option, true, unwrap_or};
+ghost use Rattle.std.specs.Prelude.{◌++◌, ℕ, [], Bool, None, OnOk, Option, is_some, true, unwrap_or};
 ghost use Rattle.std.specs.List.{All};
 ghost use Rattle.clap.specs.Matches.{first_value, found_of, one_text};
 ghost use Rattle.pua_calls.specs.Calls.{rules_named};
@@ -38,7 +38,7 @@ use clap::{Arg, ArgAction, ArgMatches, Error, value_parser};
 use pua_audit::Base;
 use pua_calls::Rules;
 use pua_objects::ObjectKind;
-use pua_tree::{Kind, number_within};
+use pua_tree::{FileType, Kind, number_within};
 use std::alloc::{AllocError, Global};
 
 /// The greatest number that a process has.
@@ -407,7 +407,10 @@ fn kind<'a>(alloc: Global) -> Arg<'a>
 {
     operand(alloc, "kind", "KIND", help::HOW_KIND)
         .hide_possible_values(true)
-        .value_parser(["dir", "file", "prog", "link", "missing", "other"].as_slice())
+        .value_parser([
+            "dir", "file", "prog", "link", "sock", "fifo", "dev", "missing", "other",
+        ]
+        .as_slice())
 }
 
 /// What an error of `clap` over these words asks for: a text about the program, or nothing.
@@ -760,16 +763,19 @@ fn read_how<'a>(found: &ArgMatches<'a>) -> Option<HowWords<'a>>
     })
 }
 
-/// The kind of this name, as a list's line has it; None for any other text.
+/// A kind of this name, as a list's line has it; None for any other text.
 fn read_kind(text: &str) -> Option<ObjectKind>
     ensures named { IfSome result (λ kind. kind_word kind ≡ text.now) }
-    ensures each { (kind : ObjectKind) → kind_word kind ≡ text.now → result ≡ Some kind }
+    ensures each { (kind : ObjectKind) → kind_word kind ≡ text.now → is_some result ≡ true }
 {
     match text {
         "dir" => Some(ObjectKind::Node(Kind::Dir)),
         "file" => Some(ObjectKind::Node(Kind::File)),
         "prog" => Some(ObjectKind::Node(Kind::Prog)),
         "link" => Some(ObjectKind::Node(Kind::Link)),
+        "sock" => Some(ObjectKind::Node(Kind::Known(FileType::Sock))),
+        "fifo" => Some(ObjectKind::Node(Kind::Known(FileType::Fifo))),
+        "dev" => Some(ObjectKind::Node(Kind::Known(FileType::Dev))),
         "missing" => Some(ObjectKind::Missing),
         "other" => Some(ObjectKind::Other),
         _ => None,

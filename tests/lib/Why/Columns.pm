@@ -38,7 +38,7 @@ sub _answer_fault {
 sub _line_fault {
     my ($case, $plain) = @_;
     my $line = $case->{line};
-    return $line eq $plain ? '' : "it is $plain" if $plain !~ m{\A(?:dir|file|prog|link|missing|other) /};
+    return $line eq $plain ? '' : "it is $plain" if $plain !~ m{\A(?:dir|file|prog|link|sock|fifo|dev|missing|other) /};
     my ($path, $calls, @fields) = (split / /, $line)[ 1 .. 6 ];
     return 'no four fields' if @fields != 4 || $line ne "$plain @fields";
     ++$case->{objects};

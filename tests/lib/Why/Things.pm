@@ -17,6 +17,7 @@ our %FAULT_OF = (
     'directory'    => \&_directory,
     'no link'      => \&_no_link,
     'no program'   => \&_no_program,
+    'socket'       => \&_socket,
     'no socket'    => \&_no_socket,
     'not empty'    => \&_not_empty,
     'inside'       => \&_inside,
@@ -55,9 +56,12 @@ sub _exists {
     return same_words_fault($case, told_behind($case, _moves($path)), "though $path was moved");
 }
 
-sub _directory {
-    my ($case, $path) = @_;
-    return "$path is none" if (things_of($case)->{$path} // '') ne 'dir';
+sub _directory { return _of_kind(@_, 'dir') }
+sub _socket    { return _of_kind(@_, 'sock') }
+
+sub _of_kind {
+    my ($case, $path, $kind) = @_;
+    return "$path is no $kind" if (things_of($case)->{$path} // '') ne $kind;
     return _root_fault($case) if $path eq '/';
     my @lines = (_moves($path), OBSERVER . " create $path");
     return same_words_fault($case, told_behind($case, @lines), "though $path is a file");
@@ -78,7 +82,8 @@ sub _no_program {
     my ($case, $path) = @_;
     my $things = things_of($case);
     return "$path isn't there" if !exists $things->{$path};
-    return "$path is one" if $things->{$path} !~ /\A(?:dir|file)\z/;
+    return "$path is one" if $things->{$path} eq 'prog';
+    return "$path is a link" if $things->{$path} eq 'link';
     my @programs = grep { $things->{$_} eq 'prog' && !is_over($path, $_) } sort keys %$things;
     return _root_fault($case) if $path eq '/';
     return '' if !@programs;
@@ -86,15 +91,16 @@ sub _no_program {
     return same_words_fault($case, told_behind($case, @lines), "though $path is a program");
 }
 
-# Each file may be a socket.
+# Each file may be a socket of which no more is known, and no plain one; their words are the same.
 sub _no_socket {
     my ($case, $path) = @_;
     my $kind = things_of($case)->{$path};
     return "$path isn't there" if !defined $kind;
-    return "$path may be one" if $kind eq 'file';
+    return "$path is one" if $kind eq 'sock';
     return _root_fault($case) if $path eq '/';
-    my @lines = (_moves($path), OBSERVER . " create $path");
-    return same_words_fault($case, told_behind($case, @lines), "though $path is a file");
+    my $make = $case->{world}->is_openbsd ? 'bind' : 'create';
+    my @lines = (_moves($path), OBSERVER . " $make $path");
+    return same_words_fault($case, told_behind($case, @lines), "though $path may be a socket");
 }
 
 sub _not_empty {

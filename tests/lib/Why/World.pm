@@ -36,6 +36,7 @@ my @KINDS = (
     [ 'directory',       qr/EISDIR|EPERM/,  qr/($PATH) is a directory/ ],
     [ 'no link',         qr/EINVAL/,        qr/($PATH) is no link/ ],
     [ 'no program',      qr/EACCES/,        qr/($PATH) is no program/ ],
+    [ 'socket',          qr/EOPNOTSUPP/,    qr/($PATH) is a socket/ ],
     [ 'no socket',       qr/ENOTSOCK/,      qr/($PATH) is no socket/ ],
     [ 'not empty',       qr/ENOTEMPTY/,     qr/($PATH) is not empty/ ],
     [ 'dots',            qr/EINVAL/,        qr/path ends in (\.\.?)/ ],
@@ -159,7 +160,7 @@ sub _lists {
         $list->{root} = $1 if $line =~ /\Aroot (\S+) (?:closed|open)\z/;
         $list->{held}{$1} = $2 if $line =~ /\Aheld (\d+) (\S+) /;
         $list->{$1} = $2 if $line =~ /\A(process|promises|execpromises|unveil) (\S+)\z/;
-        $list->{things}{$2} = $1 if $line =~ /\A(dir|file|prog|link) (\S+) /;
+        $list->{things}{$2} = $1 if $line =~ /\A(dir|file|prog|link|sock|fifo|dev) (\S+) /;
     }
     return $world->{lists}{$key} = \%lists;
 }

@@ -7,7 +7,7 @@ use warnings;
 no warnings qw(newline);
 use Errno ();
 use Exporter qw(import);
-use Fcntl qw(O_CREAT O_NONBLOCK O_RDONLY O_RDWR O_WRONLY S_ISFIFO S_ISSOCK);
+use Fcntl qw(O_CREAT O_NONBLOCK O_RDONLY O_RDWR O_WRONLY S_ISFIFO);
 use POSIX ();
 use Socket qw(AF_UNIX SOCK_STREAM);
 our @EXPORT_OK
@@ -131,8 +131,7 @@ sub is_started {
     return $is_there || $errno == Errno::ENOEXEC();
 }
 
-# A fifo whose open would wait, and a socket, which no system opens, are files to pua: ok. The answer,
-# and the descriptor, if there is one.
+# A fifo whose open would wait is a file to pua: ok. The answer, and the descriptor, if there is one.
 sub opening {
     my ($path, $flags) = @_;
     my $fd;
@@ -141,11 +140,8 @@ sub opening {
     else                           { $fd = POSIX::open($path, $flags | O_NONBLOCK, 0666) }
     return ('ok', $fd) if defined $fd && $fd >= 0;
     my $errno = $! + 0;
-    if ($errno == Errno::ENXIO() || $errno == Errno::EOPNOTSUPP()) {
-        my @fields = stat $path;
-        return 'ok' if @fields && (S_ISFIFO($fields[2]) || S_ISSOCK($fields[2]));
-    }
-    return named($errno);
+    my @fields = $errno == Errno::ENXIO() ? stat $path : ();
+    return @fields && S_ISFIFO($fields[2]) ? 'ok' : named($errno);
 }
 
 sub opened {
@@ -207,7 +203,7 @@ sub answer_on_files {
     return $ON_FILES{$call}->(map { $_ + 0 } @words);
 }
 
-# What pua holds and no system opens has a descriptor on Linux alone.
+# A fifo whose open would wait has a descriptor on Linux alone.
 sub hold {
     my ($call, $path) = @_;
     my ($answer, $fd) = opening($path, $FLAGS{$call});

@@ -10,7 +10,8 @@ use Exporter qw(import);
 use Fcntl qw(O_CREAT O_WRONLY);
 use File::Temp qw(tempdir);
 use IO::Handle ();
-use POSIX ();
+use POSIX qw(mkfifo);
+use Socket qw(PF_UNIX SOCK_STREAM pack_sockaddr_un);
 use Pua::Kernel qw(%TAKES answer_of_kernel answer_on_files execute let_move_root mounted put_in);
 our @EXPORT_OK = qw(perform requests_of);
 
@@ -61,12 +62,20 @@ sub tree_of {
     for my $line (@lines) {
         my ($number, $kind, $parent, $name, $end) = split / /, $line;
         die "no line of a listing: $line\n"
-            if !defined $name || $kind !~ /\A(?:dir|file|prog|link|hard)\z/;
+            if !defined $name || $kind !~ /\A(?:dir|file|any|sock|fifo|dev|prog|link|hard)\z/;
         if ($kind eq 'hard') { $number = $end; $tree->{names}{$end}++ }
         else { $tree->{node}{$number} = [$kind, defined $end ? bytes($end) : undef] }
         push @{ $tree->{in}{$parent} }, [bytes($name), $number];
     }
     return $tree;
+}
+
+# Makes a socket, at which nobody listens.
+sub bound {
+    my ($name) = @_;
+    socket my $socket, PF_UNIX, SOCK_STREAM, 0 or die "$name: $!\n";
+    bind $socket, pack_sockaddr_un($name) or die "$name: $!\n";
+    return close $socket;
 }
 
 # Makes what a node is, but no directory. Without a helper a program is a file that no system can
@@ -75,6 +84,9 @@ sub make {
     my ($name, $kind, $target, $helper) = @_;
     return symlink($target, $name) || die "$name: $!\n" if $kind eq 'link';
     return copy($helper, $name) if $kind eq 'prog' && defined $helper;
+    return mkfifo($name, 0644) || die "$name: $!\n" if $kind eq 'fifo';
+    return bound($name) if $kind eq 'sock';
+    die "$name: no device is made here\n" if $kind eq 'dev';
     my $mode = $kind eq 'prog' ? 0755 : 0644;
     sysopen my $out, $name, O_WRONLY | O_CREAT, $mode or die "$name: $!\n";
     print {$out} "\001\n" if $kind eq 'prog';
@@ -132,7 +144,7 @@ sub walk {
     no warnings 'recursion';
     for my $name (@names) {
         lstat $name;
-        my $kind = -l _ ? 'link' : -d _ ? 'dir' : -f _ && -x _ ? 'prog' : 'file';
+        my $kind = -l _ ? 'link' : -d _ ? 'dir' : -S _ ? 'sock' : -p _ ? 'fifo' : -f _ && -x _ ? 'prog' : 'file';
         $before->($path, $name, $kind);
         if ($kind eq 'dir') {
             chdir $name or die "$path/$name: $!\n";

@@ -17,7 +17,7 @@ ghost use Rattle.pua_audit.specs.Spots.{AreUnveiled};
 use crate::terms::Terms;
 use pua_calls::Calls;
 use pua_policy::{Cover, Object};
-use pua_tree::Kind;
+use pua_tree::{FileType, Kind};
 
 /// The calls that are allowed in a directory on names without a veil of their own, by what stands
 /// there: what the veils leave of such a name is what they leave of the directory.
@@ -26,6 +26,10 @@ pub(crate) struct Within {
     pub(crate) missing: Calls,
     pub(crate) file: Calls,
     pub(crate) program: Calls,
+    pub(crate) plain: Calls,
+    pub(crate) socket: Calls,
+    pub(crate) fifo: Calls,
+    pub(crate) device: Calls,
     /// Whether a veil may be kept at a name there.
     pub(crate) veiled: bool,
 }
@@ -43,6 +47,10 @@ impl Terms {
             missing: self.calls_over(&cover, Object::Missing),
             file: self.calls_over(&cover, Object::Node(Kind::File)),
             program: self.calls_over(&cover, Object::Node(Kind::Prog)),
+            plain: self.calls_over(&cover, Object::Node(Kind::Known(FileType::Plain))),
+            socket: self.calls_over(&cover, Object::Node(Kind::Known(FileType::Sock))),
+            fifo: self.calls_over(&cover, Object::Node(Kind::Known(FileType::Fifo))),
+            device: self.calls_over(&cover, Object::Node(Kind::Known(FileType::Dev))),
             veiled,
         }
     }
@@ -69,6 +77,10 @@ impl Within {
         match kind {
             Kind::File => Some(self.file),
             Kind::Prog => Some(self.program),
+            Kind::Known(FileType::Plain) => Some(self.plain),
+            Kind::Known(FileType::Sock) => Some(self.socket),
+            Kind::Known(FileType::Fifo) => Some(self.fifo),
+            Kind::Known(FileType::Dev) => Some(self.device),
             Kind::Dir | Kind::Link => None,
         }
     }

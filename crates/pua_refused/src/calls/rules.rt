@@ -2,7 +2,7 @@
 
 use pua_calls::{Call, CallTable, ExecPromises, Perms, Promises, Rules};
 use pua_path::Last;
-use pua_tree::Kind;
+use pua_tree::{FileType, Kind};
 use std::alloc::Global;
 
 /// The rules of OpenBSD are those of its table, by which link follows a link at its old path's end.
@@ -23,6 +23,20 @@ fn execpromises_always_unset() {
 /// And by the standard ones they are unset.
 fn execpromises_always_stay() {
     if let ExecPromises::Stay = Rules::Standard.execpromises() {
+        unreachable!()
+    }
+}
+
+/// By the standard rules nothing is known of a file that is made.
+fn made_file_always_plain() {
+    if Rules::Standard.file() != Kind::File {
+        unreachable!()
+    }
+}
+
+/// By OpenBSD's rules a file that is made is a plain one.
+fn made_file_may_be_a_socket() {
+    if Rules::Openbsd.file() != Kind::Known(FileType::Plain) {
         unreachable!()
     }
 }

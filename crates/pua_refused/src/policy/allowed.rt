@@ -3,7 +3,7 @@
 use pua_calls::{Call, CallTable, Perms, table_examples};
 use pua_policy::judge::allowed;
 use pua_policy::{AllowedCalls, Cover, Object, Process};
-use pua_tree::Kind;
+use pua_tree::{FileType, Kind};
 use std::alloc::Global;
 
 /// Of the calls that are allowed on a file the first is among them, as the last is.
@@ -55,6 +55,38 @@ fn allowed_without_promises(alloc: Global) {
     }
 }
 
+/// Nothing connects to what is known to be a plain file.
+fn connected_to_plain_file(alloc: Global) {
+    let Ok(process) = Process::new(alloc) else {
+        return;
+    };
+    let calls = allowed(
+        &process,
+        &CallTable::openbsd(),
+        Cover::All,
+        Object::Node(Kind::Known(FileType::Plain)),
+    );
+    if calls.contains(Call::Connect) {
+        unreachable!()
+    }
+}
+
+/// A fifo isn't started.
+fn fifo_started(alloc: Global) {
+    let Ok(process) = Process::new(alloc) else {
+        return;
+    };
+    let calls = allowed(
+        &process,
+        &CallTable::standard(),
+        Cover::All,
+        Object::Node(Kind::Known(FileType::Fifo)),
+    );
+    if calls.contains(Call::Exec) {
+        unreachable!()
+    }
+}
+
 /// A directory that has rows isn't removed.
 fn full_directory_removed(alloc: Global) {
     let Ok(process) = Process::new(alloc) else {
@@ -86,6 +118,20 @@ fn permissions_of_another_table(alloc: Global) {
         Object::Node(Kind::File),
     );
     if !calls.contains(Call::Stat) {
+        unreachable!()
+    }
+}
+
+/// No call opens a socket.
+fn socket_opened(alloc: Global) {
+    let Ok(process) = Process::new(alloc) else {
+        return;
+    };
+    let allowed = AllowedCalls::new(&process, &CallTable::standard());
+    if allowed
+        .on(Cover::All, Object::Node(Kind::Known(FileType::Sock)))
+        .contains(Call::OpenRead)
+    {
         unreachable!()
     }
 }

@@ -54,6 +54,13 @@ fn parent_is_a_file(alloc: Global) {
     }
 }
 
+/// A listing under `tree 2` has no sockets.
+fn types_known_in_tree_2(alloc: Global) {
+    if read_listing(alloc, b"tree 2\n0 dir\n1 sock 0 a\n").is_ok() {
+        unreachable!()
+    }
+}
+
 /// No directory has one name twice.
 fn taken_name_accepted(alloc: Global) {
     if read_listing(alloc, b"tree 1\n0 dir\n1 file 0 a\n2 file 0 a\n").is_ok() {

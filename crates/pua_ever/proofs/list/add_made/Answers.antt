@@ -16,3 +16,7 @@ loop-coming-preserved c = record {
       (all_more (IsRowOn t h) c.loop-coming.rows.items c.made_row.result (c.loop-coming.invariant.items t h all)
       (made_on t h c.made_row.result c.in-Some.made c.made_row.ensures.about.0 c.made_row.ensures.about.1));
 }
+
+pub returns-clause-told : goal.returns-clause-told
+returns-clause-told c = λ t table h items found so_far.
+    subst (AreRowsBut t table h items c.loop-coming.rows.items) c.in_default.is (c.loop-coming.invariant.told t table h items found so_far)

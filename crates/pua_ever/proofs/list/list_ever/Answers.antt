@@ -26,3 +26,6 @@ returns-clause-items g c =
     let t = g.T.FileTree.content c.args.tree.now in
     c.in-Ok-add_made.ensures.items t c.args.process.now
     (c.in-Ok-rows_of.ensures.items t c.known.ensures (subst (AllByRecursion (IsToldIn t c.args.process.now)) (sym c.deref.ensures.value) c.in-Ok-list_items.ensures.told))
+
+pub returns-clause-confined : goal.returns-clause-confined
+returns-clause-confined g c = c.why_refused.ensures.confined c.in_default.is

@@ -27,9 +27,9 @@ returns-clause-reached g c = λ from.
     let low : at < length told = grind (arith, common_steps) in
     let follows = g.S.Steps.follows c.args.steps.now in
     let was : c.index.result.now ≡ get_or told at 0 = grind (arith, common_steps) in
-    subst (λ n. AreReached follows (set told at (bit_or n word))) (sym was)
+    c.add_at_once.ensures.reached (subst (λ n. AreReached follows (set told at (bit_or n word))) (sym was)
     (reached_set follows told at word low
-    (subst (λ xs. (bit : ℕ) → has_bit word bit → follows xs at bit) c.deref.ensures.value c.next.ensures.only) from)
+    (subst (λ xs. (bit : ℕ) → has_bit word bit → follows xs at bit) c.deref.ensures.value c.next.ensures.only) from))
 
 pub returns-clause-fewer : goal.returns-clause-fewer
 returns-clause-fewer g c = λ _.
@@ -44,4 +44,7 @@ returns-clause-fewer g c = λ _.
     let other : bit_or (get_or told at 0) word ≢ get_or told at 0 = λ same. c.if-word-index.false (both ∙ same ∙ sym held) in
     let small : bit_or (get_or told at 0) word < 2 ^ 32 =
     subst (λ n. n < 2 ^ 32) both (or_of_32 c.index.result.now word (grind (arith, common_steps)) (grind (arith, common_steps))) in
-    subst (λ n. room (set told at n) < room told) (sym both) (room_set follows told at word low other small)
+    let less : room (set told at (bit_or c.index.result.now word)) < room told =
+    subst (λ n. room (set told at n) < room told) (sym both) (room_set follows told at word low other small) in
+    let more = c.add_at_once.ensures.no_more in
+    omega (arith, less, more)

@@ -9,13 +9,13 @@ use Rattle.pua_ever.proofs.ForCallers.{all_more, freed_on}
 use Rattle.pua_jointly.proofs.joint_list.add_rows.Goals as goal
 
 pub returns-in_default-freed_row-clause-told : goal.returns-in_default-freed_row-clause-told
-returns-in_default-freed_row-clause-told c = λ t crew a given test items so_far left well is tells told near now.
+returns-in_default-freed_row-clause-told c = λ t crew a given test items so_far left well is tells there told near now.
     let table = c.args.table.now in
     let item = c.args.item.now in
     let none : own_spot (subject_given t item.item.subject) ≡ None =
     sym (own_name_is t well table a (subject_given t item.item.subject) item.item told.fits told.tells) ∙ c.in_default-freed_row.ensures.own in
     one_told t table crew a given test tells items so_far left item c.args.rows.now.items c.stands_row-stands.result now near c.stands_row-stands.ensures.at
-    (c.stands_row-stands.ensures.about t) (c.stands_row-stands.ensures.kind t a told) (c.stands_row-stands.ensures.calls t crew a given is told) none
+    (c.stands_row-stands.ensures.about t) (c.stands_row-stands.ensures.kind t a told) (c.stands_row-stands.ensures.calls t crew a given is told there) none
     c.push.new.self.items c.in-Ok.ensures.items
 
 pub returns-in_default-freed_row-clause-items : goal.returns-in_default-freed_row-clause-items
@@ -25,13 +25,13 @@ returns-in_default-freed_row-clause-items c = λ t well told all.
     (all_more (IsRowOn t a) c.args.rows.now.items c.stands_row-stands.result all (c.stands_row-stands.ensures.on t a told))
 
 pub returns-clause-told : goal.returns-clause-told
-returns-clause-told c = λ t crew a given test items so_far left well is tells told near now.
+returns-clause-told c = λ t crew a given test items so_far left well is tells there told near now.
     let table = c.args.table.now in
     let item = c.args.item.now in
     let own = own_name_is t well table a (subject_given t item.item.subject) item.item told.fits told.tells in
     both_told t table crew a given test tells items so_far left item c.args.rows.now.items c.stands_row-stands.result now near
     c.stands_row-stands.ensures.at (c.stands_row-stands.ensures.about t) (c.stands_row-stands.ensures.kind t a told)
-    (c.stands_row-stands.ensures.calls t crew a given is told) c.in-Some.freed
+    (c.stands_row-stands.ensures.calls t crew a given is told there) c.in-Some.freed
     (subst (λ (o : Option Spot). IsFreedRow item o c.in-Some.freed) own c.in-Some.ensures.own)
     (subst (λ (o : Option Spot). AreOwnCallsOfOne t table crew (agents_of (a, given)) o c.in-Some.freed.line.calls) own (c.in-Some.ensures.calls t crew a given is told))
     c.push-2.new.self.items (c.in-Ok-push.ensures.items ∙ ap (λ rs. rs ++ c.in-Some.freed ∷ []) c.in-Ok.ensures.items)

@@ -1,7 +1,7 @@
 use Rattle.pua_jointly.proofs.Common.{arith, List, map, subst, sym}
 use Rattle.std.specs.List.{Contains}
 use Rattle.std.proofs.lemmas.Grind.{common_steps}
-use Rattle.pua_jointly.specs.declared.crew.Agent.{Agent}
+use Rattle.pua_jointly.specs.declared.agent.Agent.{Agent}
 use Rattle.pua_jointly.proofs.JointGathered.{taken_all}
 use Rattle.pua_jointly.proofs.joint_list.agent_of.Goals as goal
 

@@ -5,7 +5,7 @@ use Rattle.pua_ever.specs.EverList.{AreEverTold}
 use Rattle.pua_jointly.specs.JointCalls.{HasAgents, IsGroupIn}
 use Rattle.pua_jointly.specs.JointList.{joint_lines_of}
 use Rattle.pua_jointly.specs.JointPrograms.{now_of}
-use Rattle.pua_jointly.specs.declared.crew.Agent.{Agent}
+use Rattle.pua_jointly.specs.declared.agent.Agent.{Agent}
 use Rattle.pua_ever.specs.declared.made.Made.TheVariants.{Dir}
 use Rattle.pua_jointly.proofs.JointGroups.{group_is, none_missing}
 use Rattle.pua_jointly.proofs.JointLines.{lines_first}

@@ -8,6 +8,8 @@ use Rattle.pua_ever.specs.EverList.{AreEverTold}
 use Rattle.pua_jointly.specs.JointList.{AreJointSoFar, joint_lines_of}
 use Rattle.pua_ever.specs.declared.made.Made.TheVariants.{Dir}
 use Rattle.pua_ever.proofs.ForCallers.{near_at, told_at}
+use Rattle.pua_jointly.specs.JointSetting.{IsEntryOf}
+use Rattle.pua_jointly.proofs.JointGroups.{own_of}
 use Rattle.pua_jointly.proofs.joint_list.rows_of.Goals as goal
 
 pub loop-item-preserved : goal.loop-item-preserved
@@ -25,10 +27,12 @@ loop-item-preserved c = record {
       let taken : take (i + 1) items ≡ take i items ++ item ∷ [] =
       ap (λ n. take n items) (add-one i) ∙ take-suc items i item within ∙ ap (λ x. take i items ++ x ∷ []) (sym c.item-item.is) in
       let here : IsToldIn t a item = subst (IsToldIn t a) (sym c.item-item.is) (told_at (IsToldIn t a) items i item all within) in
+      let there : IsEntryOf c.args.facts.now.crew.entries.items item.item.subject c.entry_of-entry.result =
+      c.entry_of-entry.ensures (own_of t c.args.table.now crew a c.args.facts.now c.args.of.now given is).facts_are.worked.1.in_order in
       let close : item.depth ≤ length (last_word [] (take i items)) =
       subst (λ (x : ListItem). x.depth ≤ length (last_word [] (take i items))) (sym c.item-item.is) (near_at [] items i item near within) in
       subst (λ so_far. AreJointSoFar t a test items so_far (drop (i + 1) items) c.add_rows.new.rows.items) (sym taken)
-      (c.in_ok-add_rows.ensures.told t crew a given test items (take i items) (drop (i + 1) items) fits is tells here close now);
+      (c.in_ok-add_rows.ensures.told t crew a given test items (take i items) (drop (i + 1) items) fits is tells there here close now);
   items = λ t fits all.
       let a = c.args.process.now in
       let items = c.args.items.now in

@@ -15,5 +15,5 @@ pub returns-clause-kind : goal.returns-clause-kind
 returns-clause-kind c = λ t h told. c.kind_of.ensures t h (subject_given t c.args.item.now.item.subject) told.tells
 
 pub returns-clause-calls : goal.returns-clause-calls
-returns-clause-calls c = λ t crew a given is told.
-    c.all_calls_on.ensures t crew a given (subject_given t c.args.item.now.item.subject) is told.fits told.tells
+returns-clause-calls c = λ t crew a given is told there.
+    c.all_calls_on.ensures t crew a given (subject_given t c.args.item.now.item.subject) is told.fits told.tells there

@@ -69,12 +69,6 @@ returns-clause-worked g c =
     (ap length c.deref-5.ensures.value ∙ sym many) c.in_ok-watches.ensures.watches)) c.in_ok-watches.ensures.columns c.in_ok-seats.ensures
     (in_order t.rows c.in_ok-entries.entries.items c.known.ensures.rows_in_order c.in_ok-entries.ensures.rows)
 
-pub ask_agents-requires : goal.ask_agents-requires
-ask_agents-requires g c =
-    let members : List (Bor ProcessState) = c.in_ok-members.members.items in
-    let many : c.len.result ≡ length members = grind (arith, common_steps) in
-    ap length c.deref-7.ensures.value ∙ sym many ∙ ap (λ (s : Shape). s.agents) (sym c.in-Some.ensures.same)
-
 pub find_marks-requires : goal.find_marks-requires
 find_marks-requires g c =
     let t = g.T.FileTree.content c.args.tree.now in

@@ -1,6 +1,6 @@
 use Rattle.pua_jointly.proofs.Common.{List, subst}
 use Rattle.pua_jointly.specs.JointCalls.{IsAgentIn, IsOf}
-use Rattle.pua_jointly.specs.declared.crew.Agent.{Agent}
+use Rattle.pua_jointly.specs.declared.agent.Agent.{Agent}
 use Rattle.pua_jointly.proofs.JointTold.{agent_is}
 use Rattle.pua_jointly.proofs.starting.has_exec.Goals as goal
 

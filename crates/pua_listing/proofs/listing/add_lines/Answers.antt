@@ -8,8 +8,8 @@ loop-place-preserved g c =
     let f = number_in c.args.numbers.now in
     let row = c.index-order-place.result in
     record {
-      text = text_more t f c.args.order.now c.loop-place.place row c.loop-place-test.true c.index-order-place.is c.args.text.now.items
+      text = text_more t c.args.form f c.args.order.now c.loop-place.place row c.loop-place-test.true c.index-order-place.is c.args.text.now.items
           c.loop-place.text.items c.add_line.new.text.items c.loop-place.invariant.text c.in_ok-add_line.ensures.line;
-      bytes = bytes_more t f c.args.order.now c.loop-place.place row c.loop-place-test.true c.index-order-place.is c.loop-place.invariant.bytes
+      bytes = bytes_more t c.args.form f c.args.order.now c.loop-place.place row c.loop-place-test.true c.index-order-place.is c.loop-place.invariant.bytes
           c.in_ok-add_line.ensures.bytes;
     }

@@ -9,7 +9,7 @@ use Rattle.pua_listing.proofs.listing.add_lines.Given as goal
 
 abbrev pub invariant-loop-place : goal.invariant-loop-place
 invariant-loop-place g l = record {
-  text : l.text.items ≡ l.fn.text.items ++ text_of_lines (map entry_text
+  text : l.text.items ≡ l.fn.text.items ++ text_of_lines (map (entry_text l.fn.form)
       (entries_from (g.T.FileTree.content l.fn.tree) (number_in l.fn.numbers) 1 (rows_held (take l.place l.order))));
   bytes : IsTrue (list_all (λ e. leads_to_bytes e.made)
       (entries_from (g.T.FileTree.content l.fn.tree) (number_in l.fn.numbers) 1 (rows_held (take l.place l.order))));

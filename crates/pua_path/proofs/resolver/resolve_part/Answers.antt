@@ -11,6 +11,11 @@ returns-in-Directory-clause-exact g c =
     ∙ sym (resolve_onward (rooted (g.P.Probe.tree c.args.probe.now) c.args.from.root) c.args.mode c.args.left c.args.from.dir Top c.args.part.now [] _ _ refl
     c.in-Directory.ensures.exact)
 
+pub returns-in-Directory-clause-fits : goal.returns-in-Directory-clause-fits
+returns-in-Directory-clause-fits g c root dir =
+    parts_fit (rooted (g.P.Probe.tree c.args.probe.now) c.args.from.root) c.known.ensures root c.args.left c.args.from.dir c.args.mode (c.args.part.now ∷ [])
+    (Ok (Whole c.in-Directory.dir c.way-way.result, c.args.left)) dir (returns-in-Directory-clause-exact g c)
+
 pub returns-in-Ok-clause-exact : goal.returns-in-Ok-clause-exact
 returns-in-Ok-clause-exact g c =
     ap (λ found. Ok (found, c.in-Ok.left)) c.found.ensures

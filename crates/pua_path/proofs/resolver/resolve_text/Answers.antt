@@ -12,7 +12,6 @@ loop-way-preserved g c =
     c.next_piece.result.1.bytes.now c.is_empty-in-loop-way.result _ c.next_piece.ensures c.is_empty-in-loop-way.ensures met in
     record {
       tree = search rules;
-      here = search rules;
       so_far = sym step ∙ c.loop-way.invariant.so_far;
     }
 

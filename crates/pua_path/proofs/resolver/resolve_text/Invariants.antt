@@ -1,6 +1,4 @@
 use Rattle.pua_path.proofs.Common.{rooted, ◌≡◌, length, rest_parts, resolve_parts, way_of, Top}
-use Rattle.std.proofs.Common.{IsTrue}
-use Rattle.pua_path.specs.Walks.{is_here}
 use Rattle.pua_path.proofs.resolver.resolve_text.Given as goal
 
 abbrev pub invariant-loop-way : goal.invariant-loop-way
@@ -8,7 +6,6 @@ invariant-loop-way g l =
     let t = g.P.Probe.tree l.fn.probe in
     record {
       tree : g.P.Probe.tree l.probe ≡ t;
-      here : IsTrue (is_here t l.fn.start.root l.dir);
       so_far : resolve_parts l.fn.left (rooted t l.fn.start.root) l.fn.mode l.dir (way_of l.way) (rest_parts l.rest.bytes.now)
           ≡ resolve_parts l.fn.left (rooted t l.fn.start.root) l.fn.mode l.fn.start.dir Top (rest_parts l.fn.text.bytes.now);
     }

@@ -1,4 +1,4 @@
-use Rattle.pua_script.proofs.Common.{sym, ap, ◌∙◌, option_map, node_named, asker_of, OnPath}
+use Rattle.pua_script.proofs.Common.{sym, ap, ◌∙◌, option_map, node_named, asker_of, OnPath, Some}
 use Rattle.std.specs.Prelude.{Ok, Err}
 use Rattle.pua_path.specs.Walks.{found_seen, founds_seen}
 use Rattle.pua_path.specs.declared.found.Found.{Found}
@@ -23,8 +23,8 @@ returns-in-None-clause-exact g c = λ whole kind.
     let further : Found → Decision = λ object. Ok (change_by c.args.table.now c.args.call object) in
     let object = found_seen c.in-Ok.lent in
     acts c.args.table.now _ c.args.process.now (OnPath c.args.call c.args.path.now) (Ok granted.NoChange)
-    (ap Ok (sym (nowhere c.args.call (node_named object))
-    ∙ ap (λ s. edit_by c.args.call s (node_named object)) (ap (option_map spot_now) (sym c.in-None.is) ∙ c.spot_named.ensures)
+    (ap Ok (sym (nowhere c.args.table.now.whose c.args.call (node_named object))
+    ∙ ap (λ s. edit_by c.args.table.now.whose c.args.call s (node_named object)) (ap (option_map spot_now) (sym c.in-None.is) ∙ c.spot_named.ensures)
     ∙ edits_by c.args.table.now c.args.call object kind)
     ∙ ap (λ r. if_named (founds_seen r) further) (sym c.in-Ok.is) ∙ sym (c.judge_object.ensures further)
     ∙ sym whole)
@@ -36,7 +36,8 @@ returns-clause-exact g c = λ whole kind.
     let object = found_seen c.in-Ok.lent in
     acts c.args.table.now _ c.args.process.now (OnPath c.args.call c.args.path.now) (Ok c.editing.result)
     (c.editing.ensures (asker_of c.args.process.now)
-    ∙ ap Ok (at_spot (edit_by c.args.call) object c.in-Some.spot.dir c.in-Some.spot.name.bytes.now c.name-name.result
+    ∙ ap (λ whose. Ok (edit_by whose c.args.call (Some (c.in-Some.spot.dir, c.name-name.result)) c.node_named-there.result)) c.rules.ensures
+    ∙ ap Ok (at_spot (edit_by c.args.table.now.whose c.args.call) object c.in-Some.spot.dir c.in-Some.spot.name.bytes.now c.name-name.result
     c.node_named-there.result (ap (option_map spot_now) (sym c.in-Some.is) ∙ c.spot_named.ensures) c.name-name.ensures
     c.node_named-there.ensures
     ∙ edits_by c.args.table.now c.args.call object kind)

@@ -8,24 +8,17 @@ use Rattle.pua_audit.proofs.Covers.{covered_lead, founds_are, founds_of, named_a
 use Rattle.pua_audit.proofs.Told.{letter_told, by_both, by_kept}
 use Rattle.pua_audit.proofs.terms.Terms.followed.Goals as goal
 
-pub follow-requires : goal.follow-requires
-follow-requires g c κs =
-    let t : Tree = c.args.self.now.seen.tree in
-    let living : is_dir t c.args.dir ≡ true = c.requires.living in (
-      (refl, tt),
-      (λ i. is_dir (c.requires.tree i) (c.start_in.ensures.dir i)) ∙ living,
-    )
-
 pub cover_of-cover-requires : goal.cover_of-cover-requires
 cover_of-cover-requires g c κs =
     let t : Tree = c.args.self.now.seen.tree in
     let root = (λ i. is_dir (c.requires.tree i) c.start_in.result.root) ∙ c.start_in.ensures.lives in
+    let here = (λ i. is_dir (c.requires.tree i) (c.start_in.ensures.dir i)) ∙ c.requires.living in
     let r : Result (Found × ℕ) Errno = c.follow.result in (
       (refl, tt),
       (
         c.follow.ensures.tree ∙ c.requires.tree,
         subst (FoundsFit t) (sym c.counted-followed.ensures.found)
-            (founds_of t r (subst (λ (u : Tree). IfOk r (λ object. FoundFits u object.0)) c.requires.tree (c.follow.ensures.fits root))),
+            (founds_of t r (subst (λ (u : Tree). IfOk r (λ object. FoundFits u object.0)) c.requires.tree (c.follow.ensures.fits root here))),
       ),
     )
 
@@ -45,6 +38,7 @@ returns-clause-exact g c = λ covered.
     let h : ProcessState = a.process in
     let dir : ℕ = c.args.dir in
     let root = (λ i. is_dir (c.requires.tree i) c.start_in.result.root) ∙ c.start_in.ensures.lives in
+    let here = (λ i. is_dir (c.requires.tree i) (c.start_in.ensures.dir i)) ∙ c.requires.living in
     let letter : List ℕ = c.args.letter.now in
     let r : Result (Found × ℕ) Errno = follow (seen_by t h) dir (part_of letter) in
     let part : c.part-part.result ≡ part_of letter = c.part-part.ensures.part in
@@ -60,11 +54,11 @@ returns-clause-exact g c = λ covered.
     let named : IfOk c.counted-followed.result.0 (StandsAsNamed t) =
     subst (λ (f : Result Found Errno). IfOk f (StandsAsNamed t)) (sym c.counted-followed.ensures.found)
     (founds_are (StandsAsNamed t) c.follow.result (subst (λ (u : Tree). IfOk c.follow.result (λ object. StandsAsNamed u object.0))
-    c.requires.tree (c.follow.ensures.named root))) in
+    c.requires.tree (c.follow.ensures.named root here))) in
     let fit : FoundsFit t c.counted-followed.result.0 =
     subst (FoundsFit t) (sym c.counted-followed.ensures.found)
     (founds_of t c.follow.result (subst (λ (u : Tree). IfOk c.follow.result (λ object. FoundFits u object.0)) c.requires.tree
-    (c.follow.ensures.fits root))) in
+    (c.follow.ensures.fits root here))) in
     let left = c.cover_of-cover.ensures.exact named covered c.requires.living
     (named_above (seen_by t h) dir c.part-part.result c.counted-followed.result.0 found_here) in
     let on = λ (call : Call). c.calls_on-near.ensures.exact fit left call ∙
@@ -92,10 +86,11 @@ returns-clause-covered g c = λ covered.
     let a = c.args.self.now in
     let h : ProcessState = a.process in
     let root = (λ i. is_dir (c.requires.tree i) c.start_in.result.root) ∙ c.start_in.ensures.lives in
+    let here = (λ i. is_dir (c.requires.tree i) (c.start_in.ensures.dir i)) ∙ c.requires.living in
     let fit : FoundsFit a.seen.tree c.counted-followed.result.0 =
     subst (FoundsFit a.seen.tree) (sym c.counted-followed.ensures.found)
     (founds_of a.seen.tree c.follow.result (subst (λ (u : Tree). IfOk c.follow.result (λ found. FoundFits u found.0)) c.requires.tree
-    (c.follow.ensures.fits root))) in
+    (c.follow.ensures.fits root here))) in
     let followed_here : c.follow.result ≡ follow (seen_by a.seen.tree h) c.args.dir c.part-part.result = c.follow.ensures.exact
     ∙ (λ i. follow (rooted (c.requires.tree i) (c.start_in.ensures.root i)) (c.start_in.ensures.dir i) c.part-part.result) in
     let found_here : c.counted-followed.result.0 ≡ found_of (follow (seen_by a.seen.tree h) c.args.dir c.part-part.result) =
@@ -103,7 +98,7 @@ returns-clause-covered g c = λ covered.
     let named : IfOk c.counted-followed.result.0 (StandsAsNamed a.seen.tree) =
     subst (λ (f : Result Found Errno). IfOk f (StandsAsNamed a.seen.tree)) (sym c.counted-followed.ensures.found)
     (founds_are (StandsAsNamed a.seen.tree) c.follow.result (subst (λ (u : Tree). IfOk c.follow.result
-    (λ object. StandsAsNamed u object.0)) c.requires.tree (c.follow.ensures.named root))) in
+    (λ object. StandsAsNamed u object.0)) c.requires.tree (c.follow.ensures.named root here))) in
     subst (λ (o : Option ℕ). IfSome o (λ to. c.cover_of-cover.result ≡ cover_in a.seen.tree h to)) (sym c.directory_of.ensures)
     (covered_lead a.seen.tree h a.tree c.counted-followed.result.0 c.cover_of-cover.result fit
     (c.cover_of-cover.ensures.exact named covered c.requires.living

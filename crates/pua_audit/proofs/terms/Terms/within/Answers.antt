@@ -1,5 +1,7 @@
 use Rattle.pua_audit.proofs.Common.{◌∙◌, refl, IsMissing}
-use Rattle.pua_policy.specs.Verdict.{IsFile, IsProg}
+use Rattle.pua_tree.specs.declared.node.Kind.TheVariants.{Known}
+use Rattle.pua_tree.specs.declared.node.FileType.TheVariants.{Plain, Sock, Fifo, Dev}
+use Rattle.pua_policy.specs.Verdict.{Is, IsFile, IsProg}
 use Rattle.pua_audit.proofs.Covers.{within_is}
 use Rattle.pua_audit.proofs.terms.Terms.within.Goals as goal
 
@@ -12,5 +14,9 @@ returns c = λ dir living over bare.
       missing = λ call. c.calls_over.ensures t IsMissing refl call ∙ is IsMissing call;
       file = λ call. c.calls_over-2.ensures t IsFile refl call ∙ is IsFile call;
       program = λ call. c.calls_over-3.ensures t IsProg refl call ∙ is IsProg call;
+      plain = λ call. c.calls_over-4.ensures t (Is (Known Plain)) refl call ∙ is (Is (Known Plain)) call;
+      socket = λ call. c.calls_over-5.ensures t (Is (Known Sock)) refl call ∙ is (Is (Known Sock)) call;
+      fifo = λ call. c.calls_over-6.ensures t (Is (Known Fifo)) refl call ∙ is (Is (Known Fifo)) call;
+      device = λ call. c.calls_over-7.ensures t (Is (Known Dev)) refl call ∙ is (Is (Known Dev)) call;
       bare = bare;
     }

@@ -1,5 +1,5 @@
 use Rattle.pua_ever.proofs.Common.{◌≡◌, ◌∙◌, sym, Some, None, empty_tree, has, object_seen, object_of_kind, rules, tests, IsMissing, Kind}
-use Rattle.pua_tree.specs.declared.node.Kind.TheVariants.{Dir, File, Prog, Link}
+use Rattle.pua_tree.specs.declared.node.Kind.TheVariants.{Dir, File, Prog, Link, Known}
 use Rattle.pua_policy.specs.declared.object.Object.TheVariants as see
 use Rattle.pua_ever.specs.Ever.{can_allow}
 use Rattle.pua_ever.specs.Prospects.{kind_covers}
@@ -11,6 +11,7 @@ not_missing Dir e = cc
 not_missing File e = cc
 not_missing Prog e = cc
 not_missing Link e = cc
+not_missing (Known type) e = cc
 
 pub returns-then-eq : goal.returns-then-eq
 returns-then-eq c = λ t kind found sees call.

@@ -1,24 +1,39 @@
-use Rattle.pua_ever.proofs.Common.{◌≡◌, refl, ◌∙◌, ◌&&◌, ◌||◌, list_any, Some, empty_tree, has}
-use Rattle.pua_ever.proofs.Common.{object_seen, object_of_kind, Call, is_allowed_under, rules, tests}
-use Rattle.pua_tree.specs.declared.node.Kind.TheVariants.{Dir, File, Prog, Link}
-use Rattle.pua_policy.specs.Verdict.{IsFile}
-use Rattle.pua_ever.specs.Ever.{can_allow, is_exec_call, named_covers, turning_calls}
+use Rattle.pua_ever.proofs.Common.{◌≡◌, Bool, true, false, refl, sym, ap, ◌∙◌, ◌&&◌, ◌||◌, list_any, List, Some, if◌then◌else◌, has, Call}
+use Rattle.pua_ever.proofs.Common.{Cover, is_allowed_under}
+use Rattle.pua_tree.specs.declared.node.Kind.TheVariants.{Prog}
+use Rattle.pua_policy.specs.Verdict.{Is, IsProg}
+use Rattle.pua_ever.proofs.MadeKinds.{start_covers}
+use Rattle.pua_ever.specs.Ever.{is_exec_call, may_start, named_covers, starts_under, turning_calls}
+use Rattle.pua_ever.specs.Prospects.{is_startable}
 use Rattle.pua_ever.proofs.prospects.Prospects.on_thing.Goals as goal
-use Rattle.pua_ever.proofs.prospects.Prospects.on_thing.Goals.{Start}
+
+pub returns-then-not-is_startable : goal.returns-then-not-is_startable
+returns-then-not-is_startable c = λ t kind found sees call.
+    let table = c.args.table.now in
+    let h = c.args.process.now in
+    let covers : List Cover = named_covers t table h (Some kind) c.args.item.now.cover in
+    let stays : may_start kind ≡ false =
+    sym (ap is_startable sees) ∙ sym c.is_startable.ensures ∙ c.if-not-is_startable.true in
+    let started : Bool =
+    (c.args.turned || list_any (is_allowed_under table h covers (Is kind)) turning_calls) && starts_under table h covers call in
+    c.on_seen-calls.ensures t kind found sees call
+    ∙ (λ i. if sym stays i then (is_allowed_under table h covers (Is kind) call || started)
+    else is_allowed_under table h covers (Is kind) call)
 
 pub returns : goal.returns
 returns c = λ t kind found sees call.
+    let table = c.args.table.now in
     let h = c.args.process.now in
-    elim kind as (λ k. c.args.item.now.object ≡ object_seen empty_tree (object_of_kind (Some k)) → has c.on_file.result call
-    ≡ can_allow c.args.table.now h c.args.turned (named_covers t c.args.table.now h (Some k) c.args.item.now.cover) (object_of_kind (Some k)) call) [
-      | File ↦ λ sees. (
-          let as_file : (x : Call) → has c.on_seen-calls.result x
-          ≡ is_allowed_under c.args.table.now h (named_covers t c.args.table.now h (Some File) c.args.item.now.cover) IsFile x =
-          λ x. c.on_seen-calls.ensures t File found sees x in
-          let as_program = c.on_seen-as_program.ensures t Prog found refl in
-          c.on_file.ensures call ∙
-          (λ i. as_file call i || ((c.args.turned || list_any (λ x. as_file x i) turning_calls) && (is_exec_call call && as_program call i))))
-      | Dir ↦ λ sees. search (rules, tests)
-      | Prog ↦ λ sees. search (rules, tests)
-      | Link ↦ λ sees. search (rules, tests)
-    ] sees
+    let covers : List Cover = named_covers t table h (Some kind) c.args.item.now.cover in
+    let starts : may_start kind ≡ true =
+    sym (ap is_startable sees) ∙ sym c.is_startable.ensures ∙ c.if-not-is_startable.false in
+    let as_file : (x : Call) → has c.on_seen-calls.result x ≡ is_allowed_under table h covers (Is kind) x =
+    λ x. c.on_seen-calls.ensures t kind found sees x in
+    let as_program : has c.on_seen-as_program.result call ≡ is_allowed_under table h covers IsProg call =
+    c.on_seen-as_program.ensures t Prog found refl call
+    ∙ ap (λ ks. is_allowed_under table h ks IsProg call) (start_covers t table h c.args.item.now.cover kind starts) in
+    c.on_file.ensures call
+    ∙ (λ i. as_file call i || ((c.args.turned || list_any (λ x. as_file x i) turning_calls) && (is_exec_call call && as_program i)))
+    ∙ (λ i. if sym starts i then (is_allowed_under table h covers (Is kind) call
+    || ((c.args.turned || list_any (is_allowed_under table h covers (Is kind)) turning_calls) && starts_under table h covers call))
+    else is_allowed_under table h covers (Is kind) call)

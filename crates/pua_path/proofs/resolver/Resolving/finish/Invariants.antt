@@ -1,6 +1,7 @@
 use Rattle.pua_path.proofs.Common.{rooted, ◌≡◌, ◌≤◌, ◌+◌, resolve_parts, way_of}
 use Rattle.std.proofs.Common.{◌*◌}
-use Rattle.pua_path.specs.Walks.{CanGoOn, potential}
+use Rattle.pua_path.specs.Limits.{most_links}
+use Rattle.pua_path.specs.Walks.{potential}
 use Rattle.pua_path.proofs.resolver.Resolving.finish.Given as goal
 
 abbrev pub invariant-loop-piece : goal.invariant-loop-piece
@@ -8,7 +9,7 @@ invariant-loop-piece g l =
     let t = g.P.Probe.tree l.fn.probe in
     record {
       tree : g.P.Probe.tree l.probe ≡ t;
-      ready : CanGoOn t l.self.root l.self.here l.self.left l.self.rest;
+      room : l.self.rest.depth + l.self.left ≤ most_links;
       left : l.self.left ≤ l.fn.self.left;
       so_far : resolve_parts l.self.left (rooted t l.self.root) l.fn.mode l.self.here (way_of l.self.way) l.self.rest.parts ≡ resolve_parts l.fn.self.left
           (rooted t l.fn.self.root) l.fn.mode l.fn.self.here (way_of l.fn.self.way) l.fn.self.rest.parts;

@@ -26,7 +26,7 @@ loop-piece-init g c =
     let start = rw c.bytes.ensures.bytes at c.in-Some.ensures.start in
     record {
       tree = c.start_of.ensures.tree;
-      ready = rw (c.new-walk.ensures) (c.in-Some.ensures.ready c.of_text.result c.of_text.ensures.depth);
+      stack = rw (c.new-walk.ensures) (omega (arith, c.of_text.ensures.depth));
       so_far = sym (trace_begins t c.args.from text.ending text.bytes c.args.mode c.in-Some.start walk.left walk.root walk.here
           (way_of walk.way) walk.rest.parts
           (after_links spots.items (walk_trace t c.args.mode walk))
@@ -75,7 +75,7 @@ returns-clause-fits g c =
 pub loop-piece-preserved-then-walk-left : goal.loop-piece-preserved-then-walk-left
 loop-piece-preserved-then-walk-left g c = record {
   tree = search rules;
-  ready = search rules;
+  stack = search rules;
   so_far =
       let t = g.P.Probe.tree c.args.probe.now in
       let spot : Spot = (c.loop-piece.walk.here, c.name.result) in

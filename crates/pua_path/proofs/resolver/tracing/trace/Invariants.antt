@@ -1,7 +1,7 @@
 use Rattle.pua_path.proofs.Common.{◌≡◌, ◌≤◌, ◌+◌, after_links, as_path_trace, trace_from}
 use Rattle.std.proofs.Common.{vec_len, vec_capacity}
 use Rattle.pua_path.specs.Limits.{most_links}
-use Rattle.pua_path.specs.Walks.{CanGoOn, potential_of, walk_trace}
+use Rattle.pua_path.specs.Walks.{potential_of, walk_trace}
 use Rattle.pua_path.proofs.resolver.tracing.trace.Given as goal
 
 abbrev pub invariant-loop-piece : goal.invariant-loop-piece
@@ -9,7 +9,7 @@ invariant-loop-piece g l =
     let t = g.P.Probe.tree l.fn.probe in
     record {
       tree : g.P.Probe.tree l.probe ≡ t;
-      ready : CanGoOn t l.walk.root l.walk.here l.walk.left l.walk.rest;
+      stack : l.walk.rest.depth + l.walk.left ≤ most_links;
       so_far : as_path_trace (after_links l.links-inside.spots.items (walk_trace t l.fn.mode l.walk))
           ≡ trace_from t l.fn.from l.fn.text.ending l.fn.text.bytes l.fn.mode;
       room : vec_len l.links-inside.spots + l.walk.left ≤ vec_capacity l.links-inside.spots;

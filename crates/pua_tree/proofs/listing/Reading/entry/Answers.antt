@@ -1,5 +1,4 @@
-use Rattle.pua_tree.proofs.Common.{◌≡◌, ap, Some, None, Ok, Err, sym, ◌∙◌, err_from_is_err_and, listing_line, number_in, parent_in, name_of}
-use Rattle.pua_tree.specs.Listing.{knows_hard}
+use Rattle.pua_tree.proofs.Common.{◌≡◌, Some, None, Ok, Err, sym, ◌∙◌, err_from_is_err_and, listing_line, number_in, parent_in, name_of}
 use Rattle.pua_tree.proofs.Common.{line_read}
 use Rattle.pua_tree.proofs.Judged.{number_here, parent_here, bad_parent, bad_name, bad_node, whole_entry}
 use Rattle.pua_tree.proofs.listing.Reading.entry.Goals as goal
@@ -7,8 +6,8 @@ use Rattle.pua_tree.proofs.listing.Reading.entry.Goals as goal
 pub returns-in_default-dir_in : goal.returns-in_default-dir_in
 returns-in_default-dir_in g c = λ es h _.
     let line = line_read c.in-Some.line in
-    let read : listing_line (knows_hard c.args.self.now.form) c.args.text.now ≡ Some line =
-    ap (λ b. listing_line b c.args.text.now) (sym c.knows_hard.ensures) ∙ sym c.in-Some.ensures in
+    let read : listing_line c.args.self.now.form c.args.text.now ≡ Some line =
+    sym c.in-Some.ensures in
     let number : number_in es line ≡ Some c.in-Some-number_after.number =
     sym (number_here c.args.self.now.form (g.T.FileTree.content c.args.self.now.tree) c.args.self.now.greatest es line h) ∙
     sym c.in-Some-number_after.ensures in
@@ -20,8 +19,8 @@ returns-in_default-dir_in g c = λ es h _.
 pub returns-in_default-read : goal.returns-in_default-read
 returns-in_default-read g c = λ es h _.
     let line = line_read c.in-Some.line in
-    let read : listing_line (knows_hard c.args.self.now.form) c.args.text.now ≡ Some line =
-    ap (λ b. listing_line b c.args.text.now) (sym c.knows_hard.ensures) ∙ sym c.in-Some.ensures in
+    let read : listing_line c.args.self.now.form c.args.text.now ≡ Some line =
+    sym c.in-Some.ensures in
     let number : number_in es line ≡ Some c.in-Some-number_after.number =
     sym (number_here c.args.self.now.form (g.T.FileTree.content c.args.self.now.tree) c.args.self.now.greatest es line h) ∙
     sym c.in-Some-number_after.ensures in
@@ -35,8 +34,8 @@ returns-in_default-read g c = λ es h _.
 pub returns-in_err-node : goal.returns-in_err-node
 returns-in_err-node g c = λ es h.
     let line = line_read c.in-Some.line in
-    let read : listing_line (knows_hard c.args.self.now.form) c.args.text.now ≡ Some line =
-    ap (λ b. listing_line b c.args.text.now) (sym c.knows_hard.ensures) ∙ sym c.in-Some.ensures in
+    let read : listing_line c.args.self.now.form c.args.text.now ≡ Some line =
+    sym c.in-Some.ensures in
     let number : number_in es line ≡ Some c.in-Some-number_after.number =
     sym (number_here c.args.self.now.form (g.T.FileTree.content c.args.self.now.tree) c.args.self.now.greatest es line h) ∙
     sym c.in-Some-number_after.ensures in
@@ -51,8 +50,8 @@ returns-in_err-node g c = λ es h.
 pub returns : goal.returns
 returns g c = λ es h.
     let line = line_read c.in-Some.line in
-    let read : listing_line (knows_hard c.args.self.now.form) c.args.text.now ≡ Some line =
-    ap (λ b. listing_line b c.args.text.now) (sym c.knows_hard.ensures) ∙ sym c.in-Some.ensures in
+    let read : listing_line c.args.self.now.form c.args.text.now ≡ Some line =
+    sym c.in-Some.ensures in
     let number : number_in es line ≡ Some c.in-Some-number_after.number =
     sym (number_here c.args.self.now.form (g.T.FileTree.content c.args.self.now.tree) c.args.self.now.greatest es line h) ∙
     sym c.in-Some-number_after.ensures in

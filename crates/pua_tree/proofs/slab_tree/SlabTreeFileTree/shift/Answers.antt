@@ -1,6 +1,5 @@
 use Rattle.pua_tree.proofs.Common.{rules, arith, ◌≡◌, ◌<◌, ◌∙◌, ℕ, Option, Some, None, Ok, sym, ap, subst, WellFormed}
 use Rattle.pua_tree.proofs.Common.{with_row, without_row, without_unnamed, with_row_moved, held_in_slots, held_rows}
-use Rattle.indexmap.specs.IndexMap.{spare}
 use Rattle.pua_tree.specs.Tree as tree
 use Rattle.pua_tree.specs.Slots.{HasRow, MayMove}
 use Rattle.pua_tree.proofs.EditsKeep.{edits_keep_trees}
@@ -19,7 +18,7 @@ pub returns-in_err-reserve_row-clause-unchanged : goal.returns-in_err-reserve_ro
 returns-in_err-reserve_row-clause-unchanged c = grind (rules, c.reserve_row.ensures.same c.self.inside.numbering, c.self.view_is)
 
 -- room is left for the row that moves
-room : (c : goal.After-drop_unnamed) → 0 < spare c.take_row-names.new.self.rows
+room : (c : goal.After-drop_unnamed) → 0 < c.take_row-names.new.self.rows.room
 room c = let made = c.in_ok-reserve_row.ensures.room in omega (arith, made, c.take_row-names.ensures.room)
 
 -- the row of the other node that goes

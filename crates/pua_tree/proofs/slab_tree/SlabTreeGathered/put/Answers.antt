@@ -7,7 +7,8 @@ use Rattle.pua_tree.specs.Reading as reading
 use Rattle.pua_tree.specs.Reading.{node_follows, row_follows, said_node}
 use Rattle.pua_tree.specs.declared.gathered.MadeNode.{MadeNode}
 use Rattle.std.specs.Prelude.{is_none}
-use Rattle.pua_tree.proofs.SlotsHold.{nodes_found}
+use Rattle.pua_tree.proofs.Common.{List, look, row_at}
+use Rattle.pua_tree.proofs.SlotsHold.{nodes_found, rows_found}
 use Rattle.pua_tree.proofs.Follows.{follows_from}
 use Rattle.pua_tree.proofs.Raised.{grown_keeps}
 use Rattle.pua_tree.proofs.SlabTrees.{kind_known}
@@ -15,6 +16,12 @@ use Rattle.pua_tree.proofs.slab_tree.SlabTreeGathered.put.Goals as goal
 use Rattle.pua_tree.proofs.slab_tree.SlabTreeGathered.put.Goals.{then-is_none-via-then-is_none}
 use Rattle.pua_tree.proofs.slab_tree.SlabTreeGathered.put.Goals.{then-is_none-via-else-is_none+then-not-may_stand}
 use Rattle.pua_tree.proofs.slab_tree.SlabTreeGathered.put.Goals.{then-is_none-via-else-is_none+else-not-may_stand+then-not-may_put_row}
+
+-- the node that was looked up by the place of a name
+looked_up : (s : Slots) (numbering : Numbering) (t : Tree) (dir : ℕ) (name bytes : List ℕ) (there : Option ℕ) → held_in_slots s numbering ≡ t →
+    bytes ≡ name → there ≡ row_at s (dir, bytes) → there ≡ look t dir name
+looked_up s numbering t dir name bytes there same spelled found =
+    found ∙ ap (λ n. row_at s (dir, n)) spelled ∙ sym (rows_found s (dir, name)) ∙ ap (λ (u : Tree). look u dir name) same
 
 -- the directory of a spot lives where its slot was found
 slot_of_dir : (s : Slots) (numbering : Numbering) (t : Tree) (dir : ℕ) (slot : Option ℕ) → held_in_slots s numbering ≡ t →
@@ -62,6 +69,8 @@ returns-then-is_none-clause-follows c =
     stands_by c.self.inside.slots c.self.inside.numbering t e.number e.node c.args.stands.made c.other_slot-other.result c.self.view_is
     c.other_slot-other.ensures.other in
     let row = row_follows t e.number e.parent e.name in
+    let there = looked_up c.self.inside.slots c.self.inside.numbering t e.parent e.name c.bytes.result.now c.row_at_place-there.result
+    c.self.view_is c.bytes.ensures.bytes (c.row_at_place-there.ensures c.bytes.result.now c.place-place.ensures) in
     sym (elim c.then-is_none.branch [
       | then-is_none-via-then-is_none w ↦ ap (λ b. b && (node_follows t e.number e.node e.made && row))
           (found ∙ c.is_none.ensures ∙ ap not w.if-is_none.true)
@@ -69,7 +78,7 @@ returns-then-is_none-clause-follows c =
           (found ∙ c.is_none.ensures ∙ ap not w.if-is_none.false) (stands ∙ sym w.may_stand.ensures ∙ w.if-not-may_stand.true) row
       | then-is_none-via-else-is_none+else-not-may_stand+then-not-may_put_row w ↦ both
           (found ∙ c.is_none.ensures ∙ ap not w.if-is_none.false) (stands ∙ sym w.may_stand.ensures ∙ w.if-not-may_stand.false) row
-          ∙ sym w.may_put_row.ensures.follows ∙ w.if-not-may_put_row.true
+          ∙ sym (w.may_put_row.ensures.follows there) ∙ w.if-not-may_put_row.true
     ])
 
 -- the entry passed the test
@@ -91,7 +100,9 @@ module _ (c : goal.After-self-1) where
       c.dir_slot-above.ensures.dir ∙ has_slot)
       (and_from _ _ (stands_by c.self.inside.slots c.self.inside.numbering c.args.self.now e.number e.node c.args.stands.made
       c.other_slot-other.result c.self.view_is c.other_slot-other.ensures.other ∙ stands)
-      (sym c.may_put_row.ensures.follows ∙ c.if-not-may_put_row.false))
+      (sym (c.may_put_row.ensures.follows (looked_up c.self.inside.slots c.self.inside.numbering c.args.self.now e.parent e.name
+      c.bytes.result.now c.row_at_place-there.result c.self.view_is c.bytes.ensures.bytes
+      (c.row_at_place-there.ensures c.bytes.result.now c.place-place.ensures))) ∙ c.if-not-may_put_row.false))
 
   -- where no node is made, its slot was found
   node_slot : is_none c.args.stands.made ≡ true → c.other_slot-other.result ≡ slot_of c.self.inside.slots c.args.stands.node

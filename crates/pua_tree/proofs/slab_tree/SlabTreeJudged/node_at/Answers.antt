@@ -1,7 +1,8 @@
-use Rattle.pua_tree.proofs.Common.{◌∙◌, sym, ap, Tree, look}
+use Rattle.pua_tree.proofs.Common.{◌∙◌, sym, ap, Tree, look, row_at}
 use Rattle.pua_tree.proofs.SlotsHold.{rows_found}
 use Rattle.pua_tree.proofs.slab_tree.SlabTreeJudged.node_at.Goals as goal
 
 pub returns : goal.returns
-returns c = c.row.ensures ∙ sym (rows_found c.self.inside.slots (c.args.spot.now.dir, c.args.spot.now.name)) ∙
-    ap (λ (t : Tree). look t c.args.spot.now.dir c.args.spot.now.name) c.self.view_is
+returns c = c.row.ensures ∙ ap (λ name. row_at c.self.inside.slots (c.args.spot.now.dir, name)) c.bytes.ensures.bytes
+    ∙ sym (rows_found c.self.inside.slots (c.args.spot.now.dir, c.args.spot.now.name))
+    ∙ ap (λ (t : Tree). look t c.args.spot.now.dir c.args.spot.now.name) c.self.view_is

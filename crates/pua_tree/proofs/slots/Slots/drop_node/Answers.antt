@@ -41,7 +41,7 @@ returns-in_default-clause-kept c kept =
     let new : Slots = record old { numbers = c.swap_remove.new.self } in
     let same = rw c.in_default.is at c.swap_remove.ensures.unchanged in
     let slots = λ (q : ℕ). ap (lookup (number_ghosts.eq q)) same in
-    kept_alike old new refl (found_alike old new slots (λ _. refl)) (filed_alike old new slots (λ _. refl) refl (ap length same)
+    kept_alike old new refl refl (found_alike old new slots (λ _. refl)) (filed_alike old new slots (λ _. refl) refl (ap length same)
     kept.filed) kept
 
 pub returns-in_default-clause-nodes : goal.returns-in_default-clause-nodes

@@ -1,11 +1,10 @@
 use Rattle.pua_tree.proofs.Common.{◌∙◌, ◌<◌, arith, ap, put, spot_cmp}
-use Rattle.indexmap.specs.IndexMap.{spare}
 use Rattle.pua_tree.specs.Slots.{MayEnter, MayMove}
 use Rattle.pua_tree.proofs.SlabEdits.{moved_may_enter}
 use Rattle.pua_tree.proofs.slots.Slots.move_row.Goals as goal
 
 -- what is left once the row is taken
-still_room : (c : goal.After-put_row) → 0 < spare c.args.self.now.rows → 0 < spare c.take_row.new.self.rows
+still_room : (c : goal.After-put_row) → 0 < c.args.self.now.rows.room → 0 < c.take_row.new.self.rows.room
 still_room c room = omega (arith, room, c.take_row.ensures.room)
 
 comes : (c : goal.After-put_row) → MayMove c.args.self.now (c.args.from, c.args.name.now) (c.args.to, c.args.new_name) c.args.node →

@@ -1,7 +1,7 @@
-use Rattle.pua_tree.proofs.Common.{◌≡◌, ◌<◌, ◌∙◌, ℕ, sym, ap, subst, put, IfSome, WellFormed, spot_cmp, Follows, entry_at}
+use Rattle.pua_tree.proofs.Common.{◌≡◌, ◌<◌, ◌∙◌, sym, ap, subst, put, IfSome, WellFormed, spot_cmp, Follows, entry_at}
 use Rattle.pua_tree.proofs.Common.{◌+◌, AreConsistent, held_in_slots, held_rows, slot_of, true, Slots, Entry, tree_with}
 use Rattle.std.specs.Prelude.{is_none}
-use Rattle.indexmap.specs.IndexMap.{spare}
+use Rattle.pua_tree.specs.NamedRows.{HeldRows}
 use Rattle.pua_tree.specs.Numbering.{with_next}
 use Rattle.pua_tree.specs.declared.numbering.Numbering.{Numbering}
 use Rattle.pua_tree.specs.Tree as tree
@@ -31,8 +31,8 @@ module _ (c : goal.After-put_row_under) (above : c.args.above ≡ slot_of c.args
   still_follows : Follows (held_in_slots s numbering) e
   still_follows = subst (λ (t : tree.Tree). Follows t e) (sym (c.reserve_node.ensures.same numbering)) follows
 
-  row_room : 0 < spare c.add_made-slot.new.self.rows
-  row_room = subst (λ rows. 0 < spare rows) (sym c.add_made-slot.ensures.rows) c.in_ok-reserve_node.ensures.row_room
+  row_room : 0 < c.add_made-slot.new.self.rows.room
+  row_room = subst (λ (rows : HeldRows). 0 < rows.room) (sym c.add_made-slot.ensures.rows) c.in_ok-reserve_node.ensures.row_room
 
   -- the node that is made is new, and its row may come to its spot
   is_new : IfSome c.args.stands.made (λ _. IsNew s c.args.stands.node)

@@ -12,7 +12,7 @@ returns-clause-kept c kept =
     let got = λ (slot : ℕ). ap (λ (s : Slab SlotNode). slot_get s slot) c.reserve-3.ensures.rest_kept in
     let filed = filed_alike old new slots got (ap (λ (s : Slab SlotNode). slab_len s) c.reserve-3.ensures.rest_kept)
     (ap length c.reserve-2.ensures.entries) kept.filed in
-    kept_alike old new (sym c.reserve.ensures.entries) (found_alike old new slots got) filed kept
+    kept_alike old new (sym c.reserve.ensures.entries) (sym c.reserve.ensures.names) (found_alike old new slots got) filed kept
 
 pub returns-clause-slots : goal.returns-clause-slots
 returns-clause-slots c x = ap (lookup (number_ghosts.eq x)) c.reserve-2.ensures.entries

@@ -5,6 +5,6 @@ pub returns-in-DotDot : goal.returns-in-DotDot
 returns-in-DotDot c =
     both_lead
     (λ left here over. λ t fits fit named covered living dots.
-    handed_over t c.args.process.now fits c.args.found.now fit c.args.from left (here t covered) (over t fits covered living)
-    (dots c.in-DotDot.is))
+    handed_over t c.args.process.now fits c.args.found.now fit c.args.from left living (here t covered)
+    (over t fits covered living) (dots c.in-DotDot.is))
     c.handed_up.result c.handed_up.ensures.here c.handed_up.ensures.above
