@@ -1281,37 +1281,40 @@ module _ (t : Tree) (well : WellFormed t) (table : CallTable) (crew : List Proce
           has_or (flag (code.can_enter t c told agent d) 18) (flag (code.can_turn c told agent d) 19) 18
           ∙ or_left (code.has_one (flag (code.can_enter t c told agent d) 18) 18) _
           (flag_has (code.can_enter t c told agent d) 18
-          (enter_has i a agent by is d (Old d) (old_at low) (subst Now (sym (same_Some (Enters a (Old d)) x e)) now)))
-      ways_have d low (suc zero) x e now =
+          (enter_has i a agent by is d (Old d) (old_at low) near (subst Now (sym (same_Some (Enters a (Old d)) x e)) now)))
+      ways_have d low near (suc zero) x e now =
           has_or (flag (code.can_enter t c told agent d) 18) (flag (code.can_turn c told agent d) 19) 19
           ∙ or_right (code.has_one (flag (code.can_enter t c told agent d) 18) 19) _
-          (flag_has (code.can_turn c told agent d) 19 (turn_has i a agent by is d (subst Now (sym (same_Some (Turns a d) x e)) now)))
-      ways_have d low (suc (suc j)) x e now = absurd (None≢Some x e)
+          (flag_has (code.can_turn c told agent d) 19 (turn_has i a agent by is d near (subst Now (sym (same_Some (Turns a d) x e)) now)))
+      ways_have d low near (suc (suc j)) x e now = absurd (None≢Some x e)
 
-      dir_says : (d : ℕ) → d < dirs → Says (DirAt d) (ByAgent a) (code.dir_word t c told agent d)
-      dir_says d low =
+      dir_says : (d : ℕ) → d < dirs → device t d ≡ on → Says (DirAt d) (ByAgent a) (code.dir_word t c told agent d)
+      dir_says d low near =
           covers_and_say (Covers a (Old d)) Now (old_word t agent.process.now told many d agent.place (code.come_word c told d agent.place))
-          (λ k small. dir_cover_means i a agent by is k small d low) (λ k small. dir_cover_has i a agent by is k small d low)
-          (Enters a (Old d) ∷ Turns a d ∷ []) (way_flags d) (ways_mean d low) (ways_have d low)
+          (λ k small. dir_cover_means i a agent by is k small d low near) (λ k small. dir_cover_has i a agent by is k small d low near)
+          (Enters a (Old d) ∷ Turns a d ∷ []) (way_flags d) (ways_mean d low near) (ways_have d low near)
 
-      makers_say : Says Makers (ByAgent a) (code.makers_word c told agent)
-      makers_say = news_say (Creates a) Now (code.can_create c told agent) (create_means i a agent by is) (create_has i a agent by is)
+      makers_say : Says (DropsOf (a, on)) Common (code.makers_word c told agent)
+      makers_say = news_say (Creates (a, on)) Now (code.can_create c told agent) (create_means i a agent by is) (create_has i a agent by is)
 
-      name_says : (e_at : ℕ) (s : Spot) (entry : Entry) → slice_get spots e_at ≡ Some s → IsEntry t dirs n e_at s entry →
-          Says (NameAt s) (ByAgent a) (flag (code.can_carry_row c told agent entry) 0)
-      name_says e_at s entry got is_entry =
-          one_says (Carries (Row s) a) Now (code.can_carry_row c told agent entry) (row_means i a agent by is e_at s entry got is_entry)
-          (row_has i a agent by is e_at s entry got is_entry)
+      name_says : (e_at : ℕ) (s : Spot) (entry : Entry) → slice_get spots e_at ≡ Some s → IsEntry t dirs h e_at s entry →
+          device t s.0 ≡ on → Says (NameAt s) (ByAgent a) (flag (code.can_carry_row c told agent entry) 0)
+      name_says e_at s entry got is_entry near =
+          one_says (Carries (Row s) a) Now (code.can_carry_row c told agent entry) (row_means i a agent by is e_at s entry got is_entry near)
+          (row_has i a agent by is e_at s entry got is_entry near)
 
-      module _ (j : ℕ) (m : ProcessState) (maker : Agent) (from : slice_get crew j ≡ Some m) (is_m : IsAgent table dirs crew j m maker) where
+      module _ (j : ℕ) (m : ProcessState) (maker : Mover) (from : slice_get crew j ≡ Some m) (is_m : IsMover table dirs h first j m maker) where
+        abbrev seat_by : Seated (dirs + (first + j)) (Made (m, on))
+        seat_by = made_at (first + j) (is_side.hand j m from)
+
         abbrev entered : Bool
-        entered = code.can_enter t c told agent (dirs + j)
+        entered = code.can_enter t c told agent (dirs + (first + j))
 
         abbrev carried : New → Bool
-        carried new = code.can_carry_new c told (dirs + j) maker new agent
+        carried new = code.can_carry_new c told (dirs + (first + j)) maker new agent
 
         abbrev new_facts : List Kept
-        new_facts = Enters a (Made m) ∷ map (λ new. Carries (Maker new m) a) all_new
+        new_facts = Enters a (Made (m, on)) ∷ map (λ new. Carries (Maker new (m, on)) a) all_new
 
         abbrev new_flags : ℕ
         new_flags = bit_or (flag entered 18) (news_word carried 19)
@@ -1324,9 +1327,9 @@ module _ (t : Tree) (well : WellFormed t) (table : CallTable) (crew : List Proce
                   record {
                     at = 0;
                     place = f.1;
-                    fact = Enters a (Made m);
+                    fact = Enters a (Made (m, on));
                     is = refl;
-                    now = enter_means i a agent by is (dirs + j) (Made m) (made_at j from) f.0;
+                    now = enter_means i a agent by is (dirs + (first + j)) (Made (m, on)) seat_by refl f.0;
                   })
               | inr e ↦
                   (let f = news_mean carried 19 bit e in
@@ -1334,8 +1337,8 @@ module _ (t : Tree) (well : WellFormed t) (table : CallTable) (crew : List Proce
                   record {
                     at = suc (new_bit f.0);
                     place = omega (arith, here);
-                    fact = Carries (Maker f.0 m) a;
-                    is = new_at (λ new. Carries (Maker new m) a) f.0;
+                    fact = Carries (Maker f.0 (m, on)) a;
+                    is = new_at (λ new. Carries (Maker new (m, on)) a) f.0;
                     now = new_means i a agent by is j m maker from is_m f.0 f.1;
                   })
             ]
@@ -1344,9 +1347,9 @@ module _ (t : Tree) (well : WellFormed t) (table : CallTable) (crew : List Proce
         news_has zero x e now =
             has_or (flag entered 18) (news_word carried 19) 18
             ∙ or_left (code.has_one (flag entered 18) 18) _ (flag_has entered 18
-            (enter_has i a agent by is (dirs + j) (Made m) (made_at j from) (subst Now (sym (same_Some (Enters a (Made m)) x e)) now)))
+            (enter_has i a agent by is (dirs + (first + j)) (Made (m, on)) seat_by refl (subst Now (sym (same_Some (Enters a (Made (m, on))) x e)) now)))
         news_has (suc k) x e now =
-            let q = mapped (λ new. Carries (Maker new m) a) all_new k x e in
+            let q = mapped (λ new. Carries (Maker new (m, on)) a) all_new k x e in
             let here : k ≡ new_bit q.at = new_is k q.at q.is in
             let same : 18 + suc k ≡ 19 + new_bit q.at = omega (arith, here) in
             subst (has_bit new_flags) (sym same)
@@ -1354,89 +1357,129 @@ module _ (t : Tree) (well : WellFormed t) (table : CallTable) (crew : List Proce
             ∙ or_right (code.has_one (flag entered 18) (19 + new_bit q.at)) _
             (news_have carried 19 q.at (new_has i a agent by is j m maker from is_m q.at (subst Now (sym q.gives) now))))
 
-        new_says : Says (MadeBy m) (ByAgent a) (code.new_word t c told (dirs + j) maker agent)
+        new_says : Says (MadeBy (m, on)) (ByAgent a) (code.new_word t c told (dirs + (first + j)) maker agent)
         new_says =
-            covers_and_say (Covers a (Made m)) Now
-            (made_word told many c₀.agents.items (dirs + (n + (n + (n + 0)))) (dirs + j) maker agent.place)
+            covers_and_say (Covers a (Made (m, on))) Now
+            (made_word told many side.movers.items n (dirs + (first + j)) maker agent.place)
             (λ k small. new_cover_means i a agent by is k small j m maker from is_m) (λ k small. new_cover_has i a agent by is k small j m maker from is_m)
             new_facts new_flags news_so news_has
 
-        landing_says : Says (LandingOf m) (ByAgent a) (covers_in (landing_word told many maker.place agent.place c₀.seats.items))
+        landing_says : Says (LandingOf (m, on)) (ByAgent a) (covers_in (landing_word told many maker.place agent.place side.seats.items))
         landing_says =
-            covers_say (Lands m a) Now (landing_word told many maker.place agent.place c₀.seats.items)
+            covers_say (Lands (m, on) a) Now (landing_word told many maker.place agent.place side.seats.items)
             (λ k small. landing_cover_means i a agent by is k small j m maker from is_m)
             (λ k small. landing_cover_has i a agent by is k small j m maker from is_m)
 
-        drops_say : Says (DropsOf m) (ByAgent a) (covers_in (code.drops_word c told maker agent))
+      module _ (j : ℕ) (m : ProcessState) (maker : Agent) (from : slice_get crew j ≡ Some m) (is_m : IsAgent table crew j m maker) where
+        drops_say : Says (DropsOf (m, on)) (ByAgent a) (covers_in (code.drops_word c told maker agent))
         drops_say =
-            covers_say (Drops m a) Now (code.drops_word c told maker agent) (λ k small. drop_means i a agent by is j m maker from is_m k small)
+            covers_say (Drops (m, on) a) Now (code.drops_word c told maker agent) (λ k small. drop_means i a agent by is j m maker from is_m k small)
             (λ k small. drop_has i a agent by is j m maker from is_m k small)
 
     -- by what the row and the column are about
     abbrev InRows : ℕ → Entity → Type 0
-    InRows at e = slice_get (entities crew dirs spots) at ≡ Some e
+    InRows at e = slice_get (entities hands dirs spots) at ≡ Some e
 
     row_low : (at d : ℕ) → InRows at (DirAt d) → d < dirs
     row_low at d in_rows =
-        entity_fits t table crew watched dirs spots guarded fits (DirAt d) (got_among (entities crew dirs spots) at (DirAt d) in_rows)
+        entity_fits t table crew devices watched dirs spots guarded fits (DirAt d) (got_among (entities hands dirs spots) at (DirAt d) in_rows)
 
-    row_made : (at i : ℕ) (m : ProcessState) → InRows at (MadeBy m) → slice_get crew i ≡ Some m → at ≡ dirs + i
+    row_made : (at i : ℕ) (m : Hand) → InRows at (MadeBy m) → slice_get hands i ≡ Some m → at ≡ dirs + i
     row_made at i m in_rows is =
-        let r = row_at crew dirs spots at (MadeBy m) in_rows in r.1 ∙ ap (λ p. dirs + p) (each_agent r.0 i m r.2 is)
+        let r = row_at hands dirs spots at (MadeBy m) in_rows in r.1 ∙ ap (λ p. dirs + p) (each_hand r.0 i m r.2 is)
 
-    module _ (i : ℕ) (a : ProcessState) (agent : Agent) (by : slice_get crew i ≡ Some a) (is : IsAgent table dirs crew i a agent)
-        (at : ℕ) (e : Entity) (in_rows : InRows at e) where
-      by_made : (j : ℕ) (o : Option ProcessState) → slice_get crew j ≡ o → option_map MadeBy o ≡ Some e →
-          Says e (ByAgent a) (code.made_by_word t c told at agent (slice_get c₀.agents.items j))
-      by_made j None got same = absurd (None≢Some e same)
-      by_made j (Some m) got same =
-          let here : MadeBy m ≡ e = same_Some (MadeBy m) e same in
-          let one = are.each j m got in
-          subst (λ x. Says x (ByAgent a) (code.made_by_word t c told at agent (slice_get c₀.agents.items j))) here
-          (subst (λ (o : Option Agent). Says (MadeBy m) (ByAgent a) (code.made_by_word t c told at agent o)) (sym one.1)
-          (subst (λ x. Says (MadeBy m) (ByAgent a) (code.new_word t c told x one.0 agent))
-          (sym (row_made at j m (subst (InRows at) (sym here) in_rows) got)) (new_says i a agent by is j m one.0 got one.2)))
+    -- a hand on the device, by its place among those there
+    record OnSide (k : ℕ) (m : Hand) : Type 0 where
+      at : ℕ
+      got : slice_get crew at ≡ Some m.0
+      place : k ≡ first + at
+      same : m ≡ (m.0, on)
 
-      by_landing : (j : ℕ) (o : Option ProcessState) → slice_get crew j ≡ o → option_map LandingOf o ≡ Some e →
-          Says e (ByAgent a) (code.landed_word c told agent (slice_get c₀.agents.items j))
-      by_landing j None got same = absurd (None≢Some e same)
-      by_landing j (Some m) got same =
-          let one = are.each j m got in
-          subst (λ x. Says x (ByAgent a) (code.landed_word c told agent (slice_get c₀.agents.items j))) (same_Some (LandingOf m) e same)
-          (subst (λ (o : Option Agent). Says (LandingOf m) (ByAgent a) (code.landed_word c told agent o)) (sym one.1)
-          (landing_says i a agent by is j m one.0 got one.2))
+    on_side : (k : ℕ) (m : Hand) → slice_get hands k ≡ Some m → m.1 ≡ on → OnSide k m
+    on_side k m is near =
+        let g = among_got crew m.0 (hand_parts crew devices m (got_among hands k m is)).0 in
+        let same : m ≡ (m.0, on) = λ z. (m.0, near z) in
+        record {
+          at = g.at;
+          got = g.is;
+          place = each_hand k (first + g.at) m is (is_side.hand g.at m.0 g.is ∙ ap Some (sym same));
+          same = same;
+        }
 
-      by_drops : (j : ℕ) (o : Option ProcessState) → slice_get crew j ≡ o → option_map DropsOf o ≡ Some e →
-          Says e (ByAgent a) (code.dropped_by_word c told agent (slice_get c₀.agents.items j))
-      by_drops j None got same = absurd (None≢Some e same)
-      by_drops j (Some m) got same =
-          let one = are.each j m got in
-          subst (λ x. Says x (ByAgent a) (code.dropped_by_word c told agent (slice_get c₀.agents.items j))) (same_Some (DropsOf m) e same)
-          (subst (λ (o : Option Agent). Says (DropsOf m) (ByAgent a) (code.dropped_by_word c told agent o)) (sym one.1)
-          (drops_say i a agent by is j m one.0 got one.2))
+    place_back : (k i : ℕ) → k ≡ first + i → k - first ≡ i
+    place_back k i e = omega (arith, e)
+
+    module _ (i : ℕ) (a : ProcessState) (agent : Agent) (by : slice_get crew i ≡ Some a) (is : IsAgent table crew i a agent)
+        (at : ℕ) (e : Entity) (in_rows : InRows at e) (near : IsOn t on e) where
+      made_says : (k : ℕ) (m : Hand) → slice_get hands k ≡ Some m → MadeBy m ≡ e →
+          Says e (ByAgent a) (code.made_by_word t c told at agent (slice_get side.movers.items (k - first)))
+      made_says k m got same =
+          let o = on_side k m got (subst (IsOn t on) (sym same) near) in
+          let one = moving.each o.at m.0 o.got in
+          let here : MadeBy (m.0, on) ≡ e = ap MadeBy (sym o.same) ∙ same in
+          subst (λ x. Says x (ByAgent a) (code.made_by_word t c told at agent (slice_get side.movers.items (k - first)))) here
+          (subst (λ (o : Option Mover). Says (MadeBy (m.0, on)) (ByAgent a) (code.made_by_word t c told at agent o))
+          (sym (ap (slice_get side.movers.items) (place_back k o.at o.place) ∙ one.1))
+          (subst (λ x. Says (MadeBy (m.0, on)) (ByAgent a) (code.new_word t c told x one.0 agent))
+          (sym (row_made at (first + o.at) (m.0, on) (subst (InRows at) (sym here) in_rows) (is_side.hand o.at m.0 o.got)))
+          (new_says i a agent by is o.at m.0 one.0 o.got one.2)))
+
+      by_made : (k : ℕ) (o : Option Hand) → slice_get hands k ≡ o → option_map MadeBy o ≡ Some e →
+          Says e (ByAgent a) (code.made_by_word t c told at agent (slice_get side.movers.items (k - first)))
+      by_made k None got same = absurd (None≢Some e same)
+      by_made k (Some m) got same = made_says k m got (same_Some (MadeBy m) e same)
+
+      landings_say : (k : ℕ) (m : Hand) → slice_get hands k ≡ Some m → LandingOf m ≡ e →
+          Says e (ByAgent a) (code.landed_word c told agent (slice_get side.movers.items (k - first)))
+      landings_say k m got same =
+          let o = on_side k m got (subst (IsOn t on) (sym same) near) in
+          let one = moving.each o.at m.0 o.got in
+          subst (λ x. Says x (ByAgent a) (code.landed_word c told agent (slice_get side.movers.items (k - first)))) (ap LandingOf (sym o.same) ∙ same)
+          (subst (λ (o : Option Mover). Says (LandingOf (m.0, on)) (ByAgent a) (code.landed_word c told agent o))
+          (sym (ap (slice_get side.movers.items) (place_back k o.at o.place) ∙ one.1))
+          (landing_says i a agent by is o.at m.0 one.0 o.got one.2))
+
+      by_landing : (k : ℕ) (o : Option Hand) → slice_get hands k ≡ o → option_map LandingOf o ≡ Some e →
+          Says e (ByAgent a) (code.landed_word c told agent (slice_get side.movers.items (k - first)))
+      by_landing k None got same = absurd (None≢Some e same)
+      by_landing k (Some m) got same = landings_say k m got (same_Some (LandingOf m) e same)
+
+      drops_all_say : (k : ℕ) (m : Hand) → slice_get hands k ≡ Some m → DropsOf m ≡ e →
+          Says e (ByAgent a) (code.dropped_by_word c told agent (slice_get c₀.agents.items (k - first)))
+      drops_all_say k m got same =
+          let o = on_side k m got (subst (IsOn t on) (sym same) near) in
+          let one = are.each o.at m.0 o.got in
+          subst (λ x. Says x (ByAgent a) (code.dropped_by_word c told agent (slice_get c₀.agents.items (k - first)))) (ap DropsOf (sym o.same) ∙ same)
+          (subst (λ (o : Option Agent). Says (DropsOf (m.0, on)) (ByAgent a) (code.dropped_by_word c told agent o))
+          (sym (ap (slice_get c₀.agents.items) (place_back k o.at o.place) ∙ one.1))
+          (drops_say i a agent by is o.at m.0 one.0 o.got one.2))
+
+      by_drops : (k : ℕ) (o : Option Hand) → slice_get hands k ≡ o → option_map DropsOf o ≡ Some e →
+          Says e (ByAgent a) (code.dropped_by_word c told agent (slice_get c₀.agents.items (k - first)))
+      by_drops k None got same = absurd (None≢Some e same)
+      by_drops k (Some m) got same = drops_all_say k m got (same_Some (DropsOf m) e same)
 
       by_name_row : (j : ℕ) (o : Option Spot) → slice_get spots j ≡ o → option_map NameAt o ≡ Some e →
           Says e (ByAgent a) (code.row_word c told agent (slice_get c₀.entries.items j))
       by_name_row j None got same = absurd (None≢Some e same)
       by_name_row j (Some s) got same =
           let one = entries.each j s got in
-          subst (λ x. Says x (ByAgent a) (code.row_word c told agent (slice_get c₀.entries.items j))) (same_Some (NameAt s) e same)
+          let here : NameAt s ≡ e = same_Some (NameAt s) e same in
+          subst (λ x. Says x (ByAgent a) (code.row_word c told agent (slice_get c₀.entries.items j))) here
           (subst (λ (o : Option Entry). Says (NameAt s) (ByAgent a) (code.row_word c told agent o)) (sym one.1)
-          (name_says i a agent by is j s one.0 got one.2))
+          (name_says i a agent by is j s one.0 got one.2 (subst (IsOn t on) (sym here) near)))
 
-      by_row : (about : About.Row) → entity_of crew spots about ≡ Some e → Says e (ByAgent a) (code.agent_word t c told at about agent)
+      by_row : (about : About.Row) → entity_of hands spots about ≡ Some e → Says e (ByAgent a) (code.agent_word t c told at about agent)
       by_row (lines.Dir d) same =
           let here : DirAt d ≡ e = same_Some (DirAt d) e same in
           subst (λ x. Says x (ByAgent a) (code.dir_word t c told agent d)) here
-          (dir_says i a agent by is d (row_low at d (subst (InRows at) (sym here) in_rows)))
-      by_row (lines.Made j) same = by_made j (slice_get crew j) refl same
-      by_row (lines.Landing j) same = by_landing j (slice_get crew j) refl same
-      by_row (lines.Drops j) same = by_drops j (slice_get crew j) refl same
-      by_row lines.Makers same =
-          subst (λ x. Says x (ByAgent a) (code.makers_word c told agent)) (same_Some Makers e same) (makers_say i a agent by is)
+          (dir_says i a agent by is d (row_low at d (subst (InRows at) (sym here) in_rows)) (subst (IsOn t on) (sym here) near))
+      by_row (lines.Made j) same = by_made j (slice_get hands j) refl same
+      by_row (lines.Landing j) same = by_landing j (slice_get hands j) refl same
+      by_row (lines.Drops j) same = by_drops j (slice_get hands j) refl same
       by_row (lines.Name j) same = by_name_row j (slice_get spots j) refl same
 
-    module _ (at : ℕ) (e : Entity) (in_rows : InRows at e) where
+    module _ (at : ℕ) (e : Entity) (in_rows : InRows at e) (near : IsOn t on e) where
       by_taken : (j : ℕ) (o : Option Spot) → slice_get spots j ≡ o → option_map NameAt o ≡ Some e →
           Says e Common (code.taken_word c told (slice_get c₀.entries.items j))
       by_taken j None got same = absurd (None≢Some e same)
@@ -1447,75 +1490,101 @@ module _ (t : Tree) (well : WellFormed t) (table : CallTable) (crew : List Proce
           (one_says (Taken s.0 s.1) Now (list_any (code.takes_at c told one.0) c₀.agents.items) (takes_means j s one.0 got one.2)
           (takes_has j s one.0 got one.2)))
 
-      none_of_agent : (f : ProcessState → Entity) → ((m : ProcessState) → Says (f m) Common 0) → (o : Option ProcessState) →
-          option_map f o ≡ Some e → Says e Common 0
-      none_of_agent f each None same = absurd (None≢Some e same)
-      none_of_agent f each (Some m) same = subst (λ x. Says x Common 0) (same_Some (f m) e same) (each m)
+      makers_all_say : (k : ℕ) (m : Hand) → slice_get hands k ≡ Some m → DropsOf m ≡ e →
+          Says e Common (code.made_by c told (slice_get c₀.agents.items (k - first)))
+      makers_all_say k m got same =
+          let o = on_side k m got (subst (IsOn t on) (sym same) near) in
+          let one = are.each o.at m.0 o.got in
+          subst (λ x. Says x Common (code.made_by c told (slice_get c₀.agents.items (k - first)))) (ap DropsOf (sym o.same) ∙ same)
+          (subst (λ (o : Option Agent). Says (DropsOf (m.0, on)) Common (code.made_by c told o))
+          (sym (ap (slice_get c₀.agents.items) (place_back k o.at o.place) ∙ one.1)) (makers_say o.at m.0 one.0 o.got one.2))
 
-      common_says : (about : About.Row) → entity_of crew spots about ≡ Some e → Says e Common (code.common_word c told about)
+      by_makers : (k : ℕ) (o : Option Hand) → slice_get hands k ≡ o → option_map DropsOf o ≡ Some e →
+          Says e Common (code.made_by c told (slice_get c₀.agents.items (k - first)))
+      by_makers k None got same = absurd (None≢Some e same)
+      by_makers k (Some m) got same = makers_all_say k m got (same_Some (DropsOf m) e same)
+
+      none_of_hand : (f : Hand → Entity) → ((m : Hand) → Says (f m) Common 0) → (o : Option Hand) →
+          option_map f o ≡ Some e → Says e Common 0
+      none_of_hand f each None same = absurd (None≢Some e same)
+      none_of_hand f each (Some m) same = subst (λ x. Says x Common 0) (same_Some (f m) e same) (each m)
+
+      common_says : (about : About.Row) → entity_of hands spots about ≡ Some e → Says e Common (code.common_word c told about)
       common_says (lines.Dir d) same = subst (λ x. Says x Common 0) (same_Some (DirAt d) e same) (none_says Now)
-      common_says (lines.Made j) same = none_of_agent MadeBy (λ m. none_says Now) (slice_get crew j) same
-      common_says (lines.Landing j) same = none_of_agent LandingOf (λ m. none_says Now) (slice_get crew j) same
-      common_says (lines.Drops j) same = none_of_agent DropsOf (λ m. none_says Now) (slice_get crew j) same
-      common_says lines.Makers same = subst (λ x. Says x Common 0) (same_Some Makers e same) (none_says Now)
+      common_says (lines.Made j) same = none_of_hand MadeBy (λ m. none_says Now) (slice_get hands j) same
+      common_says (lines.Landing j) same = none_of_hand LandingOf (λ m. none_says Now) (slice_get hands j) same
+      common_says (lines.Drops j) same = by_makers j (slice_get hands j) refl same
       common_says (lines.Name j) same = by_taken j (slice_get spots j) refl same
 
       module _ (w : Watch) (g : Guard w) where
-        clear_of_new : (j : ℕ) (o : Option ProcessState) → slice_get crew j ≡ o → option_map MadeBy o ≡ Some e →
-            Says e (Watching g.dir) (code.clear_new_word c told at w (slice_get c₀.agents.items j))
-        clear_of_new j None got same = absurd (None≢Some e same)
-        clear_of_new j (Some m) got same =
-            let here : MadeBy m ≡ e = same_Some (MadeBy m) e same in
-            let one = are.each j m got in
-            subst (λ x. Says x (Watching g.dir) (code.clear_new_word c told at w (slice_get c₀.agents.items j))) here
-            (subst (λ (o : Option Agent). Says (MadeBy m) (Watching g.dir) (code.clear_new_word c told at w o)) (sym one.1)
-            (subst (λ x. Says (MadeBy m) (Watching g.dir) (flag (code.clears_new c told x one.0 w) 0))
-            (sym (row_made at j m (subst (InRows at) (sym here) in_rows) got))
-            (one_says (Clear g.dir (Made m)) Now (code.clears_new c told (dirs + j) one.0 w) (clear_new_means w g j m one.0 got one.2)
-            (clear_new_has w g j m one.0 got one.2))))
+        new_clears : (k : ℕ) (m : Hand) → slice_get hands k ≡ Some m → MadeBy m ≡ e →
+            Says e (Watching g.dir) (code.clear_new_word c told at w (slice_get side.movers.items (k - first)))
+        new_clears k m got same =
+            let o = on_side k m got (subst (IsOn t on) (sym same) near) in
+            let one = moving.each o.at m.0 o.got in
+            let here : MadeBy (m.0, on) ≡ e = ap MadeBy (sym o.same) ∙ same in
+            subst (λ x. Says x (Watching g.dir) (code.clear_new_word c told at w (slice_get side.movers.items (k - first)))) here
+            (subst (λ (o : Option Mover). Says (MadeBy (m.0, on)) (Watching g.dir) (code.clear_new_word c told at w o))
+            (sym (ap (slice_get side.movers.items) (place_back k o.at o.place) ∙ one.1))
+            (subst (λ x. Says (MadeBy (m.0, on)) (Watching g.dir) (flag (code.clears_new c told x one.0 w) 0))
+            (sym (row_made at (first + o.at) (m.0, on) (subst (InRows at) (sym here) in_rows) (is_side.hand o.at m.0 o.got)))
+            (one_says (Clear g.dir (Made (m.0, on))) Now (code.clears_new c told (dirs + (first + o.at)) one.0 w)
+            (clear_new_means w g o.at m.0 one.0 o.got one.2) (clear_new_has w g o.at m.0 one.0 o.got one.2))))
 
-        clear_of_landing : (j : ℕ) (o : Option ProcessState) → slice_get crew j ≡ o → option_map LandingOf o ≡ Some e →
-            Says e (Watching g.dir) (code.clear_landing_word c told w (slice_get c₀.agents.items j))
-        clear_of_landing j None got same = absurd (None≢Some e same)
-        clear_of_landing j (Some m) got same =
-            let one = are.each j m got in
-            subst (λ x. Says x (Watching g.dir) (code.clear_landing_word c told w (slice_get c₀.agents.items j))) (same_Some (LandingOf m) e same)
-            (subst (λ (o : Option Agent). Says (LandingOf m) (Watching g.dir) (code.clear_landing_word c told w o)) (sym one.1)
-            (one_says (LandsClear m g.dir) Now (code.clears_landing c told one.0 w) (clear_landing_means w g j m one.0 got one.2)
-            (clear_landing_has w g j m one.0 got one.2)))
+        clear_of_new : (k : ℕ) (o : Option Hand) → slice_get hands k ≡ o → option_map MadeBy o ≡ Some e →
+            Says e (Watching g.dir) (code.clear_new_word c told at w (slice_get side.movers.items (k - first)))
+        clear_of_new k None got same = absurd (None≢Some e same)
+        clear_of_new k (Some m) got same = new_clears k m got (same_Some (MadeBy m) e same)
 
-        no_agent : (f : ProcessState → Entity) → ((m : ProcessState) → Says (f m) (Watching g.dir) 0) → (o : Option ProcessState) →
+        landing_clears : (k : ℕ) (m : Hand) → slice_get hands k ≡ Some m → LandingOf m ≡ e →
+            Says e (Watching g.dir) (code.clear_landing_word c told w (slice_get side.movers.items (k - first)))
+        landing_clears k m got same =
+            let o = on_side k m got (subst (IsOn t on) (sym same) near) in
+            let one = moving.each o.at m.0 o.got in
+            subst (λ x. Says x (Watching g.dir) (code.clear_landing_word c told w (slice_get side.movers.items (k - first))))
+            (ap LandingOf (sym o.same) ∙ same)
+            (subst (λ (o : Option Mover). Says (LandingOf (m.0, on)) (Watching g.dir) (code.clear_landing_word c told w o))
+            (sym (ap (slice_get side.movers.items) (place_back k o.at o.place) ∙ one.1))
+            (one_says (LandsClear (m.0, on) g.dir) Now (code.clears_landing c told one.0 w) (clear_landing_means w g o.at m.0 one.0 o.got one.2)
+            (clear_landing_has w g o.at m.0 one.0 o.got one.2)))
+
+        clear_of_landing : (k : ℕ) (o : Option Hand) → slice_get hands k ≡ o → option_map LandingOf o ≡ Some e →
+            Says e (Watching g.dir) (code.clear_landing_word c told w (slice_get side.movers.items (k - first)))
+        clear_of_landing k None got same = absurd (None≢Some e same)
+        clear_of_landing k (Some m) got same = landing_clears k m got (same_Some (LandingOf m) e same)
+
+        no_hand : (f : Hand → Entity) → ((m : Hand) → Says (f m) (Watching g.dir) 0) → (o : Option Hand) →
             option_map f o ≡ Some e → Says e (Watching g.dir) 0
-        no_agent f each None same = absurd (None≢Some e same)
-        no_agent f each (Some m) same = subst (λ x. Says x (Watching g.dir) 0) (same_Some (f m) e same) (each m)
+        no_hand f each None same = absurd (None≢Some e same)
+        no_hand f each (Some m) same = subst (λ x. Says x (Watching g.dir) 0) (same_Some (f m) e same) (each m)
 
         no_spot : (o : Option Spot) → option_map NameAt o ≡ Some e → Says e (Watching g.dir) 0
         no_spot None same = absurd (None≢Some e same)
         no_spot (Some s) same = subst (λ x. Says x (Watching g.dir) 0) (same_Some (NameAt s) e same) (none_says Now)
 
-        watched_says : (about : About.Row) → entity_of crew spots about ≡ Some e → Says e (Watching g.dir) (code.watched_word t c told at about w)
+        watched_says : (about : About.Row) → entity_of hands spots about ≡ Some e → Says e (Watching g.dir) (code.watched_word t c told at about w)
         watched_says (lines.Dir d) same =
             let here : DirAt d ≡ e = same_Some (DirAt d) e same in
             let low = row_low at d (subst (InRows at) (sym here) in_rows) in
+            let on_it : device t d ≡ on = subst (IsOn t on) (sym here) near in
             subst (λ x. Says x (Watching g.dir) (flag (code.clears_dir t c told d w) 0)) here
-            (one_says (Clear g.dir (Old d)) Now (code.clears_dir t c told d w) (clear_dir_means w g d low) (clear_dir_has w g d low))
-        watched_says (lines.Made j) same = clear_of_new j (slice_get crew j) refl same
-        watched_says (lines.Landing j) same = clear_of_landing j (slice_get crew j) refl same
-        watched_says (lines.Drops j) same = no_agent DropsOf (λ m. none_says Now) (slice_get crew j) same
-        watched_says lines.Makers same = subst (λ x. Says x (Watching g.dir) 0) (same_Some Makers e same) (none_says Now)
+            (one_says (Clear g.dir (Old d)) Now (code.clears_dir t c told d w) (clear_dir_means w g d low on_it) (clear_dir_has w g d low on_it))
+        watched_says (lines.Made j) same = clear_of_new j (slice_get hands j) refl same
+        watched_says (lines.Landing j) same = clear_of_landing j (slice_get hands j) refl same
+        watched_says (lines.Drops j) same = no_hand DropsOf (λ m. none_says Now) (slice_get hands j) same
         watched_says (lines.Name j) same = no_spot (slice_get spots j) same
 
       by_agent : (j : ℕ) (o : Option ProcessState) (col : Column) → slice_get crew j ≡ o → option_map ByAgent o ≡ Some col → (about : About.Row) →
-          entity_of crew spots about ≡ Some e → Says e col (code.by_agent_word t c told at about (slice_get c₀.agents.items j))
+          entity_of hands spots about ≡ Some e → Says e col (code.by_agent_word t c told at about (slice_get c₀.agents.items j))
       by_agent j None col got same about of = absurd (None≢Some col same)
       by_agent j (Some a) col got same about of =
           let one = are.each j a got in
           subst (λ x. Says e x (code.by_agent_word t c told at about (slice_get c₀.agents.items j))) (same_Some (ByAgent a) col same)
           (subst (λ (o : Option Agent). Says e (ByAgent a) (code.by_agent_word t c told at about o)) (sym one.1)
-          (by_row j a one.0 got one.2 at e in_rows about of))
+          (by_row j a one.0 got one.2 at e in_rows near about of))
 
       by_watch : (j : ℕ) (o : Option ℕ) (col : Column) → slice_get guarded j ≡ o → option_map Watching o ≡ Some col → (about : About.Row) →
-          entity_of crew spots about ≡ Some e → Says e col (code.by_watch_word t c told at about (slice_get c₀.watches.items j))
+          entity_of hands spots about ≡ Some e → Says e col (code.by_watch_word t c told at about (slice_get c₀.watches.items j))
       by_watch j None col got same about of = absurd (None≢Some col same)
       by_watch j (Some y) col got same about of =
           let one = guards.each j y got in
@@ -1530,64 +1599,19 @@ module _ (t : Tree) (well : WellFormed t) (table : CallTable) (crew : List Proce
           (subst (λ (o : Option Watch). Says e (Watching y) (code.by_watch_word t c told at about o)) (sym one.1)
           (watched_says one.0 g about of))
 
-      part_says : (about : About.Row) (p : Part) (col : Column) → entity_of crew spots about ≡ Some e → column_of crew guarded p ≡ Some col →
+      part_says : (about : About.Row) (p : Part) (col : Column) → entity_of hands spots about ≡ Some e → column_of crew guarded p ≡ Some col →
           Says e col (code.part_word t c told at about p)
       part_says about (columns_of.Agent j) col of same = by_agent j (slice_get crew j) col refl same about of
       part_says about columns_of.Common col of same =
           subst (λ x. Says e x (code.common_word c told about)) (same_Some Common col same) (common_says about of)
       part_says about (columns_of.Watched j) col of same = by_watch j (slice_get guarded j) col refl same about of
 
-    -- a row and a column that the table doesn't have have no facts
+    -- a column that the table doesn't have has no facts
     no_agent_there : (j : ℕ) → slice_get crew j ≡ None → slice_get c₀.agents.items j ≡ None
     no_agent_there j = none_there crew c₀.agents.items j (λ agent e. let one = are.only j agent e in (one.0, one.1))
 
-    no_entry_there : (j : ℕ) → slice_get spots j ≡ None → slice_get c₀.entries.items j ≡ None
-    no_entry_there j = none_there spots c₀.entries.items j (λ entry e. let one = entries.only j entry e in (one.0, one.1))
-
     no_watch_there : (j : ℕ) → slice_get guarded j ≡ None → slice_get c₀.watches.items j ≡ None
     no_watch_there j = none_there guarded c₀.watches.items j (λ watch e. let one = guards.only j watch e in (one.0, one.1))
-
-    no_agent_row : (at : ℕ) (of : Agent) (about : About.Row) → entity_of crew spots about ≡ None → code.agent_word t c told at about of ≡ 0
-    no_agent_row at of (lines.Dir d) none = absurd (None≢Some (DirAt d) (sym none))
-    no_agent_row at of (lines.Made j) none =
-        ap (code.made_by_word t c told at of) (no_agent_there j (none_mapped MadeBy (slice_get crew j) none))
-    no_agent_row at of (lines.Landing j) none =
-        ap (code.landed_word c told of) (no_agent_there j (none_mapped LandingOf (slice_get crew j) none))
-    no_agent_row at of (lines.Drops j) none =
-        ap (code.dropped_by_word c told of) (no_agent_there j (none_mapped DropsOf (slice_get crew j) none))
-    no_agent_row at of lines.Makers none = absurd (None≢Some Makers (sym none))
-    no_agent_row at of (lines.Name j) none = ap (code.row_word c told of) (no_entry_there j (none_mapped NameAt (slice_get spots j) none))
-
-    no_common_row : (about : About.Row) → entity_of crew spots about ≡ None → code.common_word c told about ≡ 0
-    no_common_row (lines.Dir d) none = refl
-    no_common_row (lines.Made j) none = refl
-    no_common_row (lines.Landing j) none = refl
-    no_common_row (lines.Drops j) none = refl
-    no_common_row lines.Makers none = refl
-    no_common_row (lines.Name j) none = ap (code.taken_word c told) (no_entry_there j (none_mapped NameAt (slice_get spots j) none))
-
-    no_watched_row : (at : ℕ) (w : Watch) (about : About.Row) → entity_of crew spots about ≡ None → code.watched_word t c told at about w ≡ 0
-    no_watched_row at w (lines.Dir d) none = absurd (None≢Some (DirAt d) (sym none))
-    no_watched_row at w (lines.Made j) none =
-        ap (code.clear_new_word c told at w) (no_agent_there j (none_mapped MadeBy (slice_get crew j) none))
-    no_watched_row at w (lines.Landing j) none =
-        ap (code.clear_landing_word c told w) (no_agent_there j (none_mapped LandingOf (slice_get crew j) none))
-    no_watched_row at w (lines.Drops j) none = refl
-    no_watched_row at w lines.Makers none = refl
-    no_watched_row at w (lines.Name j) none = refl
-
-    no_row : (at : ℕ) (about : About.Row) (p : Part) → entity_of crew spots about ≡ None → code.part_word t c told at about p ≡ 0
-    no_row at about (columns_of.Agent j) none = by (slice_get c₀.agents.items j)
-      where
-        by : (o : Option Agent) → code.by_agent_word t c told at about o ≡ 0
-        by None = refl
-        by (Some of) = no_agent_row at of about none
-    no_row at about columns_of.Common none = no_common_row about none
-    no_row at about (columns_of.Watched j) none = by (slice_get c₀.watches.items j)
-      where
-        by : (o : Option Watch) → code.by_watch_word t c told at about o ≡ 0
-        by None = refl
-        by (Some w) = no_watched_row at w about none
 
     no_column : (at : ℕ) (about : About.Row) (p : Part) → column_of crew guarded p ≡ None → code.part_word t c told at about p ≡ 0
     no_column at about (columns_of.Agent j) none =
@@ -1597,49 +1621,32 @@ module _ (t : Tree) (well : WellFormed t) (table : CallTable) (crew : List Proce
         ap (code.by_watch_word t c told at about) (no_watch_there j (none_mapped Watching (slice_get guarded j) none))
 
     -- so a word of the table is what follows for its place
-    module _ (index : ℕ) (about : About.Row) (p : Part)
-        (rows : slice_get (entities crew dirs spots) (index / many) ≡ entity_of crew spots about)
+    module _ (index : ℕ) (about : About.Row) (p : Part) (e : Entity) (is_row : slice_get (entities hands dirs spots) (index / many) ≡ Some e)
+        (is_about : entity_of hands spots about ≡ Some e) (near : IsOn t on e)
         (parts : slice_get (columns crew guarded) (index % many) ≡ column_of crew guarded p) where
       abbrev layout : Layout
-      layout = table_says (entities crew dirs spots) (columns crew guarded)
+      layout = table_says (entities hands dirs spots) (columns crew guarded)
 
       abbrev whole : ℕ
       whole = code.part_word t c told (index / many) about p
 
-      record InTable : Type 0 where
-        entity : Entity
-        column : Column
-        in_rows : entity_of crew spots about ≡ Some entity
-        in_columns : column_of crew guarded p ≡ Some column
-
-      word_of : (at : InTable) → Says at.entity at.column whole
-      word_of at = part_says (index / many) at.entity (rows ∙ at.in_rows) about p at.column at.in_rows at.in_columns
-
-      says_at : (at : InTable) (bit : ℕ) → layout index bit ≡ slice_get (word at.entity at.column) bit
-      says_at at bit = λ z. bit_says ((rows ∙ at.in_rows) z) ((parts ∙ at.in_columns) z) bit
+      word_of : (col : Column) → column_of crew guarded p ≡ Some col → Says e col whole
+      word_of col col_is = part_says (index / many) e is_row near about p col is_about col_is
 
       pub whole_only : (bit : ℕ) → has_bit whole bit → FollowsAt t table crew watched layout told index bit
-      whole_only bit held = by (entity_of crew spots about) (column_of crew guarded p) refl refl
+      whole_only bit held = by (column_of crew guarded p) refl
         where
-          by : (e : Option Entity) (col : Option Column) → entity_of crew spots about ≡ e → column_of crew guarded p ≡ col →
-              FollowsAt t table crew watched layout told index bit
-          by None col e_is col_is =
-              absurd (no_bit bit (subst (λ w. has_bit w bit) (no_row (index / many) about p e_is) held))
-          by (Some e) None e_is col_is =
-              absurd (no_bit bit (subst (λ w. has_bit w bit) (no_column (index / many) about p col_is) held))
-          by (Some e) (Some col) e_is col_is =
-              let at : InTable = record { entity = e; column = col; in_rows = e_is; in_columns = col_is } in
-              let x = (word_of at).only bit held in
-              record { fact = x.0; says = says_at at bit ∙ x.1; follows = x.2 }
+          by : (col : Option Column) → column_of crew guarded p ≡ col → FollowsAt t table crew watched layout told index bit
+          by None col_is = absurd (no_bit bit (subst (λ w. has_bit w bit) (no_column (index / many) about p col_is) held))
+          by (Some col) col_is =
+              let x = (word_of col col_is).only bit held in
+              record { fact = x.0; says = (λ z. bit_says (is_row z) ((parts ∙ col_is) z) bit) ∙ x.1; follows = x.2 }
 
       pub whole_all : (bit : ℕ) → FollowsAt t table crew watched layout told index bit → has_bit whole bit
-      whole_all bit new = by (entity_of crew spots about) (column_of crew guarded p) refl refl
-          ((λ z. bit_says (sym rows z) (sym parts z) bit) ∙ new.says)
+      whole_all bit new = by (column_of crew guarded p) refl ((λ z. bit_says (sym is_row z) (sym parts z) bit) ∙ new.says)
         where
-          by : (e : Option Entity) (col : Option Column) → entity_of crew spots about ≡ e → column_of crew guarded p ≡ col →
-              bit_says (entity_of crew spots about) (column_of crew guarded p) bit ≡ Some new.fact → has_bit whole bit
-          by None col e_is col_is says = absurd (None≢Some new.fact ((λ z. bit_says (sym e_is z) (column_of crew guarded p) bit) ∙ says))
-          by (Some e) None e_is col_is says = absurd (None≢Some new.fact ((λ z. bit_says (sym e_is z) (sym col_is z) bit) ∙ says))
-          by (Some e) (Some col) e_is col_is says =
-              (word_of (record { entity = e; column = col; in_rows = e_is; in_columns = col_is })).all bit new.fact
-              ((λ z. bit_says (sym e_is z) (sym col_is z) bit) ∙ says) new.follows
+          by : (col : Option Column) → column_of crew guarded p ≡ col → bit_says (Some e) (column_of crew guarded p) bit ≡ Some new.fact →
+              has_bit whole bit
+          by None col_is says = absurd (None≢Some new.fact ((λ z. bit_says (Some e) (sym col_is z) bit) ∙ says))
+          by (Some col) col_is says =
+              (word_of col col_is).all bit new.fact ((λ z. bit_says (Some e) (sym col_is z) bit) ∙ says) new.follows
