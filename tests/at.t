@@ -28,7 +28,7 @@ my @ASKED = (
     ['run'], ['run', '--why'], ['tree'],
     ['objects'], ['objects', '--why'], ['objects', '--process', 'all'], ['objects', '--why', '--process', '2,1'],
     ['objects', '--ever'], ['objects', '--ever', '--how'], ['objects', '--ever', '--process', 'all'],
-    ['objects', '--ever', '--why'], ['objects', '--how'],
+    ['objects', '--ever', '--why'], ['objects', '--how'], ['objects', '--ever', '--how', '--below', '/'],
     ['audit', '--limit', 2], ['audit', '--limit', 1, '--base', 'cwd', '--process', 2],
     ['audit', '--limit', 1, '--after', 'lstat:/'], ['audit', '--limit', 17],
 );

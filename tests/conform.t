@@ -100,9 +100,9 @@ my @WRONG = (
         return $errno eq 'EISDIR' ? '' : $errno;
     }],
     ['rename leaves an empty directory where it is', 'Model::_unmovable', sub {
-        my ($right, $model, $node, $dir, $replaced) = @_;
-        my $errno = $right->($model, $node, $dir, $replaced);
-        return $errno eq '' && defined $replaced && $model->{kind}{$replaced} eq 'dir' ? 'ENOTEMPTY' : $errno;
+        my ($right, $model, $old, $new) = @_;
+        my $errno = $right->($model, $old, $new);
+        return $errno eq '' && exists $new->{dir} ? 'ENOTEMPTY' : $errno;
     }],
     ['a child begins in the root', 'Model::_fork', sub {
         my ($right, $model, $process, $number) = @_;

@@ -2,13 +2,14 @@
 # Tests of `pua how` over the examples, and over random worlds by a fixed seed: perl tests/how.t [PROGRAM [WORLDS]]
 # In each world a process can put no veil any more. For each call that its list for ever has and its list of now
 # lacks, a way is asked for: behind the script, each of its lines is answered `ok`, and the last one is the call on
-# what the line was about, which a model (Model.pm) follows through renames. In the examples all have one, unless what
-# the process starts is bounded: then a program may bring what it does not. (A process that has a root of its own is not
-# asked about: its list of now ends there, and ways have paths from the tree's.) In random worlds those that have none are
-# counted, and so are the lines of all ways: a plan that is lost, or is longer, makes one of them more. Further worlds have
-# ways that nothing else here needs. The list for ever with the steps of ways has these calls in its columns, and no others,
-# each with the number of the way's lines. And for calls that the list of these lacks, as the model of its definition has it
-# (EverModel.pm), there is none, ever; but of a link a call that follows it is refused.
+# what the line was about, which a model (Model.pm) follows through renames. In the examples all have one, unless
+# what the process starts is bounded: then a program may bring what it does not. (A process that has a root of its
+# own is not asked about: its list of now ends there, and ways have paths from the tree's.) In random worlds those
+# that have none are counted, and so are the lines of all ways: a plan that is lost, or is longer, makes one of them
+# more. Further worlds have ways that nothing else here needs. All of a tree is on one file system: a list for ever
+# moves what no way moves. The list for ever with the steps of ways has these calls in its columns, and no others,
+# each with the number of the way's lines. And for calls that the list of these lacks, as the model of its
+# definition has it (EverModel.pm), there is none, ever; but of a link a call that follows it is refused.
 use strict;
 use warnings;
 use FindBin qw($Bin);
@@ -69,7 +70,7 @@ my @FURTHER = (
 
 my $PUA    = program_in(@ARGV);
 my $WORLDS = @ARGV > 1 ? $ARGV[1] : $USUAL;
-my $worlds = Worlds->new($SEED, { paths_alone => 1 });
+my $worlds = Worlds->new($SEED, { paths_alone => 1, on_one => 1 });
 my %counts;
 
 for my $rules (qw(profile openbsd)) {

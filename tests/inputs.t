@@ -3,7 +3,7 @@
 #
 #     perl tests/inputs.t [PROGRAM]
 #
-# Each of four texts is cut after each of its bytes, and each of its bytes is replaced by each of sixteen others. What
+# Each of five texts is cut after each of its bytes, and each of its bytes is replaced by each of sixteen others. What
 # comes of it has to be refused with its fault, or to be read as what it says: a listing as the tree whose objects and
 # links are told, a script and a table as that by which the script's lines are answered so.
 use strict;
@@ -16,7 +16,8 @@ use Worlds qw(answer_of program_in);
 my $PROGRAM = program_in(@ARGV);
 
 # The texts. The listing has directories, a file, a program, and links: to a directory, up and down again, to itself.
-# Another one has a line of each type of file, and a further name of a socket. The script puts veils over the first tree.
+# Another one has a line of each type of file, and a further name of a socket; and another one mount points, which are empty
+# or in one another, and a further name on another file system. The script puts veils over the first tree.
 # By the table one of two promises is enough to make a directory.
 my %TEXT = (
     listing => <<'END',
@@ -41,6 +42,17 @@ tree 3
 6 file 0 r
 7 hard 1 h 2
 END
+    mounted => <<'END',
+tree 3
+0 dir
+1 mount 0 m
+2 dir 1 d
+3 mount 2 c
+4 any 3 z
+5 dir 0 e
+6 mount 1 r
+7 hard 0 h 4
+END
     script => <<'END',
 1 unveil /etc r
 1 unveil /etc rw
@@ -59,13 +71,14 @@ END
 );
 
 # What a text is read as, where this is not its name.
-my %READ_AS = (typed => 'listing');
+my %READ_AS = (typed => 'listing', mounted => 'listing');
 
 # The command over a text that was cut or varied, which is the file `given`. Only OpenBSD's rules have a call that tells
 # a plain file from one of which no more is known.
 my %COMMAND = (
     listing => [qw(objects given nothing)],
     typed   => [qw(objects --rules openbsd given nothing)],
+    mounted => [qw(objects --rules openbsd given nothing)],
     script  => [qw(run whole given)],
     table   => [qw(run --table given whole making)],
 );
@@ -82,7 +95,7 @@ my %BESIDE = (
 my @OTHERS = ("\0", "\n", "\r", ' ', '\\', '/', '0', '9', '=', '-', "\177", "\200", "\377", 'c', 'r', 'z');
 
 # What a new process may do on each kind of thing, by the word of its line, and with the names that a directory doesn't
-# have.
+# have. A mount point is a directory that is not removed, and in both listings of the third form the rest is the same.
 my %CALLS = (
     listing => {
         dir   => 'stat,lstat,open-r,chmod,chdir',
@@ -101,12 +114,14 @@ my %CALLS = (
         other => 'create,mkdir,symlink,bind,mknod,create-rw',
     },
 );
+$CALLS{mounted} = $CALLS{typed};
 
 # Its state.
 my %STATE = (
     listing => "objects 1\nprocess alive\npromises -\nexecpromises -\nunveil open\nno veils\n",
     typed   => "objects 1\nprocess alive\nrules openbsd\npromises -\nexecpromises -\nunveil open\nno veils\n",
 );
+$STATE{mounted} = $STATE{typed};
 
 # The files that the program finds: these, and the text that is tried.
 my %files  = %BESIDE;
@@ -144,7 +159,7 @@ sub wrong {
 sub wrong_tree {
     my ($kind, $listing, @command) = @_;
     my $in = rows_of($listing);
-    my $wrong = otherwise(0, $STATE{$kind} . below($CALLS{$kind}, $in, 0, ''), '', @command);
+    my $wrong = otherwise(0, $STATE{$kind} . below($CALLS{$kind}, $in, { number => 0, kind => 'dir' }, ''), '', @command);
     return $wrong . join '', map { wrong_link(@$_) } links_of($in, 0, '');
 }
 
@@ -172,14 +187,14 @@ sub rows_of {
 # The lines of a directory's further names, and of all that is below it; before them its own.
 sub below {
     my ($calls, $in, $dir, $path) = @_;
-    my $rows = $in->{$dir};
-    my $of_it = $calls->{ $rows || $path eq '' ? 'dir' : 'empty' };
+    my $rows = $in->{ $dir->{number} };
+    my $of_it = $calls->{ $rows || $path eq '' || $dir->{kind} eq 'mount' ? 'dir' : 'empty' };
     my $shown = $path eq '' ? '/' : $path;
     my $lines = "dir $shown $of_it\nother $shown $calls->{other}\n";
     for my $name (sort keys %$rows) {
         my ($kind, $at) = ($rows->{$name}{kind}, "$path/$name");
         my $word = $kind eq 'any' ? 'file' : $kind;
-        $lines .= $kind eq 'dir' ? below($calls, $in, $rows->{$name}{number}, $at) : "$word $at $calls->{$kind}\n";
+        $lines .= $kind =~ /\A(?:dir|mount)\z/ ? below($calls, $in, $rows->{$name}, $at) : "$word $at $calls->{$kind}\n";
     }
     return $lines;
 }
@@ -191,7 +206,7 @@ sub links_of {
     for my $name (sort keys %{ $in->{$dir} || {} }) {
         my $row = $in->{$dir}{$name};
         push @links, ["$path/$name", $row->{target}] if $row->{kind} eq 'link';
-        push @links, links_of($in, $row->{number}, "$path/$name") if $row->{kind} eq 'dir';
+        push @links, links_of($in, $row->{number}, "$path/$name") if $row->{kind} =~ /\A(?:dir|mount)\z/;
     }
     return @links;
 }
@@ -264,7 +279,7 @@ sub relisted {
 }
 
 my %count;
-for my $kind (qw(listing typed script table)) {
+for my $kind (qw(listing typed mounted script table)) {
     $count{$kind} = [try_fronts($kind), try_variants($kind)];
 }
 note("$_: $count{$_}[0] fronts, $count{$_}[1] variants") for sort keys %count;

@@ -106,7 +106,7 @@ sub is_left_out {
     my $is_ever = grep { $_ eq '--ever' } @words;
     return 1 if $is_ever && grep { /\A(?:all|\d+(?:,\d+)+)\z/ } @words;
     return 1 if ($entry->{status} || 0) != 2 && grep { /\A\d+(?:,\d+)+\z/ } @words;
-    return ($entry->{status} || 0) != 2 && grep { /\A--(?:table|why|how|images|beside)/ } @words;
+    return ($entry->{status} || 0) != 2 && grep { /\A--(?:table|why|how|images|beside|below)/ } @words;
 }
 
 sub is_right {

@@ -111,12 +111,12 @@ sub listed {
             push @lines, join ' ', $line, 'hard', @front, $numbers{$node};
             next;
         }
-        my $kind = $tree->{kind}{$node};
-        $has_types ||= $tree->{plain}{$node} || $kind =~ /\A(?:sock|fifo|dev)\z/;
+        my $kind = $tree->{mount}{$node} ? 'mount' : $tree->{kind}{$node};
+        $has_types ||= $tree->{plain}{$node} || $kind =~ /\A(?:sock|fifo|dev|mount)\z/;
         push @untyped, $#lines + 1 if $kind eq 'file' && !$tree->{plain}{$node};
         $numbers{$node} = $line;
         push @lines, join ' ', $line, $kind, @front, $kind eq 'link' ? spelled($tree->{target}{$node}) : ();
-        unshift @waiting, under($tree, $node) if $kind eq 'dir';
+        unshift @waiting, under($tree, $node) if $tree->{kind}{$node} eq 'dir';
     }
     my $is_wide = $listing =~ /\Atree 3/ || $has_types || @lines >= $MOST_LISTED;
     s/ file / any / for $is_wide ? @lines[@untyped] : ();
@@ -181,6 +181,9 @@ sub test_forms {
         [ 'types of files', [ 'tree 3', '0 dir', '1 sock 0 s', '2 any 0 a', '3 fifo 0 f', '4 hard 0 b 1', '5 dev 0 v', '6 file 0 p' ],
             [ '1 rename /s /z', '1 unlink /v', '1 create /n' ],
             [ 'tree 3', '0 dir', '1 any 0 a', '2 sock 0 b', '3 fifo 0 f', '4 any 0 n', '5 file 0 p', '6 hard 0 z 2' ] ],
+        [ 'mount points, which move with what is above them', [ 'tree 3', '0 dir', '1 dir 0 d', '2 mount 1 m', '3 file 2 f', '4 mount 0 n' ],
+            [ '1 rename /d /z', '1 rmdir /n', '1 rename /z/m /m', '1 rename /z/m/f /f', '1 mkdir /z/m/e' ],
+            [ 'tree 3', '0 dir', '1 mount 0 n', '2 dir 0 z', '3 mount 2 m', '4 dir 3 e', '5 file 3 f' ] ],
         [ 'what was refused', [ 'tree 1', '0 dir', '1 dir 0 a', '2 file 1 f' ],
             [ '1 rmdir /a', '1 unveil / r', '1 mkdir /b', '1 pledge stdio -', '1 unlink /a/f', '1 stat /' ],
             [ 'tree 1', '0 dir', '1 dir 0 a', '2 file 1 f' ] ],

@@ -38,7 +38,8 @@
 # process that ended is gone, as in pua.
 #
 # Status 0: it was performed, whatever the answers are. Status 1: a file can't be read, or isn't of
-# the right form, or this process isn't root. Status 2: the words do not fit.
+# the right form; the listing has a device or a mount point, which aren't made; or this process isn't
+# root. Status 2: the words do not fit.
 use strict;
 use warnings;
 

@@ -251,6 +251,7 @@ for my $fault (
     ['no listing', 'tree 0', $script],
     ['no listing', '', $script],
     ['no line of a listing', "tree 1\n0 dir\n1 what 0 x\n", $script],
+    ['m: no file system is mounted here', "tree 3\n0 dir\n1 mount 0 m\n", $script],
     ['no request', $LISTING, put('bad', "1 nothing /t\n")],
     ['no request', $LISTING, put('worse', "1 stat\n")],
     ['cannot', $LISTING, "$room/none"],

@@ -36,13 +36,14 @@
 #                It may be given several times. Links in it are not followed.
 #     --help     prints this text.
 #
-# Directories are listed as `dir`, symbolic links as `link`, plain files that someone may execute
-# as `prog`, other plain files as `file`, and sockets, fifos and devices as `sock`, `fifo` and `dev`.
-# What has several names, by its device and inode, is listed once, under the first of them in the
-# order of the listing; each other one is a `hard` line, and the listing's first line is then
-# `tree 2`, else `tree 1`; it is `tree 3` where there are more than 4,096 names, or a socket, a fifo
-# or a device. Links are not followed, except on the way to a PATH; mount points are crossed. Names
-# come in the order of their bytes, so two runs over the same files print the same.
+# Directories are listed as `dir`, or as `mount` where their device is another one than that of the
+# directory above; symbolic links as `link`, plain files that someone may execute as `prog`, other
+# plain files as `file`, and sockets, fifos and devices as `sock`, `fifo` and `dev`. What has several
+# names, by its device and inode, is listed once, under the first of them in the order of the listing;
+# each other one is a `hard` line, and the listing's first line is then `tree 2`, else `tree 1`; it is
+# `tree 3` where there are more than 4,096 names, or a socket, a fifo, a device or a mount point. Links
+# are not followed, except on the way to a PATH; mount points are crossed. Names come in the order of
+# their bytes, so two runs over the same files print the same.
 #
 # Lines on standard error report what a reader of the listing has to know: links whose target is
 # there but isn't listed, summed up by where they lead to; each further name of what is listed,
@@ -110,11 +111,12 @@ my %walked;                # by a path: that all below it was taken
 my %beyond;                # by a directory's path: the names beyond its first N, joined by `/`
 
 # What is listed but the root, by the path of its directory, which is empty for the root, and by its
-# name. Each is a string to keep memory small: `dir`, or `KIND DEVICE:INODE`, and behind that a
-# link's target.
+# name. Each is a string to keep memory small: `dir`, `dir mount`, or `KIND DEVICE:INODE`, and
+# behind that a link's target.
 my %inside;
+my %mounted;    # by the path of a mount point, and of the root: its device
 my $listed = 1;    # how many these are, and the root
-my $has_types = 0;    # whether there is a kind among them that `tree 3` alone has
+my $has_types = 0;    # whether there is a word among them that `tree 3` alone has
 my @links;         # the paths of those that are links
 
 # What may have several names, by DEVICE:INODE: how many it has on the disk, and the paths of those
@@ -211,7 +213,10 @@ sub take {
     my ($device, $inode, $mode, $count) = (lstat "$root$path")[0 .. 3]
         or return pass_over($path, $!);
     if (-d _) {
-        $names->{$name} = 'dir';
+        my $is_mount = $device ne device_of(above($path));
+        $mounted{$path} = $device if $is_mount;
+        $has_types ||= $is_mount;
+        $names->{$name} = $is_mount ? 'dir mount' : 'dir';
         $listed++;
         return 'dir';
     }
@@ -235,6 +240,13 @@ sub take {
         push @{ $names->{paths} }, $path;
     }
     return $kind;
+}
+
+# The device of a directory that is listed: that of the nearest mount point at or above it.
+sub device_of {
+    my ($path) = @_;
+    $path = above($path) while $path ne '' && !exists $mounted{$path};
+    return $mounted{$path} //= (stat($root eq '' ? '/' : $root))[0] // '';
 }
 
 # The kind of what was found last, which is no directory and no link, by its mode.
@@ -671,8 +683,10 @@ sub lines_on {
     my ($path, $above, $nodes, $again, $names) = @$way{qw(path number nodes again names)};
     my ($number, $lines, $inner) = ($$last, '');
     while (defined(my $name = pop @$names)) {
-        my ($kind, undef, $target) = split / /, $nodes->{$name}, 3;
+        my ($kind, $file, $target) = split / /, $nodes->{$name}, 3;
+        my $is_dir = $kind eq 'dir';
         $kind = 'file' if $kind eq 'any' && $form < 3;
+        $kind = 'mount' if $is_dir && defined $file;
         $number++;
         my $field = $name =~ tr/\x21-\x5b\x5d-\x7e//c ? spelled($name) : $name;
         $field .= ' ' . spelled($target) if defined $target;
@@ -681,7 +695,7 @@ sub lines_on {
             $first->{$file} ||= $number;
         }
         $lines .= "$number $kind $above $field\n";
-        $inner = "$path/$name" if $kind eq 'dir' && $inside{"$path/$name"};
+        $inner = "$path/$name" if $is_dir && $inside{"$path/$name"};
         last if defined $inner || length $lines > $MOST_BLOCK;
     }
     $$last = $number;

@@ -91,8 +91,14 @@ sub small_list {
 
 # A listing with these lines; its header is that of a listing with so many names, or with hard links.
 sub lines {
-    my $header = @_ > 4095 || grep({ /\A[0-9]+ (?:sock|fifo|dev) / } @_) ? 'tree 3' : grep({ /\A[0-9]+ hard / } @_) ? 'tree 2' : 'tree 1';
+    my $header = @_ > 4095 || grep({ /\A[0-9]+ (?:sock|fifo|dev|mount) / } @_) ? 'tree 3' : grep({ /\A[0-9]+ hard / } @_) ? 'tree 2' : 'tree 1';
     return join '', map { "$_\n" } $header, '0 dir', @_;
+}
+
+# The word of a directory of this machine: whether it is on another device than the one above it.
+sub word_of {
+    my ($path) = @_;
+    return (stat $path)[0] eq (stat "$path/..")[0] ? 'dir' : 'mount';
 }
 
 # That the words give this listing and these reports.
@@ -149,8 +155,8 @@ sub refuses {
     lists('a root that is named from here', ['-r', '../etc', 'ssl'], ['1 dir 0 ssl', '2 file 1 cert.pem']);
 
     my ($status, $out) = list("$root/etc");
-    my $number = 0;
-    my @way = map { my $line = ($number + 1) . " dir $number $_"; $number++; $line }
+    my ($number, $at) = (0, '');
+    my @way = map { $at .= "/$_"; my $line = ($number + 1) . ' ' . word_of($at) . " $number $_"; $number++; $line }
         grep { $_ ne '' } split m{/}, "$root/etc";
     is($out, lines(@way, ($number + 1) . " file $number passwd", ($number + 2) . " dir $number ssl",
         ($number + 3) . ' file ' . ($number + 2) . ' cert.pem'), 'below the real root');
@@ -197,7 +203,7 @@ sub refuses {
         '1 dir 0 dir', '2 fifo 0 fifo', '3 link 0 link plain', '4 prog 0 mine', '5 file 0 none',
         '6 prog 0 ours', '7 file 0 plain', '8 sock 0 socket', '9 prog 0 yours'
     ]);
-    lists('devices', ['/dev/null'], ['1 dir 0 dev', '2 dev 1 null']);
+    lists('devices', ['/dev/null'], ['1 ' . word_of('/dev') . ' 0 dev', '2 dev 1 null']);
 }
 
 # Names of any bytes, in the order of their bytes.
@@ -350,6 +356,31 @@ SKIP: {
     is(scalar `unshare -m sh -c '$mount && $^X $LIST -r $root' 2> $room/err`, lines('1 dir 0 a', '2 dir 1 deep',
         '3 file 2 y', '4 file 1 x', '5 dir 0 b', '6 dir 5 deep', '7 hard 6 y 3', '8 hard 5 x 4'), 'a second mount');
     unlink "$room/$_" for qw(out err);
+}
+
+# Mount points: directories on another device than that of the directory above, also where they are left out, or on the way;
+# a root is none.
+SKIP: {
+    my $root = room();
+    make_path('a/m', 'b');
+    file('a/f');
+    my $inner = "$root/a/m/d/n";
+    my $mounts = "mount -t tmpfs none $root/a/m && mkdir -p $inner && mount -t tmpfs none $inner && mkdir $inner/e && > $root/a/m/f";
+    skip 'nothing can be mounted here', 5 if system "unshare -m sh -c '$mounts' 2> $room/err > $room/out";
+    my $lists = sub {
+        my ($what, $words, @lines) = @_;
+        is(scalar `unshare -m sh -c '$mounts && $^X $LIST $words' 2> $room/err`, lines(@lines), "mount points: $what");
+    };
+    $lists->('all', "-r $root", '1 dir 0 a', '2 file 1 f', '3 mount 1 m', '4 dir 3 d', '5 mount 4 n', '6 dir 5 e', '7 file 3 f', '8 dir 0 b');
+    $lists->('left out', "-r $root -x /a/m", '1 dir 0 a', '2 file 1 f', '3 mount 1 m', '4 dir 0 b');
+    $lists->('on the way', "-r $root /a/m/d/n", '1 dir 0 a', '2 mount 1 m', '3 dir 2 d', '4 mount 3 n', '5 dir 4 e');
+    $lists->('a root', "-r $root/a/m", '1 dir 0 d', '2 mount 1 n', '3 dir 2 e', '4 file 0 f');
+    $lists->('no file of them', "-r $root -n 0", '1 dir 0 a', '2 mount 1 m', '3 dir 2 d', '4 mount 3 n', '5 dir 4 e', '6 dir 0 b');
+    unlink "$room/$_" for qw(out err);
+}
+SKIP: {
+    skip '/proc is no mount point here', 3 if !-d '/proc' || word_of('/proc') eq 'dir';
+    lists('a mount point of this machine', ['-x', '/proc', '/proc'], ['1 mount 0 proc'], '/proc: left out, and listed as an empty directory');
 }
 
 # What is refused.

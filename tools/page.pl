@@ -44,7 +44,8 @@ my $depth;              # DEPTH, where it was given
 my $MOST_BESIDE = 4;    # names that can't be touched and still stand unfolded beside others
 
 my %FIELDS = (dir => 4, file => 4, prog => 4, link => 5, hard => 5);    # of a line of a listing
-my %TYPED  = (sock => 4, fifo => 4, dev => 4, any => 4);    # after `tree 3`
+my %TYPED  = (mount => 4, sock => 4, fifo => 4, dev => 4, any => 4);    # after `tree 3`
+my %KINDS  = (any => 'file', mount => 'dir');    # of words that are none
 my %MISSING = ('left-out' => 'left out of the listing',
     'passed-over' => 'passed over by the listing');
 my %STATES = (
@@ -106,8 +107,8 @@ sub tree {
         die "$where: bad line\n" if @fields != ($fields{ $kind || '' } || 0) || $row =~ m{/};
         die "$where: bad number\n" if $nodes{$id};
         die "$where: bad parent\n" if ($nodes{$parent} || { kind => '' })->{kind} ne 'dir';
-        my $word = $kind eq 'any' ? 'file' : $kind;
-        my $node = { kind => $word, listed => 1, $kind eq 'link' ? (note => "-> $last") : () };
+        my $note = $kind eq 'link' ? "-> $last" : $kind eq 'mount' ? '(a mount point)' : undef;
+        my $node = { kind => $KINDS{$kind} || $kind, listed => 1, note => $note };
         if ($kind eq 'hard') {
             die "$where: bad node\n" if ($nodes{$last} || { kind => 'dir' })->{kind} eq 'dir';
             $node = { %{ $nodes{$last} }, note => "(a further name of node $last)" };

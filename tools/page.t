@@ -314,6 +314,22 @@ my @site = ('1 dir 0 www', '2 dir 1 site', '3 file 2 index', '4 file 1 key', '5 
     ], 'types: what stands there');
 }
 
+# Mount points are directories, and are told.
+{
+    my ($status, $out, $err) = page(
+        file('mounted', 'tree 3', '0 dir', '1 mount 0 m', '2 file 1 f', '3 mount 1 n', '4 dir 0 d'),
+        file('objects', 'objects 1', 'dir /m stat', 'other /m mkdir', 'file /m/f stat', 'dir /d rmdir'));
+    is("$status $err", '0 ', 'mount points: the status');
+    is_deeply([rows($out)], [
+        '0 | /',
+        '1 | d/ | removed: rmdir',
+        '1 | m/ (a mount point) | read: stat',
+        '2 | any other name | made: mkdir',
+        '2 | f file | read: stat',
+        '2 | n/ (a mount point)',
+    ], 'mount points: what stands there');
+}
+
 # Faults: nothing is written, and one line says why.
 {
     my ($tree, $list) = (file('good-tree', 'tree 1', '0 dir', '1 file 0 a'), file('good-list', '1 ok', 'objects 1'));
@@ -329,6 +345,9 @@ my @site = ('1 dir 0 www', '2 dir 1 site', '3 file 2 index', '4 file 1 key', '5 
         ['a target too many', file('more', 'tree 1', '0 dir', '1 file 0 a b'), $list, 'more: line 3: bad line'],
         ['a target that lacks', file('less', 'tree 1', '0 dir', '1 link 0 a'), $list, 'less: line 3: bad line'],
         ['a socket in the second form', file('untyped', 'tree 2', '0 dir', '1 sock 0 a'), $list, 'untyped: line 3: bad line'],
+        ['a mount point in the first form', file('unmounted', 'tree 1', '0 dir', '1 mount 0 a'), $list, 'unmounted: line 3: bad line'],
+        ['a second name of a mount point', file('mounts', 'tree 3', '0 dir', '1 mount 0 a', '2 hard 1 b 1'), $list,
+            'mounts: line 4: bad node'],
         ['a socket with a target', file('socket', 'tree 3', '0 dir', '1 sock 0 a b'), $list, 'socket: line 3: bad line'],
         ['a name in a socket', file('in-socket', 'tree 3', '0 dir', '1 sock 0 a', '2 file 1 b'), $list,
             'in-socket: line 4: bad parent'],

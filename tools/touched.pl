@@ -49,8 +49,8 @@
 #   others widens MOST_CALL_LINE. A call has its words in scripts by the rules by which it has a set
 #   of promises. In tools/, list.pl has which fields of a script are paths, lib/Pua/Lists.pm under
 #   which head a page has the call, lib/Pua/Calls.pm the system's call.
-# - A kind. docs/MODEL.md says that sockets, devices and fifos are files; a command line has the
-#   words of kinds.
+# - A kind. A command line has the words of kinds; a type of file is one of Known. What a directory
+#   is beside, as a mount point, is no kind but a field of Node, which edits and copies keep.
 # - A request. What forks is also in fork.rt and world.rt of pua_script and in watches.rt of
 #   pua_since. A request with two paths has a file of its own, as rename.rt.
 # - A change. Begin with Decide, Guards and Replay of pua_script/specs. If it wants room: Laws
@@ -75,11 +75,11 @@
 #   that a line touches no more than Concerns says is proved in Touching, that other questions are
 #   answered the same in Sparing.
 # - A format of listings. list.rt, list_edits.rt, slots.rt and slab_tree.rt of pua_tree keep a tree;
-#   list.pl writes a listing, page.pl reads it, Worlds.pm and Tree.pm of tests/lib do both. All
-#   above is checked again, and contracts stay. Larger listings: each call is judged, and each veil
-#   of a list for ever looked at, by a climb to the root; `begin_cost` grows with the square of the
-#   nodes, times the components; no command says since which line a tree is full (`date_of` of
-#   pua_why).
+#   list.pl writes a listing, page.pl and conform.pl (lib/Pua/Perform.pm) read it, Worlds.pm and
+#   Tree.pm of tests/lib do both, bench/plain/pua.rs reads it too. All above is checked again, and
+#   contracts stay. Larger listings: each call is judged, and each veil of a list for ever looked
+#   at, by a climb to the root; `begin_cost` grows with the square of the nodes, times the
+#   components; no command says since which line a tree is full (`date_of` of pua_why).
 # - A way to keep a tree is three traits of pua_tree: FileTree, Judged (by which edits are judged)
 #   and Gathered (by which a reader of listings fills it). They ask some things twice, by other
 #   names (`look` and `node_at`, `kind` and `kind_of`). ProgramTree of pua_tool is the program's.

@@ -3,7 +3,7 @@
 // words are those of `pua`.
 
 use std::borrow::Cow;
-use std::collections::{BTreeMap, HashMap};
+use std::collections::{BTreeMap, BTreeSet, HashMap};
 use std::fs;
 use std::hash::{BuildHasherDefault, Hasher};
 use std::io::{self, Write};
@@ -163,9 +163,11 @@ impl Kind {
     }
 }
 
-/// A node; a removed one has no links. `parent` is a directory's, `rows` are what stands in it.
+/// A node; a removed one has no links. `parent` is a directory's, `rows` are what stands in it, and another file system may be
+/// mounted on it.
 struct Node {
     kind: Kind,
+    is_mount: bool,
     links: u32,
     parent: u32,
     rows: Map<Box<[u8]>, u32>,
@@ -233,7 +235,7 @@ impl Tree {
     }
 
     fn make(&mut self, kind: Kind, parent: u32, target: &[u8]) -> u32 {
-        self.nodes.push(Node { kind, links: 0, parent, rows: Map::default(), target: target.into() });
+        self.nodes.push(Node { kind, is_mount: false, links: 0, parent, rows: Map::default(), target: target.into() });
         self.nodes.len() as u32 - 1
     }
 
@@ -290,6 +292,24 @@ impl Tree {
             at = self.node(at).parent;
         }
         at == over
+    }
+
+    /// The device of a directory: the nearest one at or above it where a file system is mounted, or the root.
+    fn device(&self, dir: u32) -> u32 {
+        let mut at = dir;
+        while at != ROOT && !self.node(at).is_mount {
+            at = self.node(at).parent;
+        }
+        at
+    }
+
+    /// Whether what gets a name, that name, and what has it are not on one device.
+    fn is_elsewhere(&self, from: Found, to: Found) -> bool {
+        let device = |found| match found {
+            Found::Whole(dir, _) | Found::Slot(dir, ..) => self.device(dir),
+        };
+        let over = to.spot().map(|(dir, _)| self.device(dir));
+        over != Some(device(from)) || over != Some(device(to))
     }
 
     /// What a path names from a root and a directory, and how many links were followed.
@@ -429,8 +449,10 @@ fn read_node(
     has_hard: bool,
     has_types: bool,
 ) -> Result<(), &'static str> {
+    let is_mount = has_types && fields.get(1) == Some(&&b"mount"[..]);
     let (kind, count) = match fields.get(1) {
         Some(&b"dir") => (Some(Kind::Dir), 4),
+        Some(&b"mount") if has_types => (Some(Kind::Dir), 4),
         Some(&b"file") => (Some(if has_types { Kind::Plain } else { Kind::File }), 4),
         Some(&b"any") if has_types => (Some(Kind::File), 4),
         Some(&b"sock") if has_types => (Some(Kind::Sock), 4),
@@ -460,7 +482,11 @@ fn read_node(
         return Err("name taken");
     }
     match kind {
-        Some(kind) => drop(nodes.insert(id, tree.add(parent, &name, kind, &to))),
+        Some(kind) => {
+            let node = tree.add(parent, &name, kind, &to);
+            tree.node_mut(node).is_mount = is_mount;
+            nodes.insert(id, node);
+        }
         None => tree.tie(parent, &name, old),
     }
     *before = id;
@@ -614,24 +640,36 @@ impl Rules {
     }
 }
 
-/// What a call is on; a directory with what is wrong with removing it.
+/// What a call is on; a directory with what is wrong with removing it, and with whether a file system is mounted there.
 #[derive(Clone, Copy)]
 enum Object {
     Missing,
     Node(Kind),
-    Dir(Option<Errno>),
+    Dir(Option<Errno>, bool),
+}
+
+/// A directory of a list, with what is wrong with removing it.
+fn dir_object(rmdir: Option<Errno>) -> Object {
+    Object::Dir(rmdir, false)
+}
+
+/// What is wrong with removing a directory by its name.
+fn rmdir_fault(tree: &Tree, dir: u32) -> Option<Errno> {
+    let node = tree.node(dir);
+    if node.is_mount { Some("EBUSY") } else { (!node.rows.is_empty()).then_some("ENOTEMPTY") }
 }
 
 fn object(tree: &Tree, found: Found) -> Object {
     let has_rows = |dir| !tree.node(dir).rows.is_empty();
-    match found {
-        Found::Slot(_, _, None) => Object::Missing,
-        Found::Slot(_, _, Some(node)) => Object::Node(tree.node(node).kind),
-        Found::Whole(dir, Way::DotDot) if rules().is_openbsd && has_rows(dir) => Object::Dir(Some("ENOTEMPTY")),
-        Found::Whole(_, Way::Dot | Way::DotDot) => Object::Dir(Some("EINVAL")),
-        Found::Whole(_, Way::Top) => Object::Dir(Some("EBUSY")),
-        Found::Whole(dir, Way::Named(..)) => Object::Dir(has_rows(dir).then_some("ENOTEMPTY")),
-    }
+    let rmdir = match found {
+        Found::Slot(_, _, None) => return Object::Missing,
+        Found::Slot(_, _, Some(node)) => return Object::Node(tree.node(node).kind),
+        Found::Whole(dir, Way::DotDot) if rules().is_openbsd && has_rows(dir) => Some("ENOTEMPTY"),
+        Found::Whole(_, Way::Dot | Way::DotDot) => Some("EINVAL"),
+        Found::Whole(_, Way::Top) => Some("EBUSY"),
+        Found::Whole(dir, Way::Named(..)) => rmdir_fault(tree, dir),
+    };
+    Object::Dir(rmdir, found.node().is_some_and(|dir| tree.node(dir).is_mount))
 }
 
 fn object_fault(call: Call, object: Object) -> Option<Errno> {
@@ -641,13 +679,13 @@ fn object_fault(call: Call, object: Object) -> Option<Errno> {
         (Object::Missing, _) => Some("ENOENT"),
         (_, Mkdir | Symlink | Mknod) => Some("EEXIST"),
         (_, Bind) => Some("EADDRINUSE"),
-        (Object::Dir(rmdir), Rmdir) => rmdir,
-        (Object::Dir(_), Readlink) => Some("EINVAL"),
-        (Object::Dir(_), OpenW | OpenRw | Create | CreateRw) => Some("EISDIR"),
-        (Object::Dir(_), Unlink) => Some("EPERM"),
-        (Object::Dir(_), Exec) => Some("EACCES"),
-        (Object::Dir(_), Connect) => Some("ENOTSOCK"),
-        (Object::Dir(_), _) => None,
+        (Object::Dir(rmdir, _), Rmdir) => rmdir,
+        (Object::Dir(..), Readlink) => Some("EINVAL"),
+        (Object::Dir(..), OpenW | OpenRw | Create | CreateRw) => Some("EISDIR"),
+        (Object::Dir(_, is_mount), Unlink) => Some(if is_mount { "EBUSY" } else { "EPERM" }),
+        (Object::Dir(..), Exec) => Some("EACCES"),
+        (Object::Dir(..), Connect) => Some("ENOTSOCK"),
+        (Object::Dir(..), _) => None,
         (Object::Node(kind), Readlink) if kind != Kind::Link => Some("EINVAL"),
         (Object::Node(kind), Exec) if kind != Kind::Prog => Some("EACCES"),
         (Object::Node(Kind::Sock), OpenR | OpenW | OpenRw | Create | CreateRw | Fchmod | Fchown) => Some("EOPNOTSUPP"),
@@ -1201,6 +1239,7 @@ fn act(tree: &mut Tree, process: &mut Process, action: &Action) -> Result<(), Er
             let node = from.node().ok_or("ENOENT")?;
             match (from, to) {
                 (Found::Whole(..), _) => Err("EPERM"),
+                (_, Found::Slot(_, _, None)) if tree.is_elsewhere(from, to) => Err("EXDEV"),
                 (_, Found::Slot(_, _, None)) if tree.is_full() => Err("ENOSPC"),
                 (_, Found::Slot(dir, name, None)) => {
                     let name = name.to_vec();
@@ -1319,6 +1358,7 @@ fn move_of(tree: &Tree, asks_directory: bool, from: Found, to: Found) -> Result<
     }
     match to {
         _ if is_dir && above == node => Err("EINVAL"),
+        _ if tree.is_elsewhere(from, to) => Err("EXDEV"),
         Found::Slot(_, _, Some(_)) if is_dir => Err("ENOTDIR"),
         Found::Whole(..) if !is_dir => Err("EISDIR"),
         Found::Whole(dir, _) if !tree.node(dir).rows.is_empty() => Err("ENOTEMPTY"),
@@ -1376,8 +1416,8 @@ const OBJECTS: [Object; 8] = [
     Object::Node(Kind::File),
     Object::Node(Kind::Prog),
     Object::Node(Kind::Link),
-    Object::Dir(None),
-    Object::Dir(Some("ENOTEMPTY")),
+    Object::Dir(None, false),
+    Object::Dir(Some("ENOTEMPTY"), false),
     Object::Node(Kind::Plain),
     Object::Node(Kind::Sock),
 ];
@@ -1408,8 +1448,8 @@ impl Allowed {
             Object::Node(Kind::Sock) => 7,
             Object::Node(Kind::Plain | Kind::Fifo | Kind::Dev) => 6,
             Object::Node(_) => 1,
-            Object::Dir(None) => 4,
-            Object::Dir(Some(_)) => 5,
+            Object::Dir(None, _) => 4,
+            Object::Dir(Some(_), _) => 5,
         };
         cover.map_or(0, |kept| self.by_letters[usize::from(kept)] & self.by_object[place])
     }
@@ -1956,7 +1996,7 @@ impl<'a> List<'a> {
     /// The line of a directory and that of its further names; and the directory, open.
     fn open(&mut self, dir: u32, rmdir: Option<Errno>, over: Cover) -> io::Result<OpenDir<'a>> {
         let cover = self.process.on_dirs.get(&dir).copied().or(over);
-        self.line("dir ", cover, Object::Dir(rmdir))?;
+        self.line("dir ", cover, dir_object(rmdir))?;
         self.line("other ", cover, Object::Missing)?;
         let rows = self.tree.node(dir).rows.keys().map(|name| &**name);
         let veiled = self.process.on_names.get(&dir).into_iter().flat_map(|names| names.keys().map(|name| &**name));
@@ -1977,7 +2017,7 @@ impl<'a> List<'a> {
         };
         let object = object(self.tree, found);
         let kind = match object {
-            Object::Dir(rmdir) => return self.open(node.unwrap_or(ROOT), rmdir, over).map(Some),
+            Object::Dir(rmdir, _) => return self.open(node.unwrap_or(ROOT), rmdir, over).map(Some),
             Object::Missing => "missing ",
             Object::Node(Kind::Prog) => "prog ",
             Object::Node(Kind::Link) => "link ",
@@ -2000,10 +2040,7 @@ impl<'a> List<'a> {
             return Ok(self.out);
         }
         let root = if self.process.is_enclosed(self.tree) { self.process.start.root } else { ROOT };
-        let rmdir = match root {
-            ROOT => Some("EBUSY"),
-            _ => (!self.tree.node(root).rows.is_empty()).then_some("ENOTEMPTY"),
-        };
+        let rmdir = if root == ROOT { Some("EBUSY") } else { rmdir_fault(self.tree, root) };
         if root != ROOT {
             self.path = place_path(self.tree, &(root, None));
         }
@@ -2109,8 +2146,9 @@ impl<'a> Ways<'a> {
             || self.tree.node(dir).rows.values().any(|node| self.gives_way(*node))
     }
 
-    fn dir_covers(self) -> Vec<Cover> {
-        self.living().filter(|dir| self.is_way_in(*dir)).map(|dir| self.process.dir_cover(self.tree, dir)).collect()
+    fn dir_covers(self, is_there: impl Fn(u32) -> bool) -> Vec<Cover> {
+        let ways = self.living().filter(|dir| is_there(*dir) && self.is_way_in(*dir));
+        ways.map(|dir| self.process.dir_cover(self.tree, dir)).collect()
     }
 }
 
@@ -2140,6 +2178,14 @@ const WRITES: [Call; 6] = [Call::OpenW, Call::OpenRw, Call::Create, Call::Create
 /// What a line is about, its path or `new`, and its calls.
 type EverLine = (&'static str, Vec<u8>, u32);
 
+/// The covers that can come over veiled names, over directories, and over anything else.
+#[derive(Default)]
+struct Coming {
+    names: Vec<Cover>,
+    dirs: Vec<Cover>,
+    files: Vec<Cover>,
+}
+
 /// All that a process that holds some promises can ever touch by itself.
 struct Ever<'a> {
     ways: Ways<'a>,
@@ -2148,9 +2194,9 @@ struct Ever<'a> {
     may_edit: bool,
     may_rename: bool,
     may_link: bool,
-    for_names: Vec<Cover>,
-    for_dirs: Vec<Cover>,
-    for_files: Vec<Cover>,
+    /// What is new comes under those of all devices, and what is there under those of its own.
+    everywhere: Coming,
+    on_devices: BTreeMap<u32, Coming>,
     path: Vec<u8>,
     lines: Vec<EverLine>,
 }
@@ -2166,17 +2212,39 @@ impl<'a> Ever<'a> {
             may_edit: may_name(0) || EDITS.iter().any(|call| lets(&calls[*call as usize].0, held)),
             may_rename: may_name(rules().rename.promises),
             may_link: may_name(rules().link.promises),
-            for_names: ways.free_names().map(|(_, _, kept)| Some(kept)).collect(),
-            for_dirs: ways.dir_covers(),
-            for_files: Vec::new(),
+            everywhere: Coming::default(),
+            on_devices: BTreeMap::new(),
             path: Vec::new(),
             lines: Vec::new(),
         };
-        let covers = ways.living().map(|dir| ways.process.dir_cover(ways.tree, dir));
-        let open: Vec<Cover> = covers.filter(|cover| has_c(*cover)).collect();
-        let inside = if open.iter().any(|cover| ever.can_move(*cover)) { &ever.for_dirs[..] } else { &[] };
-        ever.for_files = [&ever.for_names[..], &open, inside].concat();
+        ever.everywhere = ever.coming(|_| true);
+        let device = |dir| ways.tree.device(dir);
+        for of in ways.living().map(device).collect::<BTreeSet<u32>>() {
+            ever.on_devices.insert(of, ever.coming(|dir| device(dir) == of));
+        }
         ever
+    }
+
+    /// The covers of what is here, under which something can come.
+    fn coming(&self, is_here: impl Fn(u32) -> bool) -> Coming {
+        let ways = self.ways;
+        let names: Vec<Cover> =
+            ways.free_names().filter(|(dir, ..)| is_here(*dir)).map(|(_, _, kept)| Some(kept)).collect();
+        let dirs = ways.dir_covers(&is_here);
+        let covers = ways.living().filter(|dir| is_here(*dir)).map(|dir| ways.process.dir_cover(ways.tree, dir));
+        let open: Vec<Cover> = covers.filter(|cover| has_c(*cover)).collect();
+        let inside = if open.iter().any(|cover| self.can_move(*cover)) { &dirs[..] } else { &[] };
+        let files = [&names[..], &open, inside].concat();
+        Coming { names, dirs, files }
+    }
+
+    /// The covers under which things in a directory can come: those on its device; all, if the mount point goes along with the
+    /// directory in which it stands, as it has `c` and no veil of its own.
+    fn coming_to(&self, dir: u32) -> &Coming {
+        let Ways { tree, process } = self.ways;
+        let device = tree.device(dir);
+        let goes_along = !process.on_dirs.contains_key(&device) && has_c(process.dir_cover(tree, device));
+        if goes_along { &self.everywhere } else { &self.on_devices[&device] }
     }
 
     fn can_move(&self, cover: Cover) -> bool {
@@ -2219,10 +2287,10 @@ impl<'a> Ever<'a> {
         let (tree, process) = (self.ways.tree, self.ways.process);
         let now = process.dir_cover(tree, dir);
         let moves = !process.on_dirs.contains_key(&dir) && self.can_move(now);
-        let covers = if moves { self.for_dirs.clone() } else { vec![now] };
-        let is_empty = tree.node(dir).rows.is_empty();
-        let is_removable = dir != ROOT && self.ways.can_empty(dir) && (self.may_edit || is_empty);
-        self.line("dir", &covers, Object::Dir((!is_removable).then_some("ENOTEMPTY")));
+        let covers = if moves { self.coming_to(dir).dirs.clone() } else { vec![now] };
+        let is_bare = rmdir_fault(tree, dir).is_none();
+        let is_removable = dir != ROOT && self.ways.can_empty(dir) && (self.may_edit || is_bare);
+        self.line("dir", &covers, dir_object((!is_removable).then_some("ENOTEMPTY")));
         if let Some((over, name)) = at {
             self.freed(over, name);
         }
@@ -2258,7 +2326,7 @@ impl<'a> Ever<'a> {
         }
         let mut covers = if self.can_move(now) { Vec::new() } else { vec![now] };
         if self.can_move(now) || self.can_link(now, kind) {
-            covers.extend_from_slice(&self.for_files);
+            covers.extend_from_slice(&self.coming_to(dir).files);
         }
         self.put(word(kind), self.path.clone(), &covers, Object::Node(kind), self.is_turned_held(node));
         self.freed(dir, name);
@@ -2272,10 +2340,10 @@ impl<'a> Ever<'a> {
 
     /// The line of what can be made, if a call that makes it can be allowed.
     fn made(&mut self, kind: &'static str, makers: &[Call], object: Object) {
-        let names = [&self.for_names[..], &self.for_dirs].concat();
+        let names = [&self.everywhere.names[..], &self.everywhere.dirs].concat();
         if self.may_edit && self.calls(&names, Object::Missing) & bits(makers) != 0 {
             let is_in_dirs = makers == [Call::Mkdir];
-            let covers = if is_in_dirs { self.for_dirs.clone() } else { self.for_files.clone() };
+            let covers = if is_in_dirs { self.everywhere.dirs.clone() } else { self.everywhere.files.clone() };
             self.put(kind, b"new".to_vec(), &covers, object, true);
         }
     }
@@ -2299,7 +2367,7 @@ impl<'a> Ever<'a> {
 
 /// What can be made, by which calls, and what it is.
 const NEW: [(&str, &[Call], Object); 6] = [
-    ("dir", &[Call::Mkdir], Object::Dir(None)),
+    ("dir", &[Call::Mkdir], Object::Dir(None, false)),
     ("other", &[Call::Mkdir], Object::Missing),
     ("file", &MAKES_FILES, Object::Node(Kind::File)),
     ("link", &[Call::Symlink], Object::Node(Kind::Link)),
@@ -2413,7 +2481,7 @@ fn audit(world: &World, words: &Words, front: Vec<u8>) -> Result<(), (u8, String
         out: Vec::with_capacity(2 * BLOCK),
     };
     let after = after.as_ref().map(|(word, call)| (&word[..], *call));
-    let calls = Allowed::new(process.held()).on(covers[base as usize], Object::Dir(Some("EINVAL")));
+    let calls = Allowed::new(process.held()).on(covers[base as usize], dir_object(Some("EINVAL")));
     walk.lines(calls & calls_after(after)).map_err(cannot_write)?;
     walk.path.clear();
     walk.walk(limit, base, 0, after).map_err(cannot_write)?;
@@ -2471,7 +2539,7 @@ fn perform(command: Command, words: &Words) -> Result<(), (u8, String)> {
 /// Those of the program beside which this one stands. Here no table is read, and lists for ever are of one process.
 const USAGE: &str = "pua: usage: pua run [--table FILE] TREE SCRIPT; \
                      pua audit --limit N [--process P] [--base root|cwd] [--after CALL:PATH] [--table FILE] TREE SCRIPT [NAME...]";
-const OBJECTS_USAGE: &str = "pua: usage: pua objects [--ever] [--how|--why] [--images] [--process P,...|all] [--beside Q,...|all] [--at N] [--rules profile|openbsd] [--table FILE] TREE SCRIPT";
+const OBJECTS_USAGE: &str = "pua: usage: pua objects [--ever] [--how|--why] [--images] [--process P,...|all] [--beside Q,...|all] [--below PATH] [--at N] [--rules profile|openbsd] [--table FILE] TREE SCRIPT";
 
 fn main() -> ExitCode {
     let words: Vec<String> = std::env::args().skip(1).collect();

@@ -29,6 +29,10 @@ my @EDITS = qw(create mkdir rmdir unlink symlink bind mknod create-rw);
 my @OPENED = qw(create unlink create-rw);
 my $OPENER = 'tmppath';
 
+# Whether lists for ever keep what is moved or linked on its file system, as they do; else they take all of a tree for one.
+our $BY_DEVICE = 1;
+my $ALL = 'all';
+
 # What a file is that can be made a program whatever covers it: one that is made, or that the process holds so.
 my $TURNED = 'turned';
 
@@ -43,8 +47,18 @@ my @NEW = (
 );
 
 # The lines of the list for ever of a process that can put no veil any more; with reasons each has the covers under which
-# its thing can come, in the order of the veils that leave them, as letters and the number of the veil.
+# its thing could come if all of the tree were on one file system, in the order of the veils that leave them, as letters and
+# the number of the veil.
 sub lines {
+    my ($model, $number, $with_reasons) = @_;
+    my @lines = _lines_of($model, $number, $with_reasons);
+    return @lines if !$with_reasons || !$BY_DEVICE;
+    local $BY_DEVICE = 0;
+    my %covers = map { /\A(\S+ \S+) \S+(.*)\z/ ? ($1 => $2) : () } _lines_of($model, $number, $with_reasons);
+    return map { /\A((\S+ \S+) \S+)/ ? "$1$covers{$2}" : () } @lines;
+}
+
+sub _lines_of {
     my ($model, $number, $with_reasons) = @_;
     $model = widened($model);
     my $process = $model->{processes}{$number};
@@ -204,15 +218,33 @@ sub _union {
 
 # --- Covers ---
 
+# For each device, and for all together, the covers that can come over directories, over veiled names, and over anything else.
 sub _find_covers {
     my ($ever) = @_;
-    my @names = map { $_->{letters} } grep { $ever->_is_open($_) } $ever->_veiled;
-    $ever->{dir_covers} = [ map { $ever->_cover_of_dir($_) } grep { $ever->_is_way_in($_) } @{ $ever->{dirs} } ];
-    my @open = grep { _has_c($_) } map { $ever->_cover_of_dir($_) } @{ $ever->{dirs} };
-    my $some = grep { $ever->_can_move($_) } @open;
-    $ever->{name_covers} = \@names;
-    $ever->{file_covers} = [ @names, @open, $some ? @{ $ever->{dir_covers} } : () ];
+    my @dirs = @{ $ever->{dirs} };
+    my %on = map { $ever->_device($_) => 1 } @dirs;
+    for my $device ($ALL, keys %on) {
+        my @here = grep { $device eq $ALL || $ever->_device($_) eq $device } @dirs;
+        my %is_here = map { $_ => 1 } @here;
+        my @names = map { $_->{letters} } grep { $is_here{ $_->{dir} } && $ever->_is_open($_) } $ever->_veiled;
+        my @in_dirs = map { $ever->_cover_of_dir($_) } grep { $ever->_is_way_in($_) } @here;
+        my @open = grep { _has_c($_) } map { $ever->_cover_of_dir($_) } @here;
+        my $some = grep { $ever->_can_move($_) } @open;
+        $ever->{name_covers}{$device} = \@names;
+        $ever->{dir_covers}{$device}  = \@in_dirs;
+        $ever->{file_covers}{$device} = [ @names, @open, $some ? @in_dirs : () ];
+    }
     return;
+}
+
+sub _device { return $BY_DEVICE ? $_[0]{model}->device($_[1]) : 0 }
+
+# Where that is under whose covers things in a directory can come: on its device; anywhere, if the mount point goes along with
+# the directory in which it stands, as it has `c` and no veil of its own.
+sub _on {
+    my ($ever, $dir) = @_;
+    my $device = $ever->_device($dir);
+    return exists $ever->{process}{letters}{$device} || !_has_c($ever->_cover_of_dir($device)) ? $device : $ALL;
 }
 
 # Whether what has such a cover can be moved.
@@ -293,14 +325,15 @@ sub _covers_of_dir {
     my ($ever, $dir) = @_;
     my $cover = $ever->_cover_of_dir($dir);
     my $moves = !exists $ever->{process}{letters}{$dir} && $ever->_can_move($cover);
-    return $moves ? @{ $ever->{dir_covers} } : $cover;
+    return $moves ? @{ $ever->{dir_covers}{ $ever->_on($dir) } } : $cover;
 }
 
 sub _covers_of_name {
     my ($ever, $found, $kind) = @_;
     my $cover = $ever->{model}->_cover($ever->{process}, $found);
-    return @{ $ever->{file_covers} } if $ever->_can_move($cover);
-    return ($cover, $ever->_can_link($cover, $kind) ? @{ $ever->{file_covers} } : ());
+    my @covers = @{ $ever->{file_covers}{ $ever->_on($found->{in}) } };
+    return @covers if $ever->_can_move($cover);
+    return ($cover, $ever->_can_link($cover, $kind) ? @covers : ());
 }
 
 sub _can_link {
@@ -368,10 +401,11 @@ sub _lines_in {
     );
 }
 
-# Whether rmdir may find a directory empty.
+# Whether rmdir may find a directory empty; whether a file system is mounted there is asked where nothing can change.
 sub _is_gone {
     my ($ever, $dir) = @_;
-    return $dir != 0 && ($ever->{edits} ? $ever->_can_be_emptied($dir) : $ever->{model}->_is_empty($dir));
+    return 0 if $dir == 0 || !$ever->_can_be_emptied($dir);
+    return $ever->{edits} || $ever->{model}->_is_empty($dir) && !$ever->{model}{mount}{$dir};
 }
 
 sub _lines_at {
@@ -403,11 +437,11 @@ sub _freed {
 
 sub _new_line {
     my ($ever, $new) = @_;
-    my @names = (@{ $ever->{name_covers} }, @{ $ever->{dir_covers} });
+    my @names = map { @{ $ever->{$_}{$ALL} } } qw(name_covers dir_covers);
     return () if !$ever->{edits} || !grep { $ever->_is_allowed($_, 'missing', @names) } @{ $new->{calls} };
     my $is_dir = $new->{calls}[0] eq 'mkdir';
     my $is = $new->{is} ne $TURNED ? $new->{is} : "$TURNED " . ($ever->{model}{openbsd} ? 'plain' : 'file');
-    return $ever->_line($new->{kind}, 'new', $is, @{ $ever->{ $is_dir ? 'dir_covers' : 'file_covers' } });
+    return $ever->_line($new->{kind}, 'new', $is, @{ $ever->{ $is_dir ? 'dir_covers' : 'file_covers' }{$ALL} });
 }
 
 1;

@@ -68,7 +68,8 @@ sub _begin {
     my ($joint) = @_;
     my $model = $joint->{model};
     my @dirs = sort { $a <=> $b } grep { $model->{kind}{$_} eq 'dir' } keys %{ $model->{kind} };
-    my @made = map { "made $_" } 0 .. $#{ $joint->{crew} };
+    my %devices = map { $joint->_device($_) => 1 } @dirs;
+    my @made = map { my $by = $_; map { "made $by on $_" } sort { $a <=> $b } keys %devices } 0 .. $#{ $joint->{crew} };
     $joint->{dirs} = \@dirs;
     $joint->{seats} = [ @dirs, @made ];
     $joint->{names} = { map { $_ => { $FRESH => 1 } } @dirs, @made };
@@ -85,6 +86,13 @@ sub _begin {
         $joint->{names}{$dir}{$name} = 1 if $joint->{names}{$dir};
     }
     return;
+}
+
+# The device of a directory, or of what one makes on a device; one for all where lists for ever don't go by them.
+sub _device {
+    my ($joint, $seat) = @_;
+    return $1 if $seat =~ / on ([0-9]+)\z/;
+    return $EverModel::BY_DEVICE ? $joint->{model}->device($seat) : 0;
 }
 
 # Notes a fact, and whether it is a new one.
@@ -123,8 +131,10 @@ sub _stand {
     my @ways = $joint->_of_facts('way', $by);
     my @seats = grep { $joint->_moves_dir($by, $_) } @{ $joint->{seats} };
     for my $in (@ways) {
-        $joint->_has('in', $_, $in) for grep { /\Amade/ || $joint->_is('apart', $_, $in) } @seats;
-        $joint->_has('in', "made $by", $in) if $joint->_is('makes', $by, 'dir');
+        my $device = $joint->_device($in);
+        my @here = grep { $joint->_device($_) == $device } @seats;
+        $joint->_has('in', $_, $in) for grep { /\Amade/ || $joint->_is('apart', $_, $in) } @here;
+        $joint->_has('in', "made $by on $device", $in) if $joint->_is('makes', $by, $device, 'dir');
     }
     return;
 }
@@ -208,23 +218,28 @@ sub _ways_in {
             if grep { /c/ } $joint->_of_facts('cover', $by, $seat), map { $letters->{"$seat/$_"} } @names;
     }
     for my $dir (grep { ($letters->{$_} || '') =~ /c/ && $joint->_can_be_emptied($_) } @{ $joint->{dirs} }) {
-        next if !grep { $_ ne $dir && $joint->_is('apart', $dir, $_) && $joint->_moves_dir($by, $_) } @{ $joint->{seats} };
+        next if $EverModel::BY_DEVICE && $joint->{model}{mount}{$dir};
+        my @others = grep { $_ ne $dir && $joint->_device($_) == $joint->_device($dir) } @{ $joint->{seats} };
+        next if !grep { $joint->_is('apart', $dir, $_) && $joint->_moves_dir($by, $_) } @others;
         $joint->_has('way', $by, $_) for $joint->_of_facts('in', $dir);
     }
     return;
 }
 
-# Kinds that one can make.
+# Kinds that one can make, on each device.
 sub _made {
     my ($joint, $by) = @_;
     my $ever = $joint->{crew}[$by];
-    my @covers;
+    my %covers;
     for my $seat (@{ $joint->{seats} }) {
-        push @covers, map { $joint->_covers_at($by, $seat, $_) }
+        push @{ $covers{ $joint->_device($seat) } }, map { $joint->_covers_at($by, $seat, $_) }
             grep { $joint->_is_free($seat, $_) } keys %{ $joint->{names}{$seat} };
     }
-    for my $kind (keys %MAKES) {
-        $joint->_has('makes', $by, $kind) if grep { $ever->_is_allowed($_, 'missing', @covers) } @{ $MAKES{$kind} };
+    for my $device (keys %covers) {
+        for my $kind (keys %MAKES) {
+            my @calls = grep { $ever->_is_allowed($_, 'missing', @{ $covers{$device} }) } @{ $MAKES{$kind} };
+            $joint->_has('makes', $by, $device, $kind) if @calls;
+        }
     }
     return;
 }
@@ -238,15 +253,20 @@ sub _move {
             grep { $joint->_is_free($seat, $_) && grep { /c/ } $joint->_covers_at($by, $seat, $_) } keys %{ $joint->{names}{$seat} };
     }
     for my $kind (qw(file link sock fifo)) {
-        next if !$joint->_is('makes', $by, $kind);
-        $joint->_comes_to("$kind $by", @$_) for @targets;
+        $joint->_comes_to("$kind $by", @$_) for grep { $joint->_is('makes', $by, $joint->_device($_->[0]), $kind) } @targets;
     }
     for my $source (keys %{ $joint->{places} || {} }, $joint->_rows) {
-        my @covers = map { $joint->_covers_at($by, @$_) } $joint->_places($source);
-        next if !grep { $joint->_can_move($by, $_) || $joint->_can_link($by, $_, $joint->_kind($source)) } @covers;
-        $joint->_comes_to($source, @$_) for @targets;
+        my %leaves = map { $joint->_device($_->[0]) => 1 } grep { $joint->_leaves($by, $source, @$_) } $joint->_places($source);
+        $joint->_comes_to($source, @$_) for grep { $leaves{ $joint->_device($_->[0]) } } @targets;
     }
     return;
+}
+
+# Whether one can move or link something from a name in a directory.
+sub _leaves {
+    my ($joint, $by, $source, $seat, $name) = @_;
+    my $kind = $joint->_kind($source);
+    return scalar grep { $joint->_can_move($by, $_) || $joint->_can_link($by, $_, $kind) } $joint->_covers_at($by, $seat, $name);
 }
 
 sub _comes_to {
@@ -323,7 +343,7 @@ sub _new_calls {
     my ($joint, $kind, @agents) = @_;
     my %has;
     for my $by (@agents) {
-        my @made = map { $joint->_of_facts('cover', $by, "made $_") } 0 .. $#{ $joint->{crew} };
+        my @made = map { $joint->_of_facts('cover', $by, $_) } grep { /\Amade/ } @{ $joint->{seats} };
         my @at = map { $joint->_covers_at($by, @$_) } map { $joint->_places("$kind $_") } 0 .. $#{ $joint->{crew} };
         my @calls
             = $kind eq 'dir'   ? $joint->_calls($by, 'gone', @made)

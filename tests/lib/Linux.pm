@@ -188,7 +188,7 @@ sub _rename {
     my ($node, $replaced) = map { $linux->{rows}{ $_->[0] }{ $_->[1] } } $from, $to;
     return 'ok' if defined $replaced && $node == $replaced;
     my $errno = $by->{'rename-above'} && defined $replaced && $linux->_is_below($replaced, $from->[0])
-        ? 'ENOTEMPTY' : $linux->_unmovable($node, $to->[0], $replaced);
+        ? 'ENOTEMPTY' : $linux->_unmovable($old, $new);
     return $errno if $errno;
     $linux->_cut(@$to) if defined $replaced;
     $linux->_untie(@$from);

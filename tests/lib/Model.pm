@@ -236,9 +236,11 @@ sub _misfit {
     my ($model, $call, $found) = @_;
     my $is_plain = defined $found->{node} && $model->{plain}{ $found->{node} };
     my $errno = $is_plain && $MISFITS{$call}{plain} || $MISFITS{$call}{ $model->_kind($found) } || '';
+    return 'EBUSY' if $call eq 'unlink' && exists $found->{dir} && $model->{mount}{ $found->{dir} };
     return $errno unless $errno eq 'way';
     return 'EBUSY' if $found->{way} eq '';
     return 'EINVAL' if $found->{way} eq '.' || $found->{way} eq '..' && !$model->{openbsd};
+    return 'EBUSY' if $found->{way} eq 'name' && $model->{mount}{ $found->{dir} };
     return 'ENOTEMPTY' if !$model->_is_empty($found->{dir});
     return $found->{way} eq '..' ? 'EINVAL' : '';
 }
@@ -357,7 +359,7 @@ sub _rename {
     my ($from, $to) = map { $model->_row($_) } $old, $new;
     my ($node, $replaced) = map { $model->{rows}{ $_->[0] }{ $_->[1] } } $from, $to;
     return 'ok' if defined $replaced && $node == $replaced;
-    my $errno = $model->_unmovable($node, $to->[0], $replaced);
+    my $errno = $model->_unmovable($old, $new);
     return $errno if $errno;
     $model->_cut(@$to) if defined $replaced;
     $model->_untie(@$from);
@@ -371,19 +373,23 @@ sub _row {
     return exists $found->{dir} ? [ @{ $model->{above}{ $found->{dir} } } ] : [ @$found{qw(in name)} ];
 }
 
-# Why a node cannot come into a directory, where it would replace another.
+# Why what was found cannot come to another name, and replace what stands there.
 sub _unmovable {
-    my ($model, $node, $dir, $replaced) = @_;
-    my $is_dir = $model->{kind}{$node} eq 'dir';
-    for (my $over = $dir; $is_dir; $over = $model->_parent($over)) {
-        return 'EINVAL' if $over == $node;
-        last if $over == 0;
-    }
-    return '' unless defined $replaced;
-    my $onto_dir = $model->{kind}{$replaced} eq 'dir';
+    my ($model, $old, $new) = @_;
+    my ($is_dir, $onto_dir) = map { exists $_->{dir} } $old, $new;
+    return 'EINVAL' if $is_dir && $model->_is_below($old->{dir}, $model->_row($new)->[0]);
+    return 'EXDEV' if $model->_is_elsewhere($old, $new);
+    return '' if $model->_kind($new) eq 'missing';
     return 'ENOTDIR' if $is_dir && !$onto_dir;
     return 'EISDIR' if !$is_dir && $onto_dir;
-    return $onto_dir && !$model->_is_empty($replaced) ? 'ENOTEMPTY' : '';
+    return $onto_dir && !$model->_is_empty($new->{dir}) ? 'ENOTEMPTY' : '';
+}
+
+# Whether what gets a name, that name, and what has it are not on one device: what is no directory is on that of its name.
+sub _is_elsewhere {
+    my ($model, $old, $new) = @_;
+    my $to = $model->device($model->_row($new)->[0]);
+    return scalar grep { $model->device(exists $_->{dir} ? $_->{dir} : $_->{in}) != $to } $old, $new;
 }
 
 sub _link {
@@ -392,6 +398,7 @@ sub _link {
     return $answer if $answer;
     return 'EPERM' if $model->_kind($old) eq 'dir';
     return 'EEXIST' if $model->_kind($new) ne 'missing';
+    return 'EXDEV' if $model->_is_elsewhere($old, $new);
     $model->_tie(@$new{qw(in name)}, $old->{node});
     return 'ok';
 }

@@ -2,7 +2,8 @@
 # names in it. Written from docs/DEFINITIONS.md and man/pua.1 alone. A listing is one without faults.
 #
 # It has kinds, targets and rows: {kind}{NODE}, {target}{NODE}, {rows}{DIRECTORY}{NAME} = NODE; and of each directory
-# but the root its place, {above}{NODE} = [DIRECTORY, NAME]. A file that is known to be a plain one is {plain}{NODE}.
+# but the root its place, {above}{NODE} = [DIRECTORY, NAME]. A file that is known to be a plain one is {plain}{NODE}, and a
+# directory at which another file system is mounted is {mount}{NODE}.
 #
 # What a path names (a *found*) is a directory, {dir => NODE, way => how it was named at last}, or a name in a
 # directory, {in => DIRECTORY, name => NAME, node => NODE or undef}.
@@ -20,7 +21,8 @@ my $MOST_COMPONENT = 255;
 # The tree of a listing.
 sub new {
     my ($class, $listing) = @_;
-    my $tree = bless { kind => { 0 => 'dir' }, plain => {}, target => {}, rows => { 0 => {} }, above => {}, next => 1 }, $class;
+    my %none = map { $_ => {} } qw(plain mount target above);
+    my $tree = bless { %none, kind => { 0 => 'dir' }, rows => { 0 => {} }, next => 1 }, $class;
     my ($header, undef, @lines) = split /\r?\n/, $listing;
     $tree->_list($header eq 'tree 3', split / /) for @lines;
     return $tree;
@@ -45,8 +47,9 @@ sub spelled {
 # Makes the node, or the further name, of a line of a listing.
 sub _list {
     my ($tree, $has_types, $number, $word, $parent, $name, $end) = @_;
-    my $kind = $word eq 'any' ? 'file' : $word;
+    my $kind = { any => 'file', mount => 'dir' }->{$word} || $word;
     $tree->{plain}{$number} = 1 if $has_types && $word eq 'file';
+    $tree->{mount}{$number} = 1 if $word eq 'mount';
     $name = unspelled($name);
     $tree->{next} = $number + 1;
     return $tree->_tie($parent, $name, $end) if $kind eq 'hard';
@@ -93,7 +96,7 @@ sub _cut {
     my ($tree, $dir, $name) = @_;
     my $node = $tree->_untie($dir, $name);
     return if grep { $_ == $node } map { values %$_ } values %{ $tree->{rows} };
-    delete $tree->{$_}{$node} for qw(kind plain target rows);
+    delete $tree->{$_}{$node} for qw(kind plain mount target rows);
     return;
 }
 
@@ -123,6 +126,13 @@ sub _is_below {
 }
 
 sub _is_empty { return !%{ $_[0]{rows}{ $_[1] } } }
+
+# The device of a directory: the nearest one at or above it where a file system is mounted, else the root.
+sub device {
+    my ($tree, $dir) = @_;
+    $dir = $tree->_parent($dir) while $dir != 0 && !$tree->{mount}{$dir};
+    return $dir;
+}
 
 # The spelled path of a directory from the root.
 sub _path {

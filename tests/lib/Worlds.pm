@@ -26,8 +26,9 @@ my @NAMES = ('a', 'b', 'c', 'd', 'e', 'f\040g');
 # What a line of a listing may add. A directory that is drawn more often makes deeper trees.
 my @KINDS = qw(dir dir dir dir file file prog link link hard);
 
-# Where types of files are known.
+# Where types of files, and mount points, are known.
 my @TYPED_KINDS = (@KINDS, qw(dir file any sock sock fifo dev));
+my @MOUNTS = qw(mount mount);
 
 # Parts of targets and of paths beside names.
 my @STEPS = qw(. .. ..);
@@ -145,6 +146,13 @@ my @ROOT_STRETCHES = (
 # What stands at a path that a promise opens.
 my @OPENED_KINDS = qw(file file file file file prog link dir);
 
+# What it asks for where there are mount points.
+my @MOUNT_REQUESTS = (
+    'rmdir MOUNT', 'unlink MOUNT', 'rename MOUNT NEW', 'rename FILE MOUNT', 'rename DIR MOUNT', 'rename MOUNT MOUNT',
+    'chdir MOUNT', ('rename FILE MOUNT/NAME', 'rename MOUNT/NAME NEW', 'link FILE MOUNT/NAME', 'rename DIR MOUNT/NAME') x 2,
+    'rename MOUNT/NAME MOUNT/NAME', 'link MOUNT/NAME NEW', 'rmdir MOUNT/NAME', 'unlink MOUNT/NAME',
+);
+
 # What is drawn seldom: what is refused for its text, an end, a lock in the midst.
 my @SELDOM = (
     'exit', 'unveil - -', 'unveil PATH rq', 'unveil = r', 'stat =', 'pledge rpath,nothing -', 'pledge - MILD',
@@ -169,11 +177,12 @@ my @STRETCHES = (
 
 # Makes a generator of worlds. Those of one seed are always the same. In %$how, optional: paths_alone, where scripts
 # have no call without a path; openings, where by OpenBSD's rules trees have paths that promises open, and scripts ask
-# for these; files, where by these rules scripts are about descriptors; roots, where they are about these too.
+# for these; files, where by these rules scripts are about descriptors; roots, where they are about these too; on_one, where
+# all of a tree is on one file system.
 sub new {
     my ($class, $seed, $how) = @_;
     my $worlds = bless { state => 1 + $seed % 2147483646, names => [@NAMES] }, $class;
-    my @parts = qw(paths_alone openings files roots);
+    my @parts = qw(paths_alone openings files roots on_one);
     @$worlds{@parts} = @$how{@parts};
     @$worlds{qw(paths of)} = (['/'], { dir => [''] });
     $worlds->number(2) for 1 .. 5;
@@ -229,17 +238,20 @@ sub listing {
 sub _add_line {
     my ($worlds, $tree, $number) = @_;
     my $parent = $worlds->pick(sort { $a <=> $b } keys %{ $tree->{dirs} });
-    my ($kind, $name) = ($worlds->pick($tree->{header} eq 'tree 3' ? @TYPED_KINDS : @KINDS), $worlds->name);
+    my @kinds = $tree->{header} ne 'tree 3' ? @KINDS : (@TYPED_KINDS, $worlds->{on_one} ? () : @MOUNTS);
+    my ($kind, $name) = ($worlds->pick(@kinds), $worlds->name);
     my $path = "$tree->{dirs}{$parent}/$name";
     return if $tree->{taken}{$path} || $kind eq 'hard' && !@{ $tree->{others} };
     $tree->{taken}{$path} = 1;
     $tree->{header} = 'tree 2' if $kind eq 'hard' && $tree->{header} eq 'tree 1';
-    $tree->{dirs}{$number} = $path if $kind eq 'dir';
+    my $is_dir = $kind eq 'dir' || $kind eq 'mount';
+    $tree->{dirs}{$number} = $path if $is_dir;
     my @end = $kind eq 'link' ? $worlds->_target : $kind eq 'hard' ? $worlds->pick(@{ $tree->{others} }) : ();
-    push @{ $tree->{others} }, $number unless $kind eq 'dir' || $kind eq 'hard';
+    push @{ $tree->{others} }, $number unless $is_dir || $kind eq 'hard';
     push @{ $tree->{lines} }, join ' ', $number, $kind, $parent, $name, @end;
     push @{ $worlds->{paths} }, $path;
     push @{ $worlds->{of}{$kind} }, $path;
+    push @{ $worlds->{of}{dir} }, $path if $kind eq 'mount';
     return;
 }
 
@@ -404,8 +416,9 @@ sub _request {
     push @requests, @OPENING_REQUESTS if $worlds->opens;
     push @requests, (@FILE_REQUESTS) x 2 if $worlds->files;
     push @requests, (@ROOT_REQUESTS) x 2 if $worlds->roots;
+    push @requests, @MOUNT_REQUESTS if $worlds->{of}{mount};
     my $request = $worlds->pick($worlds->number($SELDOM_IN) ? @requests : @SELDOM);
-    $request = join ' ', map { $worlds->_drawn($_) } split / /, $request;
+    $request =~ s/([A-Z]+)/$worlds->_drawn($1)/ge;
     $request =~ s{ /[^/ ]+(?=/)}{ } if $worlds->roots && $worlds->number(3) == 0;
     return $request;
 }
@@ -472,6 +485,7 @@ sub _drawn {
         : $word eq 'DIR'          ? $worlds->_path_of('dir')
         : $word eq 'LEAF'         ? $worlds->_path_of('leaf')
         : $word eq 'JAIL'         ? $worlds->jail
+        : $word eq 'MOUNT'        ? $worlds->_path_of('mount')
         : $word eq 'PROG'         ? $worlds->_path_of('prog')
         : $word eq 'FILE'         ? $worlds->_path_of(qw(file any sock fifo dev prog link hard))
         : $word eq 'NEW'          ? $worlds->_new_path

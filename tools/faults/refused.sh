@@ -108,6 +108,7 @@ sweep 'for ever, and places that are gone' 0 objects --ever tree gone
 sweep 'for ever, two together' 0 objects --ever --process 1,2 twice both
 sweep 'for ever, all together' 0 objects --ever --process all twice both
 sweep 'for ever, with the steps of ways' 0 objects --ever --how twice drop
+sweep 'for ever, with the steps of ways, at or below a path' 0 objects --ever --how --below /d twice drop
 sweep 'for ever, with what lets calls through' 0 objects --ever --why tree one
 sweep 'for ever, with reasons, and what can be moved' 0 objects --ever --why --process 2 twice moves
 sweep 'a way' 0 how twice drop open-r /d/f

@@ -1,5 +1,5 @@
 -- Worked rows on small reaches.
-use Rattle.std.specs.Prelude.{◌≡◌, ◌+◌, ℕ, List, [], ◌∷◌, ◌++◌, map, length, Option, Some, None, Result, Ok, Err, codes, refl}
+use Rattle.std.specs.Prelude.{◌≡◌, ◌+◌, ℕ, false, List, [], ◌∷◌, ◌++◌, map, length, Option, Some, None, Result, Ok, Err, codes, refl}
 use Rattle.pua_tree.specs.Tree.{Tree, empty_tree}
 use Rattle.pua_tree.specs.Examples.{example_tree}
 use Rattle.pua_tree.specs.declared.node.Kind.TheVariants.{Dir, File, Link}
@@ -58,11 +58,11 @@ one_written_file = state_after (Pledged (Some fattr) None) (state_after (Unveile
 abbrev pub tree_of_32_links : Tree
 tree_of_32_links = record empty_tree {
   rows = ((0, codes "f"), 1) ∷ ((0, codes "k"), 2) ∷ ((0, codes "l"), 3) ∷ [];
-  nodes = (0, record { kind = Dir; target = None }) ∷ (1, record { kind = File; target = None }) ∷ (
+  nodes = (0, record { kind = Dir; target = None; mount = false }) ∷ (1, record { kind = File; target = None; mount = false }) ∷ (
     2,
-    record { kind = Link; target = Some (codes ".") },
+    record { kind = Link; target = Some (codes "."); mount = false },
   )
-      ∷ (3, record { kind = Link; target = Some (codes "k/k/k/k/k/k/k/k/k/k/k/k/k/k/k/k/k/k/k/k/k/k/k/k/k/k/k/k/k/k/k") }) ∷ [];
+      ∷ (3, record { kind = Link; target = Some (codes "k/k/k/k/k/k/k/k/k/k/k/k/k/k/k/k/k/k/k/k/k/k/k/k/k/k/k/k/k/k/k"); mount = false }) ∷ [];
   next = 4;
 }
 
@@ -70,10 +70,10 @@ tree_of_32_links = record empty_tree {
 abbrev pub tree_of_two_paths : Tree
 tree_of_two_paths = record empty_tree {
   rows = ((0, codes "d"), 1) ∷ ((0, codes "l"), 2) ∷ ((1, codes "f"), 3) ∷ [];
-  nodes = (0, record { kind = Dir; target = None }) ∷ (1, record { kind = Dir; target = None }) ∷ (
+  nodes = (0, record { kind = Dir; target = None; mount = false }) ∷ (1, record { kind = Dir; target = None; mount = false }) ∷ (
     2,
-    record { kind = Link; target = Some (codes "d") },
-  ) ∷ (3, record { kind = File; target = None }) ∷ [];
+    record { kind = Link; target = Some (codes "d"); mount = false },
+  ) ∷ (3, record { kind = File; target = None; mount = false }) ∷ [];
   next = 4;
 }
 

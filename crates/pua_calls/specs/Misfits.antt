@@ -5,10 +5,11 @@ use Rattle.pua_tree.specs.declared.node.Kind.TheVariants.{Dir, File, Prog, Link,
 use Rattle.pua_tree.specs.declared.node.FileType.TheVariants.{Plain, Sock, Fifo, Dev}
 use Rattle.pua_path.specs.declared.errno.Errno.{Errno}
 use Rattle.pua_path.specs.declared.errno.Errno.TheVariants.{EPERM, ENOENT, EACCES, EBUSY, EEXIST, ENOTDIR, EISDIR, EINVAL, ENOTEMPTY}
-use Rattle.pua_path.specs.declared.errno.Errno.TheVariants.{ENOTSOCK, EOPNOTSUPP, EADDRINUSE}
+use Rattle.pua_path.specs.declared.errno.Errno.TheVariants.{ENOTSOCK, EOPNOTSUPP, EADDRINUSE, EXDEV}
 use Rattle.pua_calls.specs.declared.fits.Misfit.{Misfit}
 use Rattle.pua_calls.specs.declared.fits.Misfit.TheVariants.{Missing, Exists, IsDirectory, IsNoFile, IsNoDirectory, IsNoLink}
 use Rattle.pua_calls.specs.declared.fits.Misfit.TheVariants.{IsNoProgram, IsNotEmpty, ByDot, ByDotDot, ByNothing, IsSocket, IsNoSocket, InUse}
+use Rattle.pua_calls.specs.declared.fits.Misfit.TheVariants.{IsMountPoint, IsElsewhere}
 use Rattle.pua_calls.specs.declared.fits.Fits.{Fits}
 
 -- of a call on whatever stands; on what is opened, as no socket is (open(2)); on nothing that stands, but for what is said of some of
@@ -70,3 +71,5 @@ misfit_errno ByNothing = EBUSY
 misfit_errno IsSocket = EOPNOTSUPP
 misfit_errno IsNoSocket = ENOTSOCK
 misfit_errno InUse = EADDRINUSE
+misfit_errno IsMountPoint = EBUSY
+misfit_errno IsElsewhere = EXDEV

@@ -37,11 +37,16 @@ pub enum Misfit {
     IsNoSocket,
     /// Something has the name to which a socket is to be bound.
     InUse,
+    /// It is a directory at which another file system is mounted, and is to be removed.
+    IsMountPoint,
+    /// It is on another file system than what is to get its name.
+    IsElsewhere,
 }
 
 impl Misfit {
-    /// The error of a call on such an object (this profile, but EOPNOTSUPP is open(2)'s and ENOTSOCK
-    /// connect(2)'s).
+    /// The error of a call on such an object (this profile, but EOPNOTSUPP is open(2)'s, ENOTSOCK
+    /// connect(2)'s, EBUSY of a mount point that of rmdir(2) and unlink(2), and EXDEV that of
+    /// rename(2) and link(2)).
     pub fn errno(self) -> Errno
         ensures { result ≡ misfit_errno self }
     {
@@ -54,10 +59,11 @@ impl Misfit {
             Misfit::IsNoLink | Misfit::ByDot | Misfit::ByDotDot => Errno::EINVAL,
             Misfit::IsNoProgram => Errno::EACCES,
             Misfit::IsNotEmpty => Errno::ENOTEMPTY,
-            Misfit::ByNothing => Errno::EBUSY,
+            Misfit::ByNothing | Misfit::IsMountPoint => Errno::EBUSY,
             Misfit::IsSocket => Errno::EOPNOTSUPP,
             Misfit::IsNoSocket => Errno::ENOTSOCK,
             Misfit::InUse => Errno::EADDRINUSE,
+            Misfit::IsElsewhere => Errno::EXDEV,
         }
     }
 }

@@ -16,7 +16,7 @@ use Rattle.pua_script.proofs.ForCallers.{each_spares, by_other}
 use Rattle.pua_ever.specs.Ever.{may_link}
 use Rattle.pua_ever.specs.Laws.{MembersEdit, NoExecLoosens}
 use Rattle.pua_ever.proofs.Execs.{members_still}
-use Rattle.pua_ever.proofs.Grown.{Grown, Written, by_name, by_turn, From, is_new, is_moved, is_linked, Put, Born, name_cover}
+use Rattle.pua_ever.proofs.Grown.{Grown, Written, by_name, by_turn, From, IsNear, TurnsNear, is_new, is_moved, is_linked, Put, Born, name_cover}
 use Rattle.pua_ever.proofs.Growing.{takes, requests_grow}
 use Rattle.pua_ever.proofs.KindFaults.{plain_alike}
 use Rattle.pua_ever.proofs.Origins.{Stays}
@@ -45,10 +45,11 @@ module _ (table : CallTable) (sound : NoCallNeedsError table) (now a : ProcessSt
         sym (ap (on_name maker s now) (plain_alike table.whose t maker None)) ∙
         verdicts_within now a within table sound t maker (Ok (Slot s.0 s.1 None)) (ap (on_name maker s a) (plain_alike table.whose t maker None) ∙ e)
 
-    written_within : (s : Spot) (x : ℕ) → Written table t a s x → Written table t now s x
-    written_within s x (by_name has) = by_name (ap has_c (sym (same (Slot s.0 s.1 None))) ∙ has)
-    written_within s x (by_turn y at empty has is) =
-        by_turn y at empty (ap has_c (sym (same_in y (and_parts (is_dir t y) (has_no_row t y) empty).0)) ∙ has) is
+    written_within : (s : Spot) (x : ℕ) (written : Written table t a s x) → TurnsNear table t a s x written →
+        (written : Written table t now s x) × TurnsNear table t now s x written
+    written_within s x (by_name has) near = (by_name (ap has_c (sym (same (Slot s.0 s.1 None))) ∙ has), near)
+    written_within s x (by_turn y at empty has is) near =
+        (by_turn y at empty (ap has_c (sym (same_in y (and_parts (is_dir t y) (has_no_row t y) empty).0)) ∙ has) is, near)
 
     -- who may link by what is left may by all that was held
     pub link_within : may_link table a ≡ true → may_link table now ≡ true
@@ -68,19 +69,25 @@ module _ (table : CallTable) (sound : NoCallNeedsError table) (now a : ProcessSt
         (yes_before table sound now a within table.rename.old.needs.alternatives sound.rename.0 two.0)
         (yes_before table sound now a within table.rename.new.needs.alternatives sound.rename.1 two.1)) parts.1
 
-    from_within : (x : ℕ) → From table t a x → From table t now x
-    from_within x (is_new e) = is_new e
-    from_within x (is_moved r e can) =
-        is_moved r e (ap (can_move table now) (sym (same (object_in t r x))) ∙ move_within (cover t a (object_in t r x)) can)
-    from_within x (is_linked r e plain can) =
-        let parts = and_parts (may_link table a) _ can in
-        is_linked r e plain
-        (and_from (may_link table now) _ (link_within parts.0)
-        (ap (λ left. is_none (cover_fault left table.link.old.needs.perms)
-        && (not (is_link_kind (kind_at t x)) || is_kept table.link.old.last)) (sym (same (object_in t r x))) ∙ parts.1))
+    from_within : (to x : ℕ) (from : From table t a x) → IsNear table t a to x from →
+        (from : From table t now x) × IsNear table t now to x from
+    from_within to x (is_new e) near = (is_new e, near)
+    from_within to x (is_moved r e can) near =
+        (is_moved r e (ap (can_move table now) (sym (same (object_in t r x))) ∙ move_within (cover t a (object_in t r x)) can), near)
+    from_within to x (is_linked r e plain can) near =
+        let parts = and_parts (may_link table a) _ can in (
+          is_linked r e plain
+              (and_from (may_link table now) _ (link_within parts.0)
+              (ap (λ left. is_none (cover_fault left table.link.old.needs.perms)
+              && (not (is_link_kind (kind_at t x)) || is_kept table.link.old.last)) (sym (same (object_in t r x))) ∙ parts.1)),
+          near,
+        )
 
     put_within : (s : Spot) (x : ℕ) → Put table t a s x → Put table t now s x
-    put_within s x put = record { lives = put.lives; written = written_within s x put.written; from = from_within x put.from }
+    put_within s x put =
+        let written = written_within s x put.written put.turns in
+        let from = from_within s.0 x put.from put.near in
+        record { lives = put.lives; written = written.0; from = from.0; near = from.1; turns = written.1 }
 
     born_within : (u : Tree) (x : ℕ) → Born table t a u x → Born table t now u x
     born_within u x born =
@@ -98,6 +105,8 @@ module _ (table : CallTable) (sound : NoCallNeedsError table) (now a : ProcessSt
             allowed = makes_within makes.maker makes.spot makes.allowed;
             covered = ap has_c (sym (same (Slot makes.spot.0 makes.spot.1 None))) ∙ makes.covered;
           };
+          only = born.only;
+          unmarked = born.unmarked;
         }
 
     pub grown_within : (u : Tree) → Grown table t a u → Grown table t now u

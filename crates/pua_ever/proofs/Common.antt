@@ -31,7 +31,6 @@ pub use Rattle.pua_path.specs.declared.found.Way.{Way}
 pub use Rattle.pua_path.specs.declared.found.Way.TheVariants.{Dot, DotDot, Named, Top}
 pub use Rattle.pua_policy.proofs.ForCallers.{same_place_is}
 pub use Rattle.pua_policy.specs.States.{has_veil, ProcessState, may_any, perms_kept, same_place, SameVeils, start, state_after, veils}
-pub use Rattle.pua_policy.specs.Misfits.{misfit_errno}
 pub use Rattle.pua_policy.specs.Objects.{object_seen}
 pub use Rattle.pua_policy.specs.Verdict.{allowed_unless, cover, cover_fault, covered_verdict, FoundFits, if_promised, is_allowed}
 pub use Rattle.pua_policy.specs.Verdict.{IsDir, IsMissing, Object, object_fault, object_of_kind, or_fault, verdict_of}
@@ -39,7 +38,6 @@ pub use Rattle.pua_policy.specs.declared.answer.Cover.{Cover}
 pub use Rattle.pua_policy.specs.declared.answer.Cover.TheVariants.{All, Only}
 pub use Rattle.pua_policy.specs.declared.answer.May.{May}
 pub use Rattle.pua_policy.specs.declared.place.Place.{Place}
-pub use Rattle.pua_calls.specs.declared.fits.Misfit.TheVariants.{IsNotEmpty}
 pub use Rattle.pua_script.proofs.Entries.{found_here, found_put}
 pub use Rattle.pua_script.proofs.ForCallers.{by_going, first_tree, IsWithin, Members, members_then, verdicts_within}
 pub use Rattle.pua_script.specs.Confinement.{has_c, TreesAlong, UncoveredStay}
@@ -55,8 +53,8 @@ pub use Rattle.pua_script.specs.declared.request.Action.{Action}
 pub use Rattle.pua_script.specs.declared.request.Action.TheVariants.{Close, Exit, Fchdir, Fork, Hold, Link, Lock, OnPath, Pledge, Rename, Symlink, Take, Unveil, Uses, Comment}
 pub use Rattle.pua_tree.proofs.ForCallers.{exact_spots, None≢Some, Reaches, row_of, row_says, same_dir, same_Some, Some≢None, sound_from}
 pub use Rattle.pua_tree.proofs.ForCallers.{spots_total}
-pub use Rattle.pua_tree.specs.Tree.{above, climb, empty_tree, has_no_row, is_dir, is_dir_kind, is_empty, is_living, kind_at, look, Node}
-pub use Rattle.pua_tree.specs.Tree.{node_at, Spot, spot_cmp, Tree, WellFormed}
+pub use Rattle.pua_tree.specs.Tree.{above, climb, empty_tree, has_no_row, is_dir, is_dir_kind, is_empty, is_living, is_mount, kind_at, look}
+pub use Rattle.pua_tree.specs.Tree.{Node, node_at, Spot, spot_cmp, Tree, WellFormed}
 pub use Rattle.pua_tree.specs.declared.node.Kind.{Kind}
 pub use Rattle.pua_ever.specs.Ever.{all_new, can_empty, can_link, can_make, Comes, dir_covers, directories, ever, ever_line, EverLine}
 pub use Rattle.pua_ever.specs.Ever.{file_covers, has_c_outside, has_ever_calls, is_allowed_under, is_below, is_ever_allowed, is_free}

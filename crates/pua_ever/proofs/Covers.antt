@@ -2,7 +2,7 @@
 use Rattle.pua_ever.proofs.Common.{◌≡◌, Bool, ◌≢◌, ◌⊎◌, ◌<◌, ◌≤◌, ℕ, true, false, cond, refl, sym, ap, ◌∙◌, inl, inr, Option, Some, None}
 use Rattle.pua_ever.proofs.Common.{is_some, nat_lt, option_map, not, ◌==◌, option_eq, false≢true, and_from, eq-eqb, Tree, Node, WellFormed}
 use Rattle.pua_ever.proofs.Common.{Spot, is_dir, is_dir_kind, is_living, look, node_at, above, sound_from, row_of, row_says, same_Some}
-use Rattle.pua_ever.proofs.Common.{None≢Some, above_lives, Whole, Slot, Named, ProcessState, perms_kept, cover, FoundFits, Cover, Only, cover_in}
+use Rattle.pua_ever.proofs.Common.{None≢Some, above_lives, Whole, Slot, Named, ProcessState, perms_kept, cover, FoundFits, Only, cover_in}
 use Rattle.pua_ever.proofs.Common.{own_or, covers_descend, row_cover}
 use Rattle.std.proofs.Common.{ltb-true}
 use Rattle.std.proofs.lemmas.Bool.{ltb-false}
@@ -59,14 +59,13 @@ row_fits t well s x row = by (is_dir t x) refl
     by false is = and_from (is_dir t s.0) _ (row_says t (sound_from t well) s x row).0
         (and_from _ _ (ap (λ o. option_eq ◌==◌ o (Some x)) row ∙ eq-eqb x x refl) (ap not is))
 
--- the cover of the directory above one
-pub cover_over : (t : Tree) (h : ProcessState) → WellFormed t → (dir x : ℕ) (r : Option Cover) → parent t dir ≡ Some x
-    → r ≡ cond (is_dir t x) (Some (cover_in t h x)) None → r ≡ cond (is_dir t dir) (Some (cover_in t h (above t dir))) None
-cover_over t h well dir x r over is = by (is_dir t dir) over
+-- what is so of the directory above one
+pub cover_over : {X : Type 0} (t : Tree) (f : ℕ → X) → WellFormed t → (dir x : ℕ) (r : Option X) → parent t dir ≡ Some x
+    → r ≡ cond (is_dir t x) (Some (f x)) None → r ≡ cond (is_dir t dir) (Some (f (above t dir))) None
+cover_over {X} t f well dir x r over is = by (is_dir t dir) over
   where
-    by : (b : Bool) → cond b (Some (above t dir)) None ≡ Some x → r ≡ cond b (Some (cover_in t h (above t dir))) None
+    by : (b : Bool) → cond b (Some (above t dir)) None ≡ Some x → r ≡ cond b (Some (f (above t dir))) None
     by true over =
         let same : x ≡ above t dir = sym (same_Some (above t dir) x over) in
-        is ∙ ap (λ d. cond (is_dir t d) (Some (cover_in t h d)) None) same ∙
-        ap (λ b. cond b (Some (cover_in t h (above t dir))) None) (above_lives t dir well)
+        is ∙ ap (λ d. cond (is_dir t d) (Some (f d)) None) same ∙ ap (λ b. cond b (Some (f (above t dir))) None) (above_lives t dir well)
     by false over = absurd (None≢Some x over)

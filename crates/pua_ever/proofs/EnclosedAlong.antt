@@ -28,8 +28,8 @@ use Rattle.pua_ever.proofs.KindsKept.{Are, alone_are, members_left}
 -- ---- one request
 
 -- a way that asks for nothing
-abbrev AnyWay : Spot → ℕ → Type 0
-AnyWay r x = Unit {0}
+abbrev AnyWay : Spot → Spot → ℕ → Type 0
+AnyWay to r x = Unit {0}
 
 -- what it leaves the one that asks, by the tree before it
 module _ (table : CallTable) (w : World) (ask : Asked) (h : ProcessState) (here : kept_at w ask.process ≡ Some h) (well : WellFormed w.tree)
@@ -51,7 +51,7 @@ module _ (table : CallTable) (w : World) (ask : Asked) (h : ProcessState) (here 
   own_placed : HasKept (apply table w ask).1 ask.process (LeftSo (apply table w ask).0)
   own_placed =
       by_living table w ask h here (λ done. HasKept done.1 ask.process (LeftSo done.0)) (h, here, (k.placed, λ e. k.lacks))
-      (left (come_of w h (decide table w.tree h ask.action)) (stays_decided table w well root h k ask.action AnyWay (λ old new c d s at x row. tt) (λ old new c d s at. tt)))
+      (left (come_of w h (decide table w.tree h ask.action)) (stays_decided table w well root h k ask.action AnyWay (λ old new c d shift s at r at_new x row. tt) (λ old new c d s at r at_new. tt)))
 
   pub own_enclosed : (members : List ℕ) → is_member members ask.process ≡ true → FreesNone table w ask members →
       HasKept (apply table w ask).1 ask.process (Enclosed w.tree root)
@@ -68,7 +68,7 @@ module _ (table : CallTable) (w : World) (ask : Asked) (h : ProcessState) (here 
           let same : freed.0 ≡ after.0 = same_Some freed.0 after.0 (sym freed.1 ∙ after.1) in
           (after.0, after.1, record { lives = k.lives; placed = after.2.0; lacks = subst Lacks same freed.2 })
 
-  pub own_turns : (IsWay : Spot → ℕ → Type 0) → MovesBy table w h IsWay → TiesBy table w h IsWay →
+  pub own_turns : (IsWay : Spot → Spot → ℕ → Type 0) → MovesBy table w h IsWay → TiesBy table w h IsWay →
       Turns table w.tree h root IsWay (apply table w ask).1.tree
   own_turns IsWay moved tied = by_own_tree table w ask h here (Turns table w.tree h root IsWay) (turns_none table w.tree h root IsWay)
       (λ c decided. turns_decided table w well root h k ask.action IsWay moved tied c decided)
@@ -111,7 +111,7 @@ module _ (table : CallTable) (root : ℕ) where
       by_member belongs =
           let asker = are ask.process belongs in
           let k = asker.2 in
-          let turns = own_turns table w ask asker.0 asker.1 well root k AnyWay (λ old new c d s at x row. tt) (λ old new c d s at. tt) in
+          let turns = own_turns table w ask asker.0 asker.1 well root k AnyWay (λ old new c d shift s at r at_new x row. tt) (λ old new c d s at r at_new. tt) in
           let left_are = members_left table w ask members (Enclosed w.tree root) are
           (λ b. own_enclosed table w ask asker.0 asker.1 well root k members belongs frees) in (
             keeps_inside table w.tree (apply table w ask).1.tree asker.0 root well well_then k.lives AnyWay turns,

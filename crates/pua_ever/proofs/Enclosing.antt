@@ -39,7 +39,7 @@ use Rattle.pua_policy.proofs.ForCallers.{state_never_grows}
 use Rattle.pua_script.specs.Decide.{AddEvent, AddNode, BeginProgram, CutRow, NoChange, ShiftRow, TakeFile, TieRow, decide, file_of, file_opened, filing, going}
 use Rattle.pua_script.specs.Decide.{is_whole, link_node, made_by}
 use Rattle.pua_script.specs.Family.{is_okay}
-use Rattle.pua_script.specs.Guards.{IsLink, IsOpened, IsRename, OnOne}
+use Rattle.pua_script.specs.Guards.{IsLink, IsOpened, IsRename, IsShift, OnOne}
 use Rattle.pua_script.specs.Judged.{NameFits}
 use Rattle.pua_script.specs.Replay.{Effect, answer_to, come_of, edit_effect, edited_tree, refusal_effect, sent_by, sent_file}
 use Rattle.pua_script.specs.Replay.{sent_of, take_effect}
@@ -201,17 +201,18 @@ module _ (theirs : ℕ) where
       by false (Some file) e = no_directory sender file sent e
 
 -- what is moved, and what gets a further name, has a way from the row by which it was named
-module _ (table : CallTable) (w : World) (h : ProcessState) (IsWay : Spot → ℕ → Type 0) where
+module _ (table : CallTable) (w : World) (h : ProcessState) (IsWay : Spot → Spot → ℕ → Type 0) where
   abbrev pub MovesBy : Type 0
-  MovesBy = (old new : List ℕ) (c : Change) (d : IsRename table.rename w.tree h old new c) (s : Spot) → spot_named d.old ≡ Some s →
-      (x : ℕ) → look w.tree s.0 s.1 ≡ Some x → IsWay s x
+  MovesBy = (old new : List ℕ) (c : Change) (d : IsRename table.rename w.tree h old new c) → IsShift w.tree d.old d.new d.node c →
+      (s : Spot) → spot_named d.old ≡ Some s → (r : Spot) → spot_named d.new ≡ Some r →
+      (x : ℕ) → look w.tree s.0 s.1 ≡ Some x → IsWay r s x
 
   abbrev pub TiesBy : Type 0
   TiesBy = (old new : List ℕ) (c : Change) (d : IsLink table.link w.tree h old new c) (s : Spot) → spot_named d.old ≡ Some s →
-      IsWay s d.node
+      (r : Spot) → spot_named d.new ≡ Some r → IsWay r s d.node
 
 module _ (table : CallTable) (w : World) (well : WellFormed w.tree) (root : ℕ) (h : ProcessState) (k : Enclosed w.tree root h) (action : Action)
-    (IsWay : Spot → ℕ → Type 0) (moved : MovesBy table w h IsWay) (tied : TiesBy table w h IsWay) where
+    (IsWay : Spot → Spot → ℕ → Type 0) (moved : MovesBy table w h IsWay) (tied : TiesBy table w h IsWay) where
   abbrev t : Tree
   t = w.tree
 
@@ -225,8 +226,8 @@ module _ (table : CallTable) (w : World) (well : WellFormed w.tree) (root : ℕ)
   abbrev Fine : Change → Type 0
   Fine (AddNode s node) = In s.0
   Fine (CutRow s) = In s.0
-  Fine (ShiftRow s r) = In s.0 × In r.0 × ((x : ℕ) → look t s.0 s.1 ≡ Some x → IsWay s x)
-  Fine (TieRow s x) = In s.0 × FromInside table t h root IsWay x
+  Fine (ShiftRow s r) = In s.0 × In r.0 × ((x : ℕ) → look t s.0 s.1 ≡ Some x → IsWay r s x)
+  Fine (TieRow s x) = In s.0 × FromInside table t h root IsWay s x
   Fine (BeginProgram left) = is_exec action ≡ true
   Fine (AddEvent event) = FineEvent t root event
   Fine _ = Unit {0}
@@ -247,10 +248,10 @@ module _ (table : CallTable) (w : World) (well : WellFormed w.tree) (root : ℕ)
       subst (λ z. stays_in t root z ≡ true) (same_Some y x e) (ap (λ b. not b || is_within t y root) plain)
 
   -- what gets a further name has one at or below the root
-  from_named : (object : Found) → NameFits t object → IsIn object → is_whole object ≡ false → (x : ℕ) → node_named object ≡ Some x →
-      ((s : Spot) → spot_named object ≡ Some s → IsWay s x) → FromInside table t h root IsWay x
-  from_named (Slot d name o) fits inner other x e way = inr ((d, name), fits.named.1 ∙ e, inner.dir, way (d, name) refl)
-  from_named (Whole d way) fits inner other x e from = cc
+  from_named : (to : Spot) (object : Found) → NameFits t object → IsIn object → is_whole object ≡ false → (x : ℕ) → node_named object ≡ Some x →
+      ((s : Spot) → spot_named object ≡ Some s → IsWay to s x) → FromInside table t h root IsWay to x
+  from_named to (Slot d name o) fits inner other x e way = inr ((d, name), fits.named.1 ∙ e, inner.dir, way (d, name) refl)
+  from_named to (Whole d way) fits inner other x e from = cc
 
   fine_going : (object : Found) → IsIn object → Fine (going object)
   fine_going (Whole d way) inner = stays_from d inner.dir
@@ -297,13 +298,17 @@ module _ (table : CallTable) (w : World) (well : WellFormed w.tree) (root : ℕ)
   fine_by (Rename old new) is c d =
       let inner_old = named ending.Dropped old table.rename.old.last d.old d.two.found_old in
       let inner_new = named ending.Dropped new table.rename.new.last d.new d.two.found_new in
-      by_moves Fine tt t d.old d.new d.node c d.moves (λ s r at at_new. (inner_old.spot s at, inner_new.spot r at_new, moved old new c d s at))
+      elim d.moves [
+        | inl same ↦ subst Fine (sym same) tt
+        | inr shift ↦ by_moves Fine tt t d.old d.new d.node c (inr shift)
+            (λ s r at at_new. (inner_old.spot s at, inner_new.spot r at_new, moved old new c d shift s at r at_new))
+      ]
   fine_by (Link old new) is c d =
       let inner_old = named ending.Dot old table.link.old.last d.old d.two.found_old in
       let inner_new = named ending.Dot new table.link.new.last d.new d.two.found_new in
       let fits = name_fits t well (start h) ending.Dot old table.link.old.last d.old d.two.found_old in
       subst Fine (sym d.is) (by_tying Fine tt d.node (spot_named d.new)
-      (λ s at. (inner_new.spot s at, from_named d.old fits inner_old d.no_dir d.node d.two.named (tied old new c d))))
+      (λ s at. (inner_new.spot s at, from_named s d.old fits inner_old d.no_dir d.node d.two.named (λ r at_old. tied old new c d r at_old s at))))
   fine_by (Pledge p x) is c d = subst Fine (sym d.is) tt
   fine_by (Unveil path letters) is c d = subst Fine (sym d.is) tt
   fine_by Lock is c d = subst Fine (sym d.1) tt

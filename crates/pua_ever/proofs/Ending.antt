@@ -3,8 +3,8 @@ use Rattle.pua_ever.proofs.Common.{◌≡◌, ◌⊎◌, ◌≤◌, ◌<◌, ℕ
 use Rattle.pua_ever.proofs.Common.{arith, Option, Some, None, Result, Ok, Err, not, ◌&&◌, ◌||◌, ◌==◌, is_some, is_none, option_map, filter}
 use Rattle.pua_ever.proofs.Common.{flat_map, option_eq, list_any, false≢true, and_parts, and_from, eq-eqb, or_left, or_right, not-true}
 use Rattle.pua_ever.proofs.Common.{Tree, WellFormed, Spot, is_dir, is_dir_kind, is_living, look, node_at, kind_at, is_empty, has_no_row}
-use Rattle.pua_ever.proofs.Common.{empty_tree, Kind, sound_from, row_says, row_of, Some≢None, same_dir, is_link_kind, misfit_errno}
-use Rattle.pua_ever.proofs.Common.{IsNotEmpty, Followed, Way, Named, Top, Dot, DotDot, Found, Whole, Slot, resolutions_fit, CallTable}
+use Rattle.pua_ever.proofs.Common.{empty_tree, Kind, sound_from, row_says, row_of, Some≢None, same_dir, is_link_kind, is_mount}
+use Rattle.pua_ever.proofs.Common.{Followed, Way, Named, Top, Dot, DotDot, Found, Whole, Slot, resolutions_fit, CallTable}
 use Rattle.pua_ever.proofs.Common.{calls, rule_of, keeps_link, is_kept, ProcessState, perms_kept, veils, may_any, Object, IsDir, IsMissing}
 use Rattle.pua_ever.proofs.Common.{object_of_kind, object_fault, cover, cover_fault, or_fault, allowed_unless, if_promised, covered_verdict}
 use Rattle.pua_ever.proofs.Common.{verdict_of, is_allowed, Call, Cover, May, Word, Subject, At, Others, Item, items, cover_in}
@@ -33,7 +33,8 @@ use Rattle.pua_objects.proofs.ForCallers.{among_flat}
 use Rattle.pua_objects.proofs.ForCallers.{named_by_row}
 use Rattle.pua_objects.proofs.ForCallers.{has_item, found_dir}
 use Rattle.pua_objects.proofs.ForCallers.{one_of_calls, some_of, failed}
-use Rattle.pua_ever.specs.Ever.{ever_covers, named_covers}
+use Rattle.pua_tree.specs.Tree.{device}
+use Rattle.pua_ever.specs.Ever.{ever_covers, kept_on, named_covers, stays_on}
 use Rattle.pua_ever.specs.Ever.{can_allow, can_allow_new, covers_of, covers_of_dir, ever_object, ever_calls, is_ever_allowed, is_turned}
 use Rattle.pua_ever.specs.Ever.{may_start, may_start_at, new_covers, new_object, is_new_named, new_calls, starts_under, Thing, turning_calls}
 use Rattle.pua_ever.specs.Ever.{names_to_free}
@@ -42,11 +43,12 @@ use Rattle.pua_tree.specs.declared.node.FileType.TheVariants.{Sock, Fifo}
 use Rattle.pua_ever.proofs.MadeKinds.{file_starts, file_no_dir}
 use Rattle.pua_ever.specs.Laws.{of_new_others, IsForeseen}
 use Rattle.pua_ever.proofs.Grown.{new_kind, moved_has_c}
-use Rattle.pua_ever.proofs.Ways.{any_among, way_by_c}
+use Rattle.pua_ever.proofs.Prospected.{emptied}
+use Rattle.pua_ever.proofs.Ways.{all_within, any_among, files_all, on_own, way_by_c}
 use Rattle.pua_ever.proofs.Covers.{given_or_new, living_dir, below_next}
 use Rattle.pua_ever.proofs.KindFaults.{plain_alike, dir_as, dir_alike}
 use Rattle.pua_ever.proofs.Origins.{Origin, stood, linked, since, Known, Stays, DirUnder, at_rest, come, old_dir, dir_under, file_under}
-use Rattle.pua_ever.proofs.Origins.{could_empty, fixed_covered, free_then}
+use Rattle.pua_ever.proofs.Origins.{could_empty, fixed_covered, free_then, kept_in}
 use Rattle.pua_path.specs.declared.found.Start.{Start}
 use Rattle.pua_path.specs.Resolution.{rooted}
 
@@ -85,28 +87,28 @@ ever_other : (b : Bool) (now : Cover) (others : List Cover) (c : Cover) → b �
 ever_other b now others c moves a = rw moves a
 
 -- the same of a file, program or link, which link can give a further name
-module _ (t : Tree) (table : CallTable) (h : ProcessState) (what : Option Kind) (now : Cover) where
+module _ (t : Tree) (table : CallTable) (h : ProcessState) (on : Option ℕ) (what : Option Kind) (now : Cover) where
   abbrev further : List Cover
-  further = cond (can_link table h what now) (file_covers t table h) []
+  further = cond (can_link table h what now) (file_covers t table h on) []
 
-  pub named_first : (can_move table h now ≡ true → Among (file_covers t table h) now) → Among (named_covers t table h what now) now
+  pub named_first : (can_move table h now ≡ true → Among (file_covers t table h on) now) → Among (named_covers t table h on what now) now
   named_first some = by (can_move table h now) refl
     where
-      by : (b : Bool) → can_move table h now ≡ b → Among (cond b (file_covers t table h) (now ∷ further)) now
+      by : (b : Bool) → can_move table h now ≡ b → Among (cond b (file_covers t table h on) (now ∷ further)) now
       by true can = some can
       by false stays = inl refl
 
-  pub named_moved : (c : Cover) → can_move table h now ≡ true → Among (file_covers t table h) c →
-      Among (named_covers t table h what now) c
+  pub named_moved : (c : Cover) → can_move table h now ≡ true → Among (file_covers t table h on) c →
+      Among (named_covers t table h on what now) c
   named_moved c can a = rw can a
 
-  pub named_linked : (c : Cover) → can_link table h what now ≡ true → Among (file_covers t table h) c →
-      Among (named_covers t table h what now) c
+  pub named_linked : (c : Cover) → can_link table h what now ≡ true → Among (file_covers t table h on) c →
+      Among (named_covers t table h on what now) c
   named_linked c can a = by (can_move table h now)
     where
-      by : (b : Bool) → Among (cond b (file_covers t table h) (now ∷ further)) c
+      by : (b : Bool) → Among (cond b (file_covers t table h on) (now ∷ further)) c
       by true = a
-      by false = inr (subst (λ (b : Bool). Among (cond b (file_covers t table h) []) c) (sym can) a)
+      by false = inr (subst (λ (b : Bool). Among (cond b (file_covers t table h on) []) c) (sym can) a)
 
 -- what is allowed on a thing as it is can be allowed on it
 pub can_from : (table : CallTable) (h : ProcessState) (turned : Bool) (covers : List Cover) (object : Object) (c : Call) →
@@ -125,7 +127,7 @@ can_new : (t : Tree) (table : CallTable) (h : ProcessState) (made : New) (c : Ca
     is_allowed_under table h (new_covers t table h made) (new_object table made) c ≡ true → can_allow_new t table h made c ≡ true
 can_new t table h NewDir c e = e
 can_new t table h NewOthers c e = e
-can_new t table h NewFile c e = or_left (is_allowed_under table h (file_covers t table h) (new_object table NewFile) c) _ e
+can_new t table h NewFile c e = or_left (is_allowed_under table h (file_covers t table h None) (new_object table NewFile) c) _ e
 can_new t table h NewLink c e = e
 can_new t table h NewSock c e = e
 can_new t table h NewFifo c e = e
@@ -247,21 +249,23 @@ module _ (table : CallTable) (t0 : Tree) (h : ProcessState) (well0 : WellFormed 
     ]
       where
         at_first : Among (covers_of_dir t0 table h d) (cover_in t0 h d)
-        at_first = ever_first (is_none (perms_kept h (place.Dir d)) && can_move table h (cover_in t0 h d)) (cover_in t0 h d) (dir_covers t0 h)
-            (λ both. way_by_c t0 h d was (moved_has_c table h (cover_in t0 h d) (and_parts (is_none (perms_kept h (place.Dir d))) _ both).1))
+        at_first = ever_first (is_none (perms_kept h (place.Dir d)) && can_move table h (cover_in t0 h d)) (cover_in t0 h d)
+            (dir_covers t0 h (stays_on t0 h d))
+            (λ both. way_by_c t0 h (stays_on t0 h d) d was (on_own t0 h d) (moved_has_c table h (cover_in t0 h d) (and_parts (is_none (perms_kept h (place.Dir d))) _ both).1))
 
         by : may_edit table h ≡ true → DirUnder table t0 h well0 stand u d → Among (covers_of_dir t0 table h d) (cover_in u h d)
         by edits (at_rest _ same) = subst (Among (covers_of_dir t0 table h d)) (sym same) at_first
         by edits (come a none had) =
-            ever_other (is_none (perms_kept h (place.Dir d)) && can_move table h (cover_in t0 h d)) (cover_in t0 h d) (dir_covers t0 h)
-            (cover_in u h d) (and_from (is_none (perms_kept h (place.Dir d))) _ (ap is_none none) (had was)) a
+            ever_other (is_none (perms_kept h (place.Dir d)) && can_move table h (cover_in t0 h d)) (cover_in t0 h d)
+            (dir_covers t0 h (stays_on t0 h d)) (cover_in u h d) (and_from (is_none (perms_kept h (place.Dir d))) _ (ap is_none none) (had was))
+            (subst (λ n. Among (dir_covers t0 h (kept_on t0 h n)) (cover_in u h d)) (k.devices d was is) a)
 
-    young_cover : (d : ℕ) → is_dir u d ≡ true → t0.next ≤ d → Among (dir_covers t0 h) (cover_in u h d)
+    young_cover : (d : ℕ) → is_dir u d ≡ true → t0.next ≤ d → Among (dir_covers t0 h None) (cover_in u h d)
     young_cover d is from = by (dir_under table t0 h well0 stand u k d is)
       where
-        by : DirUnder table t0 h well0 stand u d → Among (dir_covers t0 h) (cover_in u h d)
+        by : DirUnder table t0 h well0 stand u d → Among (dir_covers t0 h None) (cover_in u h d)
         by (at_rest was same) = let below = below_next t0 h well0 d (living_dir t0 h well0 d was) in absurd (omega arith)
-        by (come a none had) = a
+        by (come a none had) = all_within t0 h (kept_in table t0 h well0 stand u d) (cover_in u h d) a
 
     pub record Hit (object : Found) : Type 0 where
       pub thing : Thing
@@ -270,7 +274,7 @@ module _ (table : CallTable) (t0 : Tree) (h : ProcessState) (well0 : WellFormed 
 
     -- a directory that can be removed now has a name, and can come to be empty
     is_removed : (d : ℕ) (w : Way) → is_dir u d ≡ true → StandsAsNamed u (Whole d w) → is_dir t0 d ≡ true → rmdir_fault table.whose u d w ≡ None →
-        (is_named_way (own_way t0 d) && (can_empty t0 h d && (may_edit table h || not (list_any (λ row. row.0.0 == d) t0.rows)))) ≡ true
+        (is_named_way (own_way t0 d) && (can_empty t0 h d && (may_edit table h || (not (list_any (λ row. row.0.0 == d) t0.rows) && not (is_mount t0 d))))) ≡ true
     is_removed d Dot is named was e = cc
     is_removed d DotDot is named was e = cc
     is_removed d Top is named was e = cc
@@ -278,19 +282,15 @@ module _ (table : CallTable) (t0 : Tree) (h : ProcessState) (well0 : WellFormed 
         let other = (row_says u su (over, name) d named.1).3 in
         let row = row_of t0 s0 d was other in
         let own : own_way t0 d ≡ Named row.0.0 row.0.1 = named_by_row t0 s0 d row.0 was other row.1 in
-        let empty : is_empty u d ≡ true = emptied (is_empty u d) e in
+        let bare = emptied (is_mount u d) (is_empty u d) e in
         and_from (is_named_way (own_way t0 d)) _ (ap is_named_way own)
-        (and_from (can_empty t0 h d) _ (could_empty table t0 h well0 stand u k d empty) (by empty edit))
+        (and_from (can_empty t0 h d) _ (could_empty table t0 h well0 stand u k d bare.1) (by bare edit))
       where
-        emptied : (b : Bool) → option_map misfit_errno (cond b None (Some IsNotEmpty)) ≡ None → b ≡ true
-        emptied true e = refl
-        emptied false e = cc
-
-        by : is_empty u d ≡ true → (may_edit table h ≡ true) ⊎ (u ≡ t0) →
-            (may_edit table h || not (list_any (λ row. row.0.0 == d) t0.rows)) ≡ true
-        by empty (inl edits) = or_left (may_edit table h) _ edits
-        by empty (inr same) = or_right (may_edit table h) _ (ap (λ v. has_no_row v d) (sym same) ∙
-            (and_parts (is_dir u d) (has_no_row u d) empty).1)
+        by : (is_mount u d ≡ false) × (is_empty u d ≡ true) → (may_edit table h ≡ true) ⊎ (u ≡ t0) →
+            (may_edit table h || (not (list_any (λ row. row.0.0 == d) t0.rows) && not (is_mount t0 d))) ≡ true
+        by bare (inl edits) = or_left (may_edit table h) _ edits
+        by bare (inr same) = or_right (may_edit table h) _ (and_from (has_no_row t0 d) _ (ap (λ v. has_no_row v d) (sym same) ∙
+            (and_parts (is_dir u d) (has_no_row u d) bare.1).1) (ap (λ v. not (is_mount v d)) (sym same) ∙ ap not bare.0))
 
     is_rmdir : (w : Way) (d : ℕ) (b : Bool) → (rmdir_fault table.whose u d w ≡ None → b ≡ true) → object_fault table.whose u c (IsDir d w) ≡ None → c ≡ call.Rmdir →
         b ≡ true
@@ -308,7 +308,7 @@ module _ (table : CallTable) (t0 : Tree) (h : ProcessState) (well0 : WellFormed 
               let item = has_item t0 s0 h (Whole d Top) was in
               let subject : Subject = At (Whole d (own_way t0 d)) in
               let test : Bool = is_named_way (own_way t0 d)
-              && (can_empty t0 h d && (may_edit table h || not (list_any (λ row. row.0.0 == d) t0.rows))) in
+              && (can_empty t0 h d && (may_edit table h || (not (list_any (λ row. row.0.0 == d) t0.rows) && not (is_mount t0 d)))) in
               record {
                 thing = Stands subject;
                 listed = listed_stands item.0 subject c (item_subject _ item.1)
@@ -322,7 +322,7 @@ module _ (table : CallTable) (t0 : Tree) (h : ProcessState) (well0 : WellFormed 
               record {
                 thing = Comes NewDir;
                 listed = listed_new NewDir c (new_among NewDir c (edits_if_young d from lives) (made_dir d from is lives) refl
-                    (under_one table t0 h (dir_covers t0 h) removable_dir c (cover_in u h d) (young_cover d is from) parts.may covered
+                    (under_one table t0 h (dir_covers t0 h None) removable_dir c (cover_in u h d) (young_cover d is from) parts.may covered
                     (dir_alike table.whose u c d w true (λ _. refl) parts.kind)));
                 about = of_new_dir from;
               })
@@ -352,7 +352,7 @@ module _ (table : CallTable) (t0 : Tree) (h : ProcessState) (well0 : WellFormed 
         → may_any h (rule_of table c).alternatives ≡ may.Yes →
         cover_fault (cover u h (Slot s.0 s.1 (Some x))) (rule_of table c).perms ≡ None →
         object_fault table.whose u c (object_of_kind (kind_at u x)) ≡ None
-        → Among (named_covers t0 table h (kind_at t0 x) (cover t0 h (Slot r.0 r.1 (Some x)))) (cover u h (Slot s.0 s.1 (Some x))) →
+        → Among (named_covers t0 table h (stays_on t0 h r.0) (kind_at t0 x) (cover t0 h (Slot r.0 r.1 (Some x)))) (cover u h (Slot s.0 s.1 (Some x))) →
         Listed (Stands (At (Slot r.0 r.1 (Some x)))) c
     row_has r s x at same other followed granted covered fine a =
         let same_kind : kind_at u x ≡ kind_at t0 x = ap (option_map (λ n. n.kind)) same in
@@ -374,7 +374,7 @@ module _ (table : CallTable) (t0 : Tree) (h : ProcessState) (well0 : WellFormed 
       pub row : Spot
       pub at : look t0 row.0 row.1 ≡ Some x
       pub own : look t0 s.0 s.1 ≡ Some x → row ≡ s
-      pub under : Among (named_covers t0 table h (kind_at t0 x) (cover t0 h (Slot row.0 row.1 (Some x)))) (cover u h (Slot s.0 s.1 (Some x)))
+      pub under : Among (named_covers t0 table h (stays_on t0 h row.0) (kind_at t0 x) (cover t0 h (Slot row.0 row.1 (Some x)))) (cover u h (Slot s.0 s.1 (Some x)))
 
     pub home_of : (s : Spot) (x : ℕ) → look u s.0 s.1 ≡ Some x → is_dir u x ≡ false → x < t0.next → HomeOf s x
     home_of s x e other below = by (look t0 s.0 s.1) refl
@@ -389,15 +389,20 @@ module _ (table : CallTable) (t0 : Tree) (h : ProcessState) (well0 : WellFormed 
         then = sym (same_dir t0 u x same) ∙ other
 
         here : (r : Spot) → look t0 r.0 r.1 ≡ Some x → (look t0 s.0 s.1 ≡ Some x → r ≡ s) →
-            Among (named_covers t0 table h (kind_at t0 x) (cover t0 h (Slot r.0 r.1 (Some x)))) (cover u h (Slot s.0 s.1 (Some x))) → HomeOf s x
+            Among (named_covers t0 table h (stays_on t0 h r.0) (kind_at t0 x) (cover t0 h (Slot r.0 r.1 (Some x)))) (cover u h (Slot s.0 s.1 (Some x))) → HomeOf s x
         here r at own a = record { row = r; at = at; own = own; under = a }
 
+        -- the covers there are those of the device of the row
+        at_near : (r : Spot) → device t0 r.0 ≡ device u s.0 → Among (file_covers t0 table h (kept_in table t0 h well0 stand u s.0)) (row_cover u h s x) →
+            Among (file_covers t0 table h (stays_on t0 h r.0)) (row_cover u h s x)
+        at_near r near a = subst (λ n. Among (file_covers t0 table h (kept_on t0 h n)) (row_cover u h s x)) (sym near) a
+
         by_move : (r : Spot) → look t0 r.0 r.1 ≡ Some x → (look t0 s.0 s.1 ≡ Some x → r ≡ s) →
-            can_move table h (row_cover t0 h r x) ≡ true → Among (file_covers t0 table h) (row_cover u h s x) →
-            HomeOf s x
-        by_move r at own can a =
-            here r at own (named_moved t0 table h (kind_at t0 x) (cover t0 h (Slot r.0 r.1 (Some x))) (cover u h (Slot s.0 s.1 (Some x)))
-            (ap (can_move table h) (sym (slot_then r x then)) ∙ can) (subst (Among (file_covers t0 table h)) (slot_of s x other) a))
+            can_move table h (row_cover t0 h r x) ≡ true → device t0 r.0 ≡ device u s.0 →
+            Among (file_covers t0 table h (kept_in table t0 h well0 stand u s.0)) (row_cover u h s x) → HomeOf s x
+        by_move r at own can near a =
+            here r at own (named_moved t0 table h (stays_on t0 h r.0) (kind_at t0 x) (cover t0 h (Slot r.0 r.1 (Some x))) (cover u h (Slot s.0 s.1 (Some x)))
+            (ap (can_move table h) (sym (slot_then r x then)) ∙ can) (subst (Among (file_covers t0 table h (stays_on t0 h r.0))) (slot_of s x other) (at_near r near a)))
 
         -- it stands in a row in which it stood then
         at_home : look t0 s.0 s.1 ≡ Some x → HomeOf s x
@@ -406,13 +411,13 @@ module _ (table : CallTable) (t0 : Tree) (h : ProcessState) (well0 : WellFormed 
             by_cover : (b : Bool) → can_move table h (row_cover t0 h s x) ≡ b → HomeOf s x
             by_cover true can = elim (file_under table t0 h well0 stand u k s x e other) [
               | inl fixed ↦ absurd (false≢true (sym fixed.1 ∙ can))
-              | inr came ↦ by_move s at (λ _. refl) can came.1
+              | inr came ↦ by_move s at (λ _. refl) can (sym (k.devices s.0 (row_says t0 s0 s x at).0 (row_says u su s x e).0)) came.1
             ]
             by_cover false stays =
                 let covers : cover u h (Slot s.0 s.1 (Some x)) ≡ cover t0 h (Slot s.0 s.1 (Some x)) = sym (slot_of s x other) ∙ fixed_covered table t0 h well0 stand u k s x e (at, stays) ∙
                 slot_then s x then in
-                here s at (λ _. refl) (subst (Among (named_covers t0 table h (kind_at t0 x) (cover t0 h (Slot s.0 s.1 (Some x))))) (sym covers)
-                (named_first t0 table h (kind_at t0 x) (cover t0 h (Slot s.0 s.1 (Some x)))
+                here s at (λ _. refl) (subst (Among (named_covers t0 table h (stays_on t0 h s.0) (kind_at t0 x) (cover t0 h (Slot s.0 s.1 (Some x))))) (sym covers)
+                (named_first t0 table h (stays_on t0 h s.0) (kind_at t0 x) (cover t0 h (Slot s.0 s.1 (Some x)))
                 (λ can. absurd (false≢true (sym stays ∙ ap (can_move table h) (slot_then s x then) ∙ can)))))
 
         -- it came there
@@ -422,12 +427,13 @@ module _ (table : CallTable) (t0 : Tree) (h : ProcessState) (well0 : WellFormed 
           | inr came ↦ from came.1 came.0.origin
         ]
           where
-            from : Among (file_covers t0 table h) (row_cover u h s x) → Origin table t0 h well0 stand x → HomeOf s x
-            from a (stood r at can) = by_move r at (λ e. absurd (never e)) can a
-            from a (linked r at plain can) =
-                here r at (λ e. absurd (never e)) (named_linked t0 table h (kind_at t0 x) (cover t0 h (Slot r.0 r.1 (Some x))) (cover u h (Slot s.0 s.1 (Some x)))
+            from : Among (file_covers t0 table h (kept_in table t0 h well0 stand u s.0)) (row_cover u h s x) →
+                Origin table t0 h well0 stand (device u s.0) x → HomeOf s x
+            from a (stood r at can near) = by_move r at (λ e. absurd (never e)) can (near then) a
+            from a (linked r at plain can near) =
+                here r at (λ e. absurd (never e)) (named_linked t0 table h (stays_on t0 h r.0) (kind_at t0 x) (cover t0 h (Slot r.0 r.1 (Some x))) (cover u h (Slot s.0 s.1 (Some x)))
                 (ap (can_link table h (kind_at t0 x)) (sym (slot_then r x plain)) ∙ can)
-                (subst (Among (file_covers t0 table h)) (slot_of s x other) a))
+                (subst (Among (file_covers t0 table h (stays_on t0 h r.0))) (slot_of s x other) (at_near r near a)))
             from a (since after) = absurd (omega (arith, below, after))
 
         by : (o : Option ℕ) → look t0 s.0 s.1 ≡ o → HomeOf s x
@@ -439,10 +445,11 @@ module _ (table : CallTable) (t0 : Tree) (h : ProcessState) (well0 : WellFormed 
 
     -- and the cover of a new one
     pub young_cover_at : (s : Spot) (x : ℕ) → look u s.0 s.1 ≡ Some x → is_dir u x ≡ false → t0.next ≤ x →
-        Among (file_covers t0 table h) (cover u h (Slot s.0 s.1 (Some x)))
+        Among (file_covers t0 table h None) (cover u h (Slot s.0 s.1 (Some x)))
     young_cover_at s x e other from = elim (file_under table t0 h well0 stand u k s x e other) [
       | inl fixed ↦ (let below = below_next t0 h well0 x (row_says t0 s0 s x fixed.0).2 in absurd (omega arith))
-      | inr came ↦ subst (Among (file_covers t0 table h)) (slot_of s x other) came.1
+      | inr came ↦ subst (Among (file_covers t0 table h None)) (slot_of s x other)
+          (files_all t0 h (kept_in table t0 h well0 stand u s.0) table (row_cover u h s x) came.1)
     ]
 
     hit_file : (s : Spot) (x : ℕ) → look u s.0 s.1 ≡ Some x → is_dir u x ≡ false →
@@ -471,7 +478,7 @@ module _ (table : CallTable) (t0 : Tree) (h : ProcessState) (well0 : WellFormed 
         hit_young : t0.next ≤ x → Known table t0 h well0 stand u x → Hit (Slot s.0 s.1 (Some x))
         hit_young from known = by known.made known.kinds known.can
           where
-            a : Among (file_covers t0 table h) (cover u h (Slot s.0 s.1 (Some x)))
+            a : Among (file_covers t0 table h None) (cover u h (Slot s.0 s.1 (Some x)))
             a = young_cover_at s x e other from
 
             edits : may_edit table h ≡ true
@@ -483,9 +490,9 @@ module _ (table : CallTable) (t0 : Tree) (h : ProcessState) (well0 : WellFormed 
             kept_link Followed is unlinked kinds = absurd (false≢true (sym (unlinked refl) ∙ ap is_link_kind kinds))
 
             -- what was made as such a kind is allowed where it can come
-            as_made : (made : Kind) → kind_at u x ≡ Some made → is_allowed_under table h (file_covers t0 table h) (Is made) c ≡ true
+            as_made : (made : Kind) → kind_at u x ≡ Some made → is_allowed_under table h (file_covers t0 table h None) (Is made) c ≡ true
             as_made made kinds =
-                under_one table t0 h (file_covers t0 table h) (Is made) c (cover u h (Slot s.0 s.1 (Some x))) a parts.may parts.covered
+                under_one table t0 h (file_covers t0 table h None) (Is made) c (cover u h (Slot s.0 s.1 (Some x))) a parts.may parts.covered
                 (sym (plain_alike table.whose u c (Some made)) ∙ ap (λ o. object_fault table.whose u c (object_of_kind o)) (sym kinds)
                 ∙ parts.kind)
 
@@ -600,7 +607,7 @@ module _ (table : CallTable) (t0 : Tree) (h : ProcessState) (well0 : WellFormed 
                     thing = Comes NewOthers;
                     listed = listed_new NewOthers c (new_among NewOthers c (edits_if_young dir from lives)
                         (made_other known.made (sym (ap is_dir_kind known.kinds) ∙ is) known.can) refl
-                        (under_one table t0 h (dir_covers t0 h) IsMissing c (cover_in u h dir) (young_cover dir is from) parts.may covered
+                        (under_one table t0 h (dir_covers t0 h None) IsMissing c (cover_in u h dir) (young_cover dir is from) parts.may covered
                         fine));
                     about = of_new_others from;
                   })

@@ -41,7 +41,8 @@ pub use Rattle.pua_ever.proofs.Leaving.{first_so as first_new}
 -- of lists of several processes with other veils: what one request leaves, and what a replay does
 pub use Rattle.pua_ever.proofs.Along.{grown_within}
 pub use Rattle.pua_ever.proofs.Growing.{takes, requests_grow}
-pub use Rattle.pua_ever.proofs.Grown.{Grown, Written, by_name, by_turn, From, is_new, is_moved, is_linked, Born, name_cover, new_kind}
+pub use Rattle.pua_ever.proofs.Grown.{Grown, Put, Written, by_name, by_turn, From, IsNear, TurnsNear, row_device, is_new, is_moved, is_linked, Born}
+pub use Rattle.pua_ever.proofs.Grown.{name_cover, new_kind}
 pub use Rattle.pua_ever.proofs.Execs.{members_still}
 pub use Rattle.pua_ever.proofs.Holding.{lacks_unveil, along_then}
 pub use Rattle.pua_ever.proofs.NoExec.{execs_then}

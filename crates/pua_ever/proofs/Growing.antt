@@ -16,7 +16,7 @@ use Rattle.pua_tree.specs.declared.node.Kind.TheVariants as kind
 use Rattle.pua_path.specs.Fits.{IsOf, is_link, spot_named, node_named}
 use Rattle.pua_path.specs.declared.found.Last.{Last}
 use Rattle.pua_path.specs.declared.found.Last.TheVariants.{Kept}
-use Rattle.pua_path.specs.declared.errno.Errno.TheVariants.{EISDIR, ENOTEMPTY}
+use Rattle.pua_path.specs.declared.errno.Errno.TheVariants.{EISDIR, ENOTEMPTY, EXDEV}
 use Rattle.pua_path.specs.declared.text.Ending.TheVariants.{Dot, Dropped}
 use Rattle.pua_path.specs.declared.found.Way.TheVariants as way
 use Rattle.pua_calls.specs.Promises.{holds, creating}
@@ -27,7 +27,11 @@ use Rattle.pua_script.specs.Confinement.{TakingNeedsC, changes_names}
 use Rattle.pua_tree.specs.declared.node.FileType.TheVariants.{Sock, Fifo}
 use Rattle.pua_calls.specs.Calls.{file_by_rules}
 use Rattle.pua_script.specs.Decide.{NoChange, AddNode, CutRow, ShiftRow, TieRow, adding, making, made_by, shifting, fault_if}
-use Rattle.pua_script.specs.Decide.{is_whole, plain_node, link_node, kinds_fault}
+use Rattle.pua_script.specs.Decide.{device_of, device_over, is_elsewhere, is_whole, plain_node, link_node, kinds_fault}
+use Rattle.pua_tree.specs.Tree.{device}
+use Rattle.pua_tree.proofs.ForCallers.{row_says, sound_from}
+use Rattle.pua_ever.proofs.Common.{eqb-true}
+use Rattle.pua_ever.proofs.Covers.{below_next}
 use Rattle.pua_script.specs.Guards.{IsGranted, IsShift}
 use Rattle.pua_script.proofs.ForCallers.{name_fits, c_from_cover, covered_by_c, by_tree, by_own_tree, by_cutting}
 use Rattle.pua_script.proofs.ForCallers.{by_tying, changes_granted, first_none, second_none, not_faulty, tmp_perms}
@@ -37,7 +41,7 @@ use Rattle.pua_objects.proofs.ForCallers.{one_of_calls}
 use Rattle.pua_ever.specs.Ever.{may_link, is_some_file, file_makers}
 use Rattle.pua_ever.proofs.Common.{among_filter}
 use Rattle.pua_ever.proofs.Ways.{any_among}
-use Rattle.pua_ever.proofs.Grown.{Grown, Written, by_name, by_turn, From, IsMaker, is_moved, is_linked, new_kind, name_cover, grown_all, grown_add}
+use Rattle.pua_ever.proofs.Grown.{Grown, Written, by_name, by_turn, From, IsMaker, IsNear, TurnsNear, Put, row_device, is_moved, is_linked, new_kind, name_cover, grown_all, grown_add}
 use Rattle.pua_ever.proofs.Grown.{grown_tie, grown_cut, grown_shift}
 use Rattle.pua_path.specs.declared.errno.Errno.{Errno}
 use Rattle.pua_policy.specs.States.{is_pledged}
@@ -70,18 +74,19 @@ module _ (table : CallTable) (needs : EditsNeedC table) (t : Tree) (h : ProcessS
 
   -- what is asked of a change, so that what it leaves has grown so
   abbrev Grows : Change → Type 0
-  Grows (AddNode s node) = (new : New) × (node.kind ≡ new_kind table new) × IsMade new s
-  Grows (ShiftRow s r) = (x : ℕ) × (look t s.0 s.1 ≡ Some x) × (is_dir t r.0 ≡ true) × Written table t h r x × From table t h x
-  Grows (TieRow s x) = (is_dir t s.0 ≡ true) × Written table t h s x × From table t h x
+  Grows (AddNode s node) = (new : New) × (node.kind ≡ new_kind table new) × (node.mount ≡ false) × IsMade new s
+  Grows (ShiftRow s r) = (x : ℕ) × (look t s.0 s.1 ≡ Some x) × Put table t h r x
+  Grows (TieRow s x) = Put table t h s x
   Grows _ = Unit {0}
 
-  by_added : (new : New) (maker : Call) → IsMaker new maker → (node : Node) → node.kind ≡ new_kind table new →
+  by_added : (new : New) (maker : Call) → IsMaker new maker → (node : Node) → node.kind ≡ new_kind table new → node.mount ≡ false →
       object_fault table.whose empty_tree maker IsMissing ≡ None → holds (rule_of table maker).perms creating ≡ true
       → (x : Found) → may_any h (rule_of table maker).alternatives ≡ may.Yes →
       cover_fault (cover t h x) (rule_of table maker).perms ≡ None → Grows (adding node x)
-  by_added new maker makes node is fine has (Slot dir name None) granted covered = (
+  by_added new maker makes node is plain fine has (Slot dir name None) granted covered = (
     new,
     is,
+    plain,
     (
       maker,
       makes,
@@ -89,11 +94,11 @@ module _ (table : CallTable) (needs : EditsNeedC table) (t : Tree) (h : ProcessS
       c_from_cover (cover t h (Slot dir name None)) (rule_of table maker).perms has covered,
     ),
   )
-  by_added new maker makes node is fine has (Slot dir name (Some y)) granted covered = tt
-  by_added new maker makes node is fine has (Whole dir (way.Named parent name)) granted covered = tt
-  by_added new maker makes node is fine has (Whole dir way.Dot) granted covered = tt
-  by_added new maker makes node is fine has (Whole dir way.DotDot) granted covered = tt
-  by_added new maker makes node is fine has (Whole dir way.Top) granted covered = tt
+  by_added new maker makes node is plain fine has (Slot dir name (Some y)) granted covered = tt
+  by_added new maker makes node is plain fine has (Whole dir (way.Named parent name)) granted covered = tt
+  by_added new maker makes node is plain fine has (Whole dir way.Dot) granted covered = tt
+  by_added new maker makes node is plain fine has (Whole dir way.DotDot) granted covered = tt
+  by_added new maker makes node is plain fine has (Whole dir way.Top) granted covered = tt
 
   -- a call that makes a file, if it makes what it may, makes it where nothing stands
   abbrev makes_well : Call → Option Kind → Bool
@@ -109,7 +114,7 @@ module _ (table : CallTable) (needs : EditsNeedC table) (t : Tree) (h : ProcessS
       let parts = and_parts (is_none (object_fault table.whose empty_tree c IsMissing)) (is_some_file (made_by c) && changes_names c) is in
       let more = and_parts (is_some_file (made_by c)) (changes_names c) parts.1 in
       let among = among_filter (λ maker. is_some_file (made_by maker)) calls c more.0 (one_of_calls c) in
-      by_added NewFile c (λ passes e. any_among passes file_makers c among e) (plain_node (file_by_rules table.whose)) refl
+      by_added NewFile c (λ passes e. any_among passes file_makers c among e) (plain_node (file_by_rules table.whose)) refl refl
       (none_is (object_fault table.whose empty_tree c IsMissing) parts.0) (needs.calls c more.1) x granted covered
   by_made c x granted covered (Some kind.Dir) is = absurd (false≢true is)
   by_made c x granted covered (Some kind.Prog) is = absurd (false≢true is)
@@ -119,15 +124,15 @@ module _ (table : CallTable) (needs : EditsNeedC table) (t : Tree) (h : ProcessS
   by_call : (c : Call) (x : Found) → may_any h (rule_of table c).alternatives ≡ may.Yes →
       cover_fault (cover t h x) (rule_of table c).perms ≡ None → Grows (change_by table c x)
   by_call call.Mkdir x granted covered =
-      by_added NewDir call.Mkdir (λ passes e. e) (plain_node kind.Dir) refl refl (needs.calls call.Mkdir refl) x granted covered
+      by_added NewDir call.Mkdir (λ passes e. e) (plain_node kind.Dir) refl refl refl (needs.calls call.Mkdir refl) x granted covered
   by_call call.Rmdir x granted covered = by_cutting Grows tt (spot_named x) (node_named x) (λ s is. tt)
   by_call call.Unlink x granted covered = by_cutting Grows tt (spot_named x) (node_named x) (λ s is. tt)
   by_call call.Chdir x granted covered = by_going Grows tt x (λ dir. tt)
   by_call call.Exec x granted covered = tt
   by_call call.Bind x granted covered =
-      by_added NewSock call.Bind (λ passes e. e) (plain_node (kind.Known Sock)) refl refl (needs.calls call.Bind refl) x granted covered
+      by_added NewSock call.Bind (λ passes e. e) (plain_node (kind.Known Sock)) refl refl refl (needs.calls call.Bind refl) x granted covered
   by_call call.Mknod x granted covered =
-      by_added NewFifo call.Mknod (λ passes e. e) (plain_node (kind.Known Fifo)) refl refl (needs.calls call.Mknod refl) x granted covered
+      by_added NewFifo call.Mknod (λ passes e. e) (plain_node (kind.Known Fifo)) refl refl refl (needs.calls call.Mknod refl) x granted covered
   by_call c x granted covered = by_made c x granted covered (made_by c) refl
 
   -- what stands at the spot by whose name something was found
@@ -166,16 +171,42 @@ module _ (table : CallTable) (needs : EditsNeedC table) (t : Tree) (h : ProcessS
       ap (λ b. cover t h (cond b (Whole y (way.Named dir name)) (Slot dir name (Some y)))) (plain_at dir name y fits.fits)
   row_named (Slot dir name None) x fits is s e = absurd (None≢Some x is)
 
+  -- what is named twice is on one device
+  near_by : (a b : Found) → is_elsewhere t a b ≡ false → (device_of t a ≡ device_over t b) × (device_of t b ≡ device_over t b)
+  near_by a b near =
+      let both = and_parts (device_of t a == device_over t b) _ (not-false _ near) in
+      (eqb-true (device_of t a) (device_over t b) both.0, eqb-true (device_of t b) (device_over t b) both.1)
+
+  over_spot : (b : Found) (s : Spot) → spot_named b ≡ Some s → device_over t b ≡ device t s.0
+  over_spot (Whole dir (way.Named parent name)) s e = ap (λ (r : Spot). device t r.0) (same_Some (parent, name) s e)
+  over_spot (Whole dir way.Dot) s e = cc
+  over_spot (Whole dir way.DotDot) s e = cc
+  over_spot (Whole dir way.Top) s e = cc
+  over_spot (Slot dir name o) s e = ap (λ (r : Spot). device t r.0) (same_Some (dir, name) s e)
+
+  row_device_is : (a : Found) (x : ℕ) → NameFits t a → node_named a ≡ Some x → (s : Spot) → spot_named a ≡ Some s →
+      row_device table t h s x ≡ device_of t a
+  row_device_is (Whole dir w) x fits is s e =
+      ap (λ b. cond b (device t x) (device t s.0)) (ap (is_dir t) (sym (same_Some dir x is)) ∙ fits.fits)
+      ∙ ap (device t) (sym (same_Some dir x is))
+  row_device_is (Slot dir name (Some y)) x fits is s e =
+      ap (λ b. cond b (device t x) (device t s.0)) (ap (is_dir t) (sym (same_Some y x is)) ∙ plain_at dir name y fits.fits)
+      ∙ ap (λ (r : Spot). device t r.0) (sym (same_Some (dir, name) s e))
+  row_device_is (Slot dir name None) x fits is s e = absurd (None≢Some x is)
+
   -- the row of what is moved is one by which it can be
   comes : (a : Found) (x : ℕ) → NameFits t a → may_rename table h ≡ true → cover_fault (cover t h a) table.rename.old.needs.perms ≡ None →
-      node_named a ≡ Some x → (s : Spot) → spot_named a ≡ Some s → From table t h x
-  comes a x fits held covered is s e =
-      let under = row_named a x fits is s e in
-      is_moved s ((standing a fits s e).1 ∙ is)
-      (ap (can_move table h) under ∙
-      and_from (may_rename table h) _ held
-      (and_from (has_c (cover t h a)) _ (c_from_cover (cover t h a) table.rename.old.needs.perms needs.rename_old covered)
-      (ap is_none covered)))
+      node_named a ≡ Some x → (s : Spot) → spot_named a ≡ Some s → (to : ℕ) → device_of t a ≡ device t to →
+      (from : From table t h x) × IsNear table t h to x from
+  comes a x fits held covered is s e to near =
+      let under = row_named a x fits is s e in (
+        is_moved s ((standing a fits s e).1 ∙ is)
+            (ap (can_move table h) under ∙
+            and_from (may_rename table h) _ held
+            (and_from (has_c (cover t h a)) _ (c_from_cover (cover t h a) table.rename.old.needs.perms needs.rename_old covered)
+            (ap is_none covered))),
+        row_device_is a x fits is s e ∙ near,
+      )
 
   whole_dir : (a : Found) (x : ℕ) → NameFits t a → node_named a ≡ Some x → is_whole a ≡ true → is_dir t x ≡ true
   whole_dir (Whole dir w) x fits is e = ap (is_dir t) (sym (same_Some dir x is)) ∙ fits.fits
@@ -184,15 +215,20 @@ module _ (table : CallTable) (needs : EditsNeedC table) (t : Tree) (h : ProcessS
   -- where it goes
   goes : (a b : Found) (x : ℕ) → NameFits t a → NameFits t b → has_c (cover t h b) ≡ true → node_named a ≡ Some x →
       kinds_fault t x a b ≡ None
-      → (s : Spot) → spot_named b ≡ Some s → Written table t h s x
-  goes a (Slot dir name o) x fa fb has is kinds s e = subst (λ r. Written table t h r x) (same_Some (dir, name) s e) (by_name has)
+      → (s : Spot) → spot_named b ≡ Some s → (written : Written table t h s x) × TurnsNear table t h s x written
+  goes a (Slot dir name o) x fa fb has is kinds s e =
+      subst (λ r. (written : Written table t h r x) × TurnsNear table t h r x written) (same_Some (dir, name) s e) (by_name has, tt)
   goes a (Whole y (way.Named parent name)) x fa fb has is kinds s e =
-      let whole = not-false (is_whole a) (not_faulty (not (is_whole a)) EISDIR (first_none (fault_if (not (is_whole a)) EISDIR) _ kinds)) in
+      let fits = second_none (fault_if (is_elsewhere t a (Whole y (way.Named parent name))) EXDEV) _ kinds in
+      let whole = not-false (is_whole a) (not_faulty (not (is_whole a)) EISDIR (first_none (fault_if (not (is_whole a)) EISDIR) _ fits)) in
       let empty = not-false (is_empty t y)
-      (not_faulty (not (is_empty t y)) ENOTEMPTY (second_none _ (fault_if (not (is_empty t y)) ENOTEMPTY) kinds)) in
-      subst (λ r. Written table t h r x) (same_Some (parent, name) s e)
-      (by_turn y fb.named.1 empty (ap has_c (sym ((covers_descend t h well).directory y (way.Named parent name) fb.fits)) ∙
-      has) (whole_dir a x fa is whole))
+      (not_faulty (not (is_empty t y)) ENOTEMPTY (second_none _ (fault_if (not (is_empty t y)) ENOTEMPTY) fits)) in
+      let near = near_by a (Whole y (way.Named parent name)) (not_faulty _ EXDEV (first_none (fault_if (is_elsewhere t a (Whole y (way.Named parent name))) EXDEV) _ kinds)) in
+      subst (λ r. (written : Written table t h r x) × TurnsNear table t h r x written) (same_Some (parent, name) s e) (
+        by_turn y fb.named.1 empty (ap has_c (sym ((covers_descend t h well).directory y (way.Named parent name) fb.fits)) ∙
+            has) (whole_dir a x fa is whole),
+        near.1,
+      )
   goes a (Whole y way.Dot) x fa fb has is kinds s e = cc
   goes a (Whole y way.DotDot) x fa fb has is kinds s e = cc
   goes a (Whole y way.Top) x fa fb has is kinds s e = cc
@@ -204,13 +240,20 @@ module _ (table : CallTable) (needs : EditsNeedC table) (t : Tree) (h : ProcessS
       cover_fault (cover t h a) table.rename.old.needs.perms ≡ None →
       cover_fault (cover t h b) creating ≡ None → node_named a ≡ Some x → kinds_fault t x a b ≡ None
       → (oa ob : Option Spot) → spot_named a ≡ oa → spot_named b ≡ ob → Grows (shifting oa ob)
-  by_shifted a b x fa fb held ca cb is kinds (Some sa) (Some sb) ea eb = (
-    x,
-    (standing a fa sa ea).1 ∙ is,
-    (standing b fb sb eb).0,
-    goes a b x fa fb (named_c b cb) is kinds sb eb,
-    comes a x fa held ca is sa ea,
-  )
+  by_shifted a b x fa fb held ca cb is kinds (Some sa) (Some sb) ea eb =
+      let near = near_by a b (not_faulty _ EXDEV (first_none (fault_if (is_elsewhere t a b) EXDEV) _ kinds)) in
+      let goes_to = goes a b x fa fb (named_c b cb) is kinds sb eb in
+      let comes_from = comes a x fa held ca is sa ea sb.0 (near.0 ∙ over_spot b sb eb) in (
+        x,
+        (standing a fa sa ea).1 ∙ is,
+        record {
+          lives = (standing b fb sb eb).0;
+          written = goes_to.0;
+          from = comes_from.0;
+          near = comes_from.1;
+          turns = goes_to.1;
+        },
+      )
   by_shifted a b x fa fb held ca cb is kinds (Some sa) None ea eb = tt
   by_shifted a b x fa fb held ca cb is kinds None ob ea eb = tt
 
@@ -229,9 +272,10 @@ module _ (table : CallTable) (needs : EditsNeedC table) (t : Tree) (h : ProcessS
 
   -- what gets a further name by link
   came : (a : Found) (x : ℕ) → IsOf t table.link.old.last a → may_link table h ≡ true →
-      cover_fault (cover t h a) table.link.old.needs.perms ≡ None → node_named a ≡ Some x → is_whole a ≡ false → From table t h x
-  came (Slot dir name (Some y)) x of held covered is other =
-      subst (From table t h) (same_Some y x is) (is_linked (dir, name) of.named.1 plain gives)
+      cover_fault (cover t h a) table.link.old.needs.perms ≡ None → node_named a ≡ Some x → is_whole a ≡ false → (to : ℕ) → device_of t a ≡ device t to →
+      (from : From table t h x) × IsNear table t h to x from
+  came (Slot dir name (Some y)) x of held covered is other to near =
+      subst (λ z. (from : From table t h z) × IsNear table t h to z from) (same_Some y x is) (is_linked (dir, name) of.named.1 plain gives, near)
     where
       plain : is_dir t y ≡ false
       plain = plain_at dir name y of.fits
@@ -250,14 +294,14 @@ module _ (table : CallTable) (needs : EditsNeedC table) (t : Tree) (h : ProcessS
           (and_from (is_none (cover_fault (row_cover t h (dir, name) y) table.link.old.needs.perms)) _
           (ap (λ left. is_none (cover_fault left table.link.old.needs.perms)) under ∙ ap is_none covered)
           (kept table.link.old.last of.followed))
-  came (Slot dir name None) x of held covered is other = absurd (None≢Some x is)
-  came (Whole dir w) x of held covered is other = cc
+  came (Slot dir name None) x of held covered is other to near = absurd (None≢Some x is)
+  came (Whole dir w) x of held covered is other to near = cc
 
   grows_by : (action : Action) (c : Change) → IsGranted table t h action c → Grows c
   grows_by (OnPath asked path) c (inl d) = subst Grows (sym d.2) (by_call asked d.0 d.1.promised d.1.covered)
   grows_by (OnPath asked path) c (inr same) = subst Grows (sym same) tt
   grows_by (Symlink target path) c d =
-      subst Grows (sym d.3) (by_added NewLink call.Symlink (λ passes e. e) (link_node target) refl refl (needs.calls call.Symlink refl) d.0 d.1.promised d.1.covered)
+      subst Grows (sym d.3) (by_added NewLink call.Symlink (λ passes e. e) (link_node target) refl refl refl (needs.calls call.Symlink refl) d.0 d.1.promised d.1.covered)
   grows_by (Rename old new) c d =
       by_moved d.old d.new d.node c (name_fits t well (start h) Dropped old table.rename.old.last d.old d.two.found_old)
       (name_fits t well (start h) Dropped new table.rename.new.last d.new d.two.found_new)
@@ -271,11 +315,15 @@ module _ (table : CallTable) (needs : EditsNeedC table) (t : Tree) (h : ProcessS
       let fits_new = name_fits t well (start h) Dot new table.link.new.last d.new d.two.found_new in
       subst Grows (sym d.is)
       (by_tying Grows tt d.node (spot_named d.new)
-      (λ s is. (
-        (standing d.new fits_new s is).0,
-        by_name (free_name d.new d.free s is (named_c d.new (covered_by_c (cover t h d.new) _ needs.link_new d.two.covered_new))),
-        came d.old d.node of_old held d.two.covered_old d.two.named d.no_dir,
-      )))
+      (λ s is. let came_from = came d.old d.node of_old held d.two.covered_old d.two.named d.no_dir s.0
+      ((near_by d.old d.new d.near).0 ∙ over_spot d.new s is) in
+      record {
+        lives = (standing d.new fits_new s is).0;
+        written = by_name (free_name d.new d.free s is (named_c d.new (covered_by_c (cover t h d.new) _ needs.link_new d.two.covered_new)));
+        from = came_from.0;
+        near = came_from.1;
+        turns = tt;
+      }))
   grows_by (Pledge p x) c d = subst Grows (sym d.is) tt
   grows_by (Unveil path perms) c d = subst Grows (sym d.is) tt
   grows_by Lock c d = subst Grows (sym d.1) tt
@@ -292,11 +340,12 @@ module _ (table : CallTable) (needs : EditsNeedC table) (t : Tree) (h : ProcessS
 grown_made : (table : CallTable) (needs : EditsNeedC table) (w : World) (h : ProcessState) (well : WellFormed w.tree) (c : Change) →
     Grows table needs w.tree h well c → Grown table w.tree h (tree_left w.tree (change_effect w h c))
 grown_made table needs w h well (AddNode s node) grows =
-    let made = grows.2 in
-    grown_add table w.tree h grows.0 made.0 made.1 s.0 s.1 node grows.1 made.2 made.3
+    let made = grows.3 in
+    grown_add table w.tree h grows.0 made.0 made.1 s.0 s.1 node grows.1 made.2 made.3 grows.2
+    (λ r e. let below = below_next w.tree h well w.tree.next (row_says w.tree (sound_from w.tree well) r w.tree.next e).2 in absurd (omega (arith, below)))
 grown_made table needs w h well (CutRow s) grows = grown_cut table w.tree h s.0 s.1
-grown_made table needs w h well (ShiftRow s r) grows = grown_shift table w.tree h s.0 r.0 s.1 r.1 grows.0 grows.1 grows.2 grows.3 grows.4
-grown_made table needs w h well (TieRow s x) grows = grown_tie table w.tree h s.0 s.1 x grows.0 grows.1 grows.2
+grown_made table needs w h well (ShiftRow s r) grows = grown_shift table w.tree h s.0 r.0 s.1 r.1 grows.0 grows.1 grows.2
+grown_made table needs w h well (TieRow s x) grows = grown_tie table w.tree h s.0 s.1 x grows
 grown_made table needs w h well (CopyAs new) grows = by (is_some (kept_at w new) || nat_le most_processes (length w.processes))
   where
     by : (full : Bool) → Grown table w.tree h (tree_left w.tree (cond full (Fails EAGAIN) (Copies new)))

@@ -6,7 +6,8 @@ use Rattle.pua_ever.proofs.Common.{spots_total, exact_spots, Some≢None, same_S
 use Rattle.pua_ever.proofs.Common.{covered_verdict, is_allowed, Cover, tree_left, has_c, cover_in, row_cover, can_link, can_move, New}
 use Rattle.pua_ever.proofs.Common.{is_made_by, may_rename, Call, and_parts}
 use Rattle.std.proofs.Common.{not, ◌&&◌}
-use Rattle.pua_tree.specs.Tree.{rows_of}
+use Rattle.pua_tree.specs.Tree.{rows_of, device, is_mount}
+use Rattle.std.specs.Prelude.{unwrap_or}
 use Rattle.pua_tree.specs.Edits.{with_row, without_row, without_node, without_unnamed, with_new, add, tie, cut, cut_found, shift}
 use Rattle.pua_tree.specs.Edits.{shift_found, with_row_moved, is_full_dir, is_full_dir_there, is_inside, is_same_node, has_room}
 use Rattle.pua_tree.specs.Edits.{has_name_room}
@@ -50,16 +51,34 @@ module _ (table : CallTable) (t : Tree) (h : ProcessState) where
     is_linked : (r : Spot) → look t r.0 r.1 ≡ Some x → is_dir t x ≡ false → can_link table h (kind_at t x) (row_cover t h r x) ≡ true →
         From x
 
+  -- what moves, and what gives way to it, is on the device of the directory into which it moves
+  abbrev pub row_device : Spot → ℕ → ℕ
+  row_device r x = cond (is_dir t x) (device t x) (device t r.0)
+
+  abbrev pub IsNear : (to x : ℕ) → From x → Type 0
+  IsNear to x (is_new e) = Unit {0}
+  IsNear to x (is_moved r e can) = row_device r x ≡ device t to
+  IsNear to x (is_linked r e plain can) = device t r.0 ≡ device t to
+
+  abbrev pub TurnsNear : (s : Spot) (x : ℕ) → Written s x → Type 0
+  TurnsNear s x (by_name has) = Unit {0}
+  TurnsNear s x (by_turn y at empty has is) = device t y ≡ device t s.0
+
   pub record Put (s : Spot) (x : ℕ) : Type 0 where
     pub lives : is_dir t s.0 ≡ true
     pub written : Written s x
     pub from : From x
+    pub near : IsNear s.0 x from
+    pub turns : TurnsNear s x written
 
   pub record Born (u : Tree) (x : ℕ) : Type 0 where
     pub new : x ≡ t.next
     pub made : New
     pub kinds : kind_at u x ≡ Some (new_kind table made)
     pub makes : Makes made
+    -- it stands where it was made, and no file system is mounted there
+    pub only : (s : Spot) → look u s.0 s.1 ≡ Some x → s ≡ makes.spot
+    pub unmarked : is_mount u x ≡ false
 
   -- each row and each node of the later tree is one of the earlier, or came so
   pub record Grown (u : Tree) : Type 0 where
@@ -97,8 +116,9 @@ module _ (table : CallTable) (t : Tree) (h : ProcessState) where
   pub grown_add : (made : New) (maker : Call) → IsMaker made maker → (dir : ℕ) (name : List ℕ) (node : Node) → node.kind ≡ new_kind table made
       → is_allowed (covered_verdict empty_tree table h maker (name_cover (dir, name)) IsMissing) ≡ true →
       has_c (name_cover (dir, name)) ≡ true
+      → node.mount ≡ false → ((s : Spot) → look t s.0 s.1 ≡ Some t.next → ⊥)
       → Grown (tree_left t (edit_effect h (add t dir name node)))
-  grown_add made maker makes dir name node is allowed has = by (is_dir t dir) (look t dir name) (has_room t) refl refl
+  grown_add made maker makes dir name node is allowed has plain fresh = by (is_dir t dir) (look t dir name) (has_room t) refl refl
     where
       grown : is_dir t dir ≡ true → look t dir name ≡ None → Grown (with_new t dir name node)
       grown lives free = record {
@@ -108,6 +128,8 @@ module _ (table : CallTable) (t : Tree) (h : ProcessState) where
             written = by_name (ap (λ (r : Spot). has_c (name_cover r)) same ∙ has);
             from = is_new (same_Some x t.next (sym e ∙ ap (λ (r : Spot). look (with_new t dir name node) r.0 r.1) same ∙
                 put_here spot_cmp spots_total exact_spots (dir, name) t.next t.rows));
+            near = tt;
+            turns = tt;
           })
           | inr other ↦ inl (sym (put_elsewhere spot_cmp spots_total exact_spots s (dir, name) t.next t.rows other) ∙ e)
         ];
@@ -126,6 +148,13 @@ module _ (table : CallTable) (t : Tree) (h : ProcessState) where
               allowed = allowed;
               covered = has;
             };
+            only = λ s e. elim (at_or_not s (dir, name)) [
+              | inl here ↦ here
+              | inr other ↦ absurd (fresh s (sym (put_elsewhere spot_cmp spots_total exact_spots s (dir, name) t.next t.rows other) ∙ e ∙ ap Some same.0))
+            ];
+            unmarked = ap (is_mount (with_new t dir name node)) same.0 ∙
+                ap (λ o. unwrap_or (option_map (λ (n : Node). n.mount) o) false)
+                (put_here nat_cmp nat_cmp_total nat_cmp-IsAntisymmetric t.next node t.nodes) ∙ plain;
           })
           | inr other ↦ inl (put_elsewhere nat_cmp nat_cmp_total nat_cmp-IsAntisymmetric x t.next node t.nodes other.0)
         ];
@@ -140,9 +169,8 @@ module _ (table : CallTable) (t : Tree) (h : ProcessState) where
       by true None false l e = grown_all
       by true None true l e = grown l e
 
-  pub grown_tie : (dir : ℕ) (name : List ℕ) (x : ℕ) → is_dir t dir ≡ true → Written (dir, name) x → From x →
-      Grown (tree_left t (edited_tree h (tie t dir name x)))
-  grown_tie dir name y lives written from = by (is_dir t dir) (is_living t y) (is_dir t y) (look t dir name) (has_name_room t)
+  pub grown_tie : (dir : ℕ) (name : List ℕ) (x : ℕ) → Put (dir, name) x → Grown (tree_left t (edited_tree h (tie t dir name x)))
+  grown_tie dir name y puts = by (is_dir t dir) (is_living t y) (is_dir t y) (look t dir name) (has_name_room t)
     where
       grown : Grown (with_row t dir name y)
       grown = record {
@@ -150,7 +178,7 @@ module _ (table : CallTable) (t : Tree) (h : ProcessState) where
           | inl same ↦ (let is : y ≡ x = same_Some y x (sym (put_here spot_cmp spots_total exact_spots (dir, name) y t.rows) ∙
               ap (λ (r : Spot). look (with_row t dir name y) r.0 r.1) (sym same) ∙ e) in
               inr (subst (λ (r : Spot). Put r x) (sym same)
-              (subst (Put (dir, name)) is (record { lives = lives; written = written; from = from }))))
+              (subst (Put (dir, name)) is puts)))
           | inr other ↦ inl (sym (put_elsewhere spot_cmp spots_total exact_spots s (dir, name) y t.rows other) ∙ e)
         ];
         nodes = λ x l. inl refl;
@@ -197,10 +225,9 @@ module _ (table : CallTable) (t : Tree) (h : ProcessState) where
       by true None = grown_all
       by true (Some y) = found y (is_full_dir t y)
 
-  pub grown_shift : (from to : ℕ) (name new_name : List ℕ) (x : ℕ) → look t from name ≡ Some x → is_dir t to ≡ true →
-      Written (to, new_name) x → From x
-      → Grown (tree_left t (edited_tree h (shift t from name to new_name)))
-  grown_shift from to name new_name x here lives written comes = by (is_dir t from && is_dir t to) (look t from name) here
+  pub grown_shift : (from to : ℕ) (name new_name : List ℕ) (x : ℕ) → look t from name ≡ Some x → Put (to, new_name) x →
+      Grown (tree_left t (edited_tree h (shift t from name to new_name)))
+  grown_shift from to name new_name x here puts = by (is_dir t from && is_dir t to) (look t from name) here
     where
       turned : Tree
       turned = with_row (without_row t from name) to new_name x
@@ -211,7 +238,7 @@ module _ (table : CallTable) (t : Tree) (h : ProcessState) where
             same_Some x z (sym (put_here spot_cmp spots_total exact_spots (to, new_name) x (without_row t from name).rows) ∙
             ap (λ (r : Spot). look turned r.0 r.1) (sym same) ∙ e) in
             inr (subst (λ (r : Spot). Put r z) (sym same)
-            (subst (Put (to, new_name)) is (record { lives = lives; written = written; from = comes }))))
+            (subst (Put (to, new_name)) is puts)))
         | inr other ↦ inl (was_there (
           from,
           name,

@@ -15,7 +15,10 @@ use Rattle.pua_path.specs.declared.text.Ending.TheVariants as ending
 use Rattle.pua_calls.specs.TmpTable.{tmp_table}
 use Rattle.pua_calls.proofs.ForCallers.{tmp_table_needs_no_error}
 use Rattle.pua_script.specs.Confinement.{object_in}
-use Rattle.pua_script.specs.Decide.{is_whole}
+use Rattle.pua_script.specs.Judged.{NameFits}
+use Rattle.pua_script.specs.Decide.{is_elsewhere, is_whole}
+use Rattle.pua_tree.specs.Laws.{KeepsDevices}
+use Rattle.pua_tree.specs.Tree.{device}
 use Rattle.pua_script.proofs.ForCallers.{c_from_cover, name_fits}
 use Rattle.pua_ever.specs.EnclosedForEver.{KeepInside}
 use Rattle.pua_ever.specs.Ever.{may_link}
@@ -23,6 +26,7 @@ use Rattle.pua_ever.proofs.Along.{link_within, move_within, same}
 use Rattle.pua_ever.proofs.Covers.{below_next, living_dir}
 use Rattle.pua_ever.proofs.Enclosing.{MovesBy, TiesBy}
 use Rattle.pua_ever.proofs.Growing.{plain_at, row_named, standing}
+use Rattle.pua_ever.proofs.Devices.{close_to, moves_close, named_device}
 use Rattle.pua_ever.proofs.InsideTrees.{Turns, fate}
 use Rattle.pua_ever.proofs.Origins.{Fixed, Stays, fixed_covered, same_then}
 
@@ -31,25 +35,30 @@ abbrev pub CanLeave : CallTable → ProcessState → Tree → Spot → ℕ → T
 CanLeave table h t r x = (can_move table h (row_cover t h r x) ≡ true)
     ⊎ ((is_dir t x ≡ false) × (can_link table h (kind_at t x) (row_cover t h r x) ≡ true))
 
+-- and so it does to a name on the device of the row
+abbrev pub LeavesTo : CallTable → ProcessState → Tree → Spot → Spot → ℕ → Type 0
+LeavesTo table h t to r x = CanLeave table h t r x × (is_dir t x ≡ false → device t r.0 ≡ device t to.0)
+
 module _ (table : CallTable) (t0 : Tree) (h : ProcessState) (well0 : WellFormed t0) (stand : VeilsStand t0 h) (root : ℕ) where
-  -- a row of the beginning by which it could leave, at or below the root
-  pub record Home (x : ℕ) : Type 0 where
+  -- a row of the beginning on a device by which it could leave, at or below the root
+  pub record Home (on x : ℕ) : Type 0 where
     pub row : Spot
     pub at : look t0 row.0 row.1 ≡ Some x
     pub inner : is_within t0 row.0 root ≡ true
     pub leaves : CanLeave table h t0 row x
+    pub near : device t0 row.0 ≡ on
 
   -- what stands at or below the root, stood there in a row by which it can't be moved, or has such a row
   abbrev pub Homes : Tree → Type 0
   Homes u = (s : Spot) (x : ℕ) → look u s.0 s.1 ≡ Some x → is_within u s.0 root ≡ true → is_dir u x ≡ false → x < t0.next →
-      Fixed table t0 h well0 stand s x ⊎ Home x
+      Fixed table t0 h well0 stand s x ⊎ Home (device u s.0) x
 
   pub homes_first : Homes t0
   homes_first s x e inner other below = by (can_move table h (row_cover t0 h s x)) refl
     where
-      by : (b : Bool) → can_move table h (row_cover t0 h s x) ≡ b → Fixed table t0 h well0 stand s x ⊎ Home x
+      by : (b : Bool) → can_move table h (row_cover t0 h s x) ≡ b → Fixed table t0 h well0 stand s x ⊎ Home (device t0 s.0) x
       by false stays = inl (e, stays)
-      by true can = inr (record { row = s; at = e; inner = inner; leaves = inl can })
+      by true can = inr (record { row = s; at = e; inner = inner; leaves = inl can; near = refl })
 
   -- a row of the beginning is at or below the root as it is in a later tree
   pub inner_first : (u : Tree) → KeepInside root t0 u → (d : ℕ) → is_within u d root ≡ true → d < t0.next → is_within t0 d root ≡ true
@@ -63,7 +72,8 @@ module _ (table : CallTable) (t0 : Tree) (h : ProcessState) (well0 : WellFormed 
   row_given r x e = below_next t0 h well0 r.0 (living_dir t0 h well0 r.0 (row_says t0 (sound_from t0 well0) r x e).0)
 
   module _ (asking : CallTable) (asker : ProcessState) (t u : Tree) (k : Stays table t0 h well0 stand t) (well : WellFormed u)
-      (lives : is_dir t root ≡ true) (turns : Turns asking t asker root (CanLeave table h t) u) (kept : KeepInside root t0 t) (homes : Homes t)
+      (lives : is_dir t root ≡ true) (turns : Turns asking t asker root (LeavesTo table h t) u)
+      (keeps : KeepsDevices t u) (kept : KeepInside root t0 t) (homes : Homes t)
     where
       -- what stood in a row and is no directory was none
       was_plain : (r : Spot) (x : ℕ) → look t r.0 r.1 ≡ Some x → is_living u x ≡ true → is_dir u x ≡ false → is_dir t x ≡ false
@@ -73,12 +83,12 @@ module _ (table : CallTable) (t0 : Tree) (h : ProcessState) (well0 : WellFormed 
       ]
 
       -- the home of what left a row
-      left_home : (r : Spot) (x : ℕ) → look t r.0 r.1 ≡ Some x → is_within t r.0 root ≡ true → CanLeave table h t r x →
-          Fixed table t0 h well0 stand r x ⊎ Home x → Home x
-      left_home r x e inner leaves (inr home) = home
-      left_home r x e inner (inl can) (inl fixed) =
+      left_home : (to : ℕ) (r : Spot) (x : ℕ) → look t r.0 r.1 ≡ Some x → is_within t r.0 root ≡ true → CanLeave table h t r x →
+          device t r.0 ≡ to → Fixed table t0 h well0 stand r x ⊎ Home (device t r.0) x → Home to x
+      left_home to r x e inner leaves on (inr home) = subst (λ n. Home n x) on home
+      left_home to r x e inner (inl can) on (inl fixed) =
           absurd (false≢true (sym fixed.1 ∙ ap (can_move table h) (sym (fixed_covered table t0 h well0 stand t k r x e fixed)) ∙ can))
-      left_home r x e inner (inr ties) (inl fixed) =
+      left_home to r x e inner (inr ties) on (inl fixed) =
           let node = same_then table t0 h well0 stand t k r r x fixed.0 e in
           let covered = fixed_covered table t0 h well0 stand t k r x e fixed in
           record {
@@ -89,14 +99,18 @@ module _ (table : CallTable) (t0 : Tree) (h : ProcessState) (well0 : WellFormed 
               sym (same_dir t0 t x node) ∙ ties.0,
               (λ i. can_link table h (ap (option_map (λ n. n.kind)) (sym node) i) (sym covered i)) ∙ ties.1,
             );
+            near = sym (k.devices r.0 (row_says t0 (sound_from t0 well0) r x fixed.0).0 (row_says t (sound_from t k.well) r x e).0) ∙ on;
           }
 
       pub homes_then : Homes u
       homes_then s x e inner other below = elim (turns.rows s x e) [
-        | inl there ↦ homes s x there (still_inner there) (was_plain s x there living other) below
+        | inl there ↦ on_it (row_says t (sound_from t k.well) s x there).0
+            (homes s x there (still_inner there) (was_plain s x there living other) below)
         | inr put ↦ inr (elim put.1 [
           | inl new ↦ (let from = k.next in absurd (omega (arith, below, from, new)))
-          | inr from ↦ left_home from.0 x from.1 from.2 from.3 (homes from.0 x from.1 from.2 (was_plain from.0 x from.1 living other) below)
+          | inr from ↦ (let plain = was_plain from.0 x from.1 living other in
+              subst (λ n. Home n x) (sym (on (and_parts (is_dir t s.0) _ put.0).0))
+              (left_home (device t s.0) from.0 x from.1 from.2 from.3.0 (from.3.1 plain) (homes from.0 x from.1 from.2 plain below)))
         ])
       ]
         where
@@ -106,8 +120,17 @@ module _ (table : CallTable) (t0 : Tree) (h : ProcessState) (well0 : WellFormed 
           living : is_living u x ≡ true
           living = says.1
 
+          -- the directory is on its device
+          on : is_dir t s.0 ≡ true → device u s.0 ≡ device t s.0
+          on was = keeps s.0 was says.0
+
+          on_it : is_dir t s.0 ≡ true → Fixed table t0 h well0 stand s x ⊎ Home (device t s.0) x →
+              Fixed table t0 h well0 stand s x ⊎ Home (device u s.0) x
+          on_it was (inl fixed) = inl fixed
+          on_it was (inr home) = inr (subst (λ n. Home n x) (sym (on was)) home)
+
           still_inner : look t s.0 s.1 ≡ Some x → is_within t s.0 root ≡ true
-          still_inner there = elim (fate asking t u asker root k.well well lives (CanLeave table h t) turns s.0 says.0) [
+          still_inner there = elim (fate asking t u asker root k.well well lives (LeavesTo table h t) turns s.0 says.0) [
             | inl same_dirs ↦ sym same_dirs.1 ∙ inner
             | inr new ↦ (let n = new.0 in
                 let below_it = below_next t h k.well s.0 (living_dir t h k.well s.0 (row_says t (sound_from t k.well) s x there).0) in
@@ -138,8 +161,14 @@ module _ (table : CallTable) (sound : NoCallNeedsError table) (needs : EditsNeed
       (ap (λ left. is_none (cover_fault left table.link.old.needs.perms)
       && (not (is_link_kind (kind_at t x)) || is_kept table.link.old.last)) (sym (same_row s x)) ∙ parts.1)
 
-  pub moves_from_home : MovesBy table w a (CanLeave tmp now t)
-  moves_from_home old new c d s at x row =
+  -- to a name on its device
+  stays_near : (old new : Found) (x : ℕ) → NameFits t old → node_named old ≡ Some x → is_elsewhere t old new ≡ false → (s : Spot) →
+      spot_named old ≡ Some s → (r : Spot) → spot_named new ≡ Some r → is_dir t x ≡ false → device t s.0 ≡ device t r.0
+  stays_near old new x fits named close s at r at_new plain =
+      named_device t old x fits named s at plain ∙ close_to t old new close r at_new
+
+  pub moves_from_home : MovesBy table w a (LeavesTo tmp now t)
+  moves_from_home old new c d shift s at r at_new x row =
       let fits = name_fits t well (start a) ending.Dropped old table.rename.old.last d.old d.two.found_old in
       let is : x ≡ d.node = same_Some x d.node (sym row ∙ (standing table needs t a well d.old fits s at).1 ∙ d.two.named) in
       let held : may_rename tmp a ≡ true =
@@ -148,8 +177,11 @@ module _ (table : CallTable) (sound : NoCallNeedsError table) (needs : EditsNeed
       ap (can_move tmp a) (row_named table needs t a well d.old d.node fits d.two.named s at) ∙
       and_from (may_rename tmp a) _ held
       (and_from (has_c (cover t a d.old)) _ (c_from_cover (cover t a d.old) table.rename.old.needs.perms needs.rename_old d.two.covered_old)
-      (ap is_none d.two.covered_old)) in
-      inl (ap (λ y. can_move tmp now (row_cover t now s y)) is ∙ moved_so s d.node can)
+      (ap is_none d.two.covered_old)) in (
+        inl (ap (λ y. can_move tmp now (row_cover t now s y)) is ∙ moved_so s d.node can),
+        λ plain. stays_near d.old d.new d.node fits d.two.named (moves_close t d.old d.new d.node shift.kinds) s at r at_new
+            (ap (is_dir t) (sym is) ∙ plain),
+      )
 
   tied_from : (object : Found) (x : ℕ) → IsOf t table.link.old.last object → may_link tmp a ≡ true →
       cover_fault (cover t a object) table.link.old.needs.perms ≡ None → node_named object ≡ Some x → is_whole object ≡ false → (s : Spot) →
@@ -178,10 +210,13 @@ module _ (table : CallTable) (sound : NoCallNeedsError table) (needs : EditsNeed
   tied_from (Slot dir name None) x of held covered is other s at = absurd (None≢Some x is)
   tied_from (Whole dir way) x of held covered is other s at = cc
 
-  pub ties_from_home : TiesBy table w a (CanLeave tmp now t)
-  ties_from_home old new c d s at =
+  pub ties_from_home : TiesBy table w a (LeavesTo tmp now t)
+  ties_from_home old new c d s at r at_new =
       let of_old = (resolutions_fit (rooted t 0) well well.root).whole (start a) ending.Dot old table.link.old.last d.old
       (named_within_text t (start a) ending.Dot old table.link.old.last d.old d.two.found_old) in
+      let fits = name_fits t well (start a) ending.Dot old table.link.old.last d.old d.two.found_old in
       let held : may_link tmp a ≡ true =
-      and_from (is_yes (may_any a table.link.old.needs.alternatives)) _ (ap is_yes d.two.promised_old) (ap is_yes d.two.promised_new) in
-      tied_from d.old d.node of_old held d.two.covered_old d.two.named d.no_dir s at
+      and_from (is_yes (may_any a table.link.old.needs.alternatives)) _ (ap is_yes d.two.promised_old) (ap is_yes d.two.promised_new) in (
+        tied_from d.old d.node of_old held d.two.covered_old d.two.named d.no_dir s at,
+        λ plain. stays_near d.old d.new d.node fits d.two.named d.near s at r at_new plain,
+      )

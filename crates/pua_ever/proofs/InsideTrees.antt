@@ -103,17 +103,17 @@ module _ (t : Tree) (well : WellFormed t) where
 
 -- ---- one edit
 
-module _ (table : CallTable) (t : Tree) (h : ProcessState) (root : ℕ) (IsWay : Spot → ℕ → Type 0) where
+module _ (table : CallTable) (t : Tree) (h : ProcessState) (root : ℕ) (IsWay : Spot → Spot → ℕ → Type 0) where
   abbrev In : ℕ → Type 0
   In dir = is_within t dir root ≡ true
 
   -- it is new, or stood in a row at or below the root from where there was a way
-  abbrev pub FromInside : ℕ → Type 0
-  FromInside x = (x ≡ t.next) ⊎ ((r : Spot) × (look t r.0 r.1 ≡ Some x) × (is_within t r.0 root ≡ true) × IsWay r x)
+  abbrev pub FromInside : Spot → ℕ → Type 0
+  FromInside s x = (x ≡ t.next) ⊎ ((r : Spot) × (look t r.0 r.1 ≡ Some x) × (is_within t r.0 root ≡ true) × IsWay s r x)
 
   pub record Turns (u : Tree) : Type 0 where
     pub rows : (s : Spot) (x : ℕ) → look u s.0 s.1 ≡ Some x →
-        (look t s.0 s.1 ≡ Some x) ⊎ ((is_within t s.0 root ≡ true) × FromInside x)
+        (look t s.0 s.1 ≡ Some x) ⊎ ((is_within t s.0 root ≡ true) × FromInside s x)
     pub outer : (s : Spot) (x : ℕ) → look t s.0 s.1 ≡ Some x → is_within t s.0 root ≡ false → look u s.0 s.1 ≡ Some x
     pub nodes : (x : ℕ) → is_living u x ≡ true → (node_at u x ≡ node_at t x) ⊎ (x ≡ t.next)
     pub next : t.next ≤ u.next
@@ -154,7 +154,8 @@ module _ (table : CallTable) (t : Tree) (h : ProcessState) (root : ℕ) (IsWay :
       by true None false = turns_none
       by true None true = turned
 
-  pub turns_tie : (dir : ℕ) (name : List ℕ) (x : ℕ) → In dir → FromInside x → Turns (tree_left t (edited_tree h (tie t dir name x)))
+  pub turns_tie : (dir : ℕ) (name : List ℕ) (x : ℕ) → In dir → FromInside (dir, name) x →
+      Turns (tree_left t (edited_tree h (tie t dir name x)))
   turns_tie dir name y inner from = by (is_dir t dir) (is_living t y) (is_dir t y) (look t dir name) (has_name_room t)
     where
       turned : Turns (with_row t dir name y)
@@ -162,7 +163,10 @@ module _ (table : CallTable) (t : Tree) (h : ProcessState) (root : ℕ) (IsWay :
         rows = λ s x e. elim (at_or_not table t h s (dir, name)) [
           | inl same ↦ (let is : y ≡ x = same_Some y x (sym (put_here spot_cmp spots_total exact_spots (dir, name) y t.rows) ∙
               ap (λ (r : Spot). look (with_row t dir name y) r.0 r.1) (sym same) ∙ e) in
-              inr (ap (λ (r : Spot). is_within t r.0 root) same ∙ inner, subst FromInside is from))
+              inr (
+                ap (λ (r : Spot). is_within t r.0 root) same ∙ inner,
+                subst (λ (r : Spot). FromInside r x) (sym same) (subst (FromInside (dir, name)) is from),
+              ))
           | inr other ↦ inl (sym (put_elsewhere spot_cmp spots_total exact_spots s (dir, name) y t.rows other) ∙ e)
         ];
         outer = λ s x e out. put_elsewhere spot_cmp spots_total exact_spots s (dir, name) y t.rows (apart s dir name inner out) ∙ e;
@@ -205,17 +209,20 @@ module _ (table : CallTable) (t : Tree) (h : ProcessState) (root : ℕ) (IsWay :
       by true (Some y) = found y (is_full_dir t y)
 
   module _ (from to : ℕ) (name new_name : List ℕ) (inner : In from) (inner_to : In to) (x : ℕ) (here : look t from name ≡ Some x)
-      (way : IsWay (from, name) x) where
+      (way : IsWay (to, new_name) (from, name) x) where
     abbrev turned : Tree
     turned = with_row (without_row t from name) to new_name x
 
     rows_turned : (s : Spot) (z : ℕ) → look turned s.0 s.1 ≡ Some z →
-        (look t s.0 s.1 ≡ Some z) ⊎ ((is_within t s.0 root ≡ true) × FromInside z)
+        (look t s.0 s.1 ≡ Some z) ⊎ ((is_within t s.0 root ≡ true) × FromInside s z)
     rows_turned s z e = elim (at_or_not table t h s (to, new_name)) [
       | inl same ↦ (let is : x ≡ z =
           same_Some x z (sym (put_here spot_cmp spots_total exact_spots (to, new_name) x (without_row t from name).rows) ∙
           ap (λ (r : Spot). look turned r.0 r.1) (sym same) ∙ e) in
-          inr (ap (λ (r : Spot). is_within t r.0 root) same ∙ inner_to, subst FromInside is (inr ((from, name), here, inner, way))))
+          inr (
+            ap (λ (r : Spot). is_within t r.0 root) same ∙ inner_to,
+            subst (λ (r : Spot). FromInside r z) (sym same) (subst (FromInside (to, new_name)) is (inr ((from, name), here, inner, way))),
+          ))
       | inr other ↦ inl (was_there table t h (from, name) s z
           (sym (put_elsewhere spot_cmp spots_total exact_spots s (to, new_name) x (without_row t from name).rows other) ∙ e))
     ]
@@ -243,7 +250,7 @@ module _ (table : CallTable) (t : Tree) (h : ProcessState) (root : ℕ) (IsWay :
     shifts_found false false false there = shifts there
 
   pub turns_shift : (from to : ℕ) (name new_name : List ℕ) → In from → In to →
-      ((x : ℕ) → look t from name ≡ Some x → IsWay (from, name) x) → Turns (tree_left t (edited_tree h (shift t from name to new_name)))
+      ((x : ℕ) → look t from name ≡ Some x → IsWay (to, new_name) (from, name) x) → Turns (tree_left t (edited_tree h (shift t from name to new_name)))
   turns_shift from to name new_name inner inner_to way = by (is_dir t from && is_dir t to) (look t from name) refl
     where
       by : (a : Bool) (o : Option ℕ) → look t from name ≡ o →
@@ -257,7 +264,7 @@ module _ (table : CallTable) (t : Tree) (h : ProcessState) (root : ℕ) (IsWay :
 -- ---- what is at or below the root after such an edit
 
 module _ (table : CallTable) (t u : Tree) (h : ProcessState) (root : ℕ) (well : WellFormed t) (well_then : WellFormed u)
-    (lives : is_dir t root ≡ true) (IsWay : Spot → ℕ → Type 0) (turns : Turns table t h root IsWay u) where
+    (lives : is_dir t root ≡ true) (IsWay : Spot → Spot → ℕ → Type 0) (turns : Turns table t h root IsWay u) where
   given : (x : ℕ) → is_living t x ≡ true → x < t.next
   given x l = below_next t h well x l
 
@@ -341,7 +348,7 @@ module _ (table : CallTable) (t u : Tree) (h : ProcessState) (root : ℕ) (well 
           let is_new : row.0.0 ≡ t.next = sym row.2 ∙ new.0 in
           absurd (omega (arith, below, is_new))
 
-      came : (d == root) ≡ false → Fate (above u d) → is_within t row.0.0 root ≡ true → FromInside table t h root IsWay d → Fate d
+      came : (d == root) ≡ false → Fate (above u d) → is_within t row.0.0 root ≡ true → FromInside table t h root IsWay row.0 d → Fate d
       came other over inner (inl new) = inr (new, as_above u well_then d is up.0 other ∙ over_in over inner)
       came other over inner (inr from) =
           let was = was_dir from.0 d from.1 is in

@@ -1,4 +1,6 @@
--- The last check of a call asks for a kind, whatever the tree; rmdir alone asks more of a directory.
+-- The last check of a call asks for a kind, whatever the tree; rmdir alone asks more of a directory, and unlink is on none.
+use Rattle.std.proofs.Common.{sym}
+use Rattle.std.proofs.lemmas.Option.{none-some}
 use Rattle.pua_ever.proofs.Common.{◌≡◌, ℕ, Bool, true, false, cond, refl, Option, Some, None, false≢true, Tree, empty_tree, Kind, Way}
 use Rattle.pua_ever.proofs.Common.{Object, IsDir, object_of_kind, object_fault, Call, removable_dir, lasting_dir}
 use Rattle.pua_calls.specs.declared.rules.Rules.{Rules}
@@ -18,5 +20,6 @@ pub dir_alike : (whose : Rules) (u : Tree) (c : Call) (d : ℕ) (w : Way) (b : B
     object_fault whose u c (IsDir d w) ≡ None → object_fault whose empty_tree c (dir_as b) ≡ None
 dir_alike whose u call.Rmdir d w true sure e = refl
 dir_alike whose u call.Rmdir d w false sure e = absurd (false≢true (sure refl))
+dir_alike whose u call.Unlink d w b sure e = absurd (none-some _ (sym e))
 dir_alike whose u _ d w true sure e = e
 dir_alike whose u _ d w false sure e = e

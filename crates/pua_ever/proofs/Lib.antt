@@ -4,6 +4,7 @@ pub mod Grown
 pub mod Growing
 pub mod Ways
 pub mod Quiet
+pub mod Devices
 pub mod Origins
 pub mod RequestKeepsRows
 pub mod Execs
@@ -25,6 +26,7 @@ pub mod KeptVeils
 pub mod Origin
 pub mod Opened
 pub mod DestinationCovers
+pub mod Found
 pub mod Picked
 pub mod ComingPlaces
 pub mod ComingRows

@@ -13,7 +13,7 @@ use Rattle.pua_objects.specs.Items.{IsItemOn, object_on, cover_on}
 use Rattle.pua_objects.specs.declared.item.Item as given
 use Rattle.pua_objects.specs.declared.item.Subject as about
 use Rattle.pua_objects.specs.declared.item.Subject.TheVariants as subject
-use Rattle.pua_ever.specs.Ever.{can_allow, named_covers, can_be_freed, is_turned_there}
+use Rattle.pua_ever.specs.Ever.{can_allow, named_covers, can_be_freed, is_turned_there, stays_on}
 use Rattle.pua_ever.specs.Prospects.{kind_allowed, own_given}
 use Rattle.pua_ever.proofs.Prospected.{last}
 use Rattle.std.proofs.Math.Bool.{or-true}
@@ -37,7 +37,7 @@ module _ (t : Tree) (well : WellFormed t) (table : CallTable) (h : ProcessState)
       (object : seen.Object) (turned : Bool) (left : Cover) (set : ℕ)
       → object ≡ object_seen t (object_of t (Slot dir name o)) → turned ≡ is_turned_there h o → left ≡ cover t h (Slot dir name o)
       → ((kind : Option Kind) → object ≡ object_seen empty_tree (object_of_kind kind) → (call : Call) →
-      has set call ≡ kind_allowed t table h turned left kind call)
+      has set call ≡ kind_allowed t table h (stays_on t h dir) turned left kind call)
       → (call : Call) → has set call ≡ is_ever_allowed t table h (At (Slot dir name o)) call
   name_calls dir name None fits object turned left set is turns covered all call =
       all None (is ∙ refl) call
@@ -45,7 +45,7 @@ module _ (t : Tree) (well : WellFormed t) (table : CallTable) (h : ProcessState)
   name_calls dir name (Some x) fits object turned left set is turns covered all call =
       all (kind_at t x) (is ∙ seen_alike t (kind_at t x)) call
       ∙ (λ i. (keeps_link call || not (is_link_kind (kind_at t x)))
-      && can_allow table h (turns i) (if has_kind dir name x fits.1.1 i then named_covers t table h (kind_at t x) (covered i) else covered i
+      && can_allow table h (turns i) (if has_kind dir name x fits.1.1 i then named_covers t table h (stays_on t h dir) (kind_at t x) (covered i) else covered i
       ∷ []) (object_of_kind (kind_at t x)) call)
 
   -- whether the name of a thing can come to be free, by the thing's own cover

@@ -1,14 +1,14 @@
 -- The list of the objects of now lies within the list for ever.
-use Rattle.pua_ever.proofs.Common.{◌≡◌, ℕ, zero, suc, List, [], ◌∷◌, ◌++◌, Bool, true, false, cond, map, refl, sym, ap, subst, ◌∙◌, inl}
-use Rattle.pua_ever.proofs.Common.{inr, Option, Some, None, option_map, not, ◌&&◌, ◌||◌, ◌==◌, is_none, if◌then◌else◌, flat_map, nat_lt}
+use Rattle.pua_ever.proofs.Common.{◌≡◌, ℕ, zero, suc, List, [], ◌∷◌, ◌++◌, Bool, true, false, map, refl, sym, ap, subst, ◌∙◌, inl}
+use Rattle.pua_ever.proofs.Common.{inr, Option, Some, None, not, ◌&&◌, ◌||◌, ◌==◌, is_none, if◌then◌else◌, flat_map, nat_lt}
 use Rattle.pua_ever.proofs.Common.{list_any, and_parts, and_from, or_right, Tree, WellFormed, is_dir, look, kind_at, is_empty, has_no_row}
-use Rattle.pua_ever.proofs.Common.{sound_from, row_says, misfit_errno, IsNotEmpty, Way, Named, Top, Dot, DotDot, Whole, Slot, CallTable}
+use Rattle.pua_ever.proofs.Common.{sound_from, row_says, Way, Named, Top, Dot, DotDot, Whole, Slot, CallTable}
 use Rattle.pua_ever.proofs.Common.{calls, rule_of, ProcessState, perms_kept, veils, may_any, IsDir, IsMissing, object_of_kind, object_fault}
 use Rattle.pua_ever.proofs.Common.{cover, cover_fault, is_allowed, Call, Cover, Only, has_c, Word, Subject, At, Others, Item, items}
 use Rattle.pua_ever.proofs.Common.{cover_in, own_or, Among, among_left, among_map, map_among, among_filter, filter_among, contained}
 use Rattle.pua_ever.proofs.Common.{among_contained, covers_descend, allowed_is, is_free, can_empty, dir_covers, file_covers, may_edit, can_move}
 use Rattle.pua_ever.proofs.Common.{is_named_way, is_allowed_under, ever_line, EverLine, subjects_of, all_new, new_line, has_ever_calls}
-use Rattle.pua_ever.proofs.Common.{ever, filter, May, Ok, allowed_unless, if_promised, or_fault}
+use Rattle.pua_ever.proofs.Common.{ever, filter, May, Ok, allowed_unless, if_promised, or_fault, is_mount}
 use Rattle.std.specs.List.{Contains}
 use Rattle.std.specs.Prelude.{length}
 use Rattle.pua_calls.specs.TmpTable.{tmp_table}
@@ -23,15 +23,15 @@ use Rattle.pua_objects.specs.Objects.{is_named_by, subject_verdict}
 use Rattle.pua_objects.specs.Objects as now
 use Rattle.pua_objects.proofs.ForCallers.{among_flat, flat_among}
 use Rattle.pua_objects.proofs.ForCallers.{some_of}
-use Rattle.pua_ever.specs.Ever.{covers_of, covers_of_dir, ever_object}
+use Rattle.pua_ever.specs.Ever.{covers_of, covers_of_dir, ever_object, stays_on}
 use Rattle.pua_ever.specs.Ever.{ever_calls}
 use Rattle.pua_ever.specs.Laws.{IsWithinEver, IsWithinLines, NowWithinEver}
 use Rattle.pua_ever.proofs.Covers.{slot_row}
-use Rattle.pua_ever.proofs.Ways.{way_by_c, name_by_veil, open_by, file_by_name, file_by_open}
+use Rattle.pua_ever.proofs.Ways.{on_own, way_by_c, name_by_veil, open_by, file_by_name, file_by_open}
 use Rattle.pua_ever.proofs.Grown.{moved_has_c}
 use Rattle.pua_ever.proofs.KindFaults.{plain_alike, dir_as, dir_alike}
 use Rattle.pua_ever.proofs.Ending.{parts_of, ever_first, named_first, calls_among, under_one}
-use Rattle.pua_ever.proofs.Prospected.{empty_can}
+use Rattle.pua_ever.proofs.Prospected.{empty_can, emptied}
 
 module _ (t : Tree) (h : ProcessState) where
   -- what an item is about stands in the tree
@@ -75,13 +75,13 @@ module _ (t : Tree) (h : ProcessState) where
     -- what covers a thing now is among its covers
     pub dir_cover : (dir : ℕ) → is_dir t dir ≡ true → Among (covers_of_dir t table h dir) (cover_in t h dir)
     dir_cover dir is = ever_first (is_none (perms_kept h (place.Dir dir)) && can_move table h (cover_in t h dir)) (cover_in t h dir)
-        (dir_covers t h)
-        (λ both. way_by_c t h dir is (moved_has_c table h (cover_in t h dir) (and_parts (is_none (perms_kept h (place.Dir dir))) _ both).1))
+        (dir_covers t h (stays_on t h dir))
+        (λ both. way_by_c t h (stays_on t h dir) dir is (on_own t h dir) (moved_has_c table h (cover_in t h dir) (and_parts (is_none (perms_kept h (place.Dir dir))) _ both).1))
 
     pub file_cover : (dir : ℕ) (name : List ℕ) (x : ℕ) → look t dir name ≡ Some x → is_dir t x ≡ false →
         Among (covers_of t table h (At (Slot dir name (Some x)))) (cover t h (Slot dir name (Some x)))
     file_cover dir name x row other =
-        named_first t table h (kind_at t x) left (λ can. by (perms_kept h (place.Slot dir name)) refl (moved_has_c table h left can))
+        named_first t table h (stays_on t h dir) (kind_at t x) left (λ can. by (perms_kept h (place.Slot dir name)) refl (moved_has_c table h left can))
       where
         left : Cover
         left = cover t h (Slot dir name (Some x))
@@ -95,33 +95,32 @@ module _ (t : Tree) (h : ProcessState) where
         free : has_c left ≡ true → is_free t h (dir, name) ≡ true
         free has = rw (row, ap has_c (slot_row t h well (dir, name) x other ∙ sym over) ∙ has) refl
 
-        by : (o : Option ℕ) → perms_kept h (place.Slot dir name) ≡ o → has_c left ≡ true → Among (file_covers t table h) left
+        by : (o : Option ℕ) → perms_kept h (place.Slot dir name) ≡ o → has_c left ≡ true → Among (file_covers t table h (stays_on t h dir)) left
         by (Some perms) own has =
             let same : left ≡ Only perms = over ∙ ap (λ o. own_or o (cover_in t h dir)) own in
-            subst (Among (file_covers t table h)) (sym same)
-            (file_by_name t h table (Only perms) (name_by_veil t h dir name perms living own (ap has_c (sym same) ∙ has) (free has)))
+            subst (Among (file_covers t table h (stays_on t h dir))) (sym same)
+            (file_by_name t h (stays_on t h dir) table (Only perms)
+            (name_by_veil t h (stays_on t h dir) dir name perms living (on_own t h dir) own (ap has_c (sym same) ∙ has) (free has)))
         by None own has =
             let same : left ≡ cover_in t h dir = over ∙ ap (λ o. own_or o (cover_in t h dir)) own in
             let with_c : has_c (cover_in t h dir) ≡ true = ap has_c (sym same) ∙ has in
-            subst (Among (file_covers t table h)) (sym same)
-            (file_by_open t h table (cover_in t h dir) (open_by t h dir living with_c))
+            subst (Among (file_covers t table h (stays_on t h dir))) (sym same)
+            (file_by_open t h (stays_on t h dir) table (cover_in t h dir) (open_by t h (stays_on t h dir) dir living (on_own t h dir) with_c))
 
   module _ (well : WellFormed t) (table : CallTable) (c : Call) where
     -- a directory that can be removed now is empty now
     abbrev empties : ℕ → Way → Bool
-    empties dir way = is_named_way way && (can_empty t h dir && (may_edit table h || not (list_any (λ row. row.0.0 == dir) t.rows)))
+    empties dir way = is_named_way way && (can_empty t h dir && (may_edit table h || (not (list_any (λ row. row.0.0 == dir) t.rows) && not (is_mount t dir))))
 
     removed : (dir : ℕ) (way : Way) → rmdir_fault table.whose t dir way ≡ None → empties dir way ≡ true
     removed dir Dot e = cc
     removed dir DotDot e = cc
     removed dir Top e = cc
     removed dir (Named over name) e =
-        let none : has_no_row t dir ≡ true = (and_parts (is_dir t dir) (has_no_row t dir) (emptied (is_empty t dir) e)).1 in
-        and_from (can_empty t h dir) _ (empty_can t h dir none) (or_right (may_edit table h) _ none)
-      where
-        emptied : (b : Bool) → option_map misfit_errno (cond b None (Some IsNotEmpty)) ≡ None → b ≡ true
-        emptied true e = refl
-        emptied false e = cc
+        let bare = emptied (is_mount t dir) (is_empty t dir) e in
+        let none : has_no_row t dir ≡ true = (and_parts (is_dir t dir) (has_no_row t dir) bare.1).1 in
+        and_from (can_empty t h dir) _ (empty_can t h dir none)
+        (or_right (may_edit table h) _ (and_from (has_no_row t dir) _ none (ap not bare.0)))
 
     -- what is allowed now is allowed under them
     allowed_still : (subject : Subject) → StandsNow subject → is_allowed (subject_verdict t table h c subject) ≡ true →

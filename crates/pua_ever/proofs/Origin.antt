@@ -2,7 +2,10 @@
 use Rattle.pua_ever.proofs.Common.{◌≡◌, ◌≢◌, ℕ, zero, suc, Bool, true, false, refl, sym, ap, subst, ◌∙◌, arith, Option, Some, None, ◌==◌}
 use Rattle.pua_ever.proofs.Common.{if◌then◌else◌, list_any, false≢true, eq-eqb, eqb-true, or_right, Tree, WellFormed, is_dir, above}
 use Rattle.pua_ever.proofs.Common.{Reaches, sound_from, row_of, ProcessState, has_veil, perms_kept, All, Only, has_c, own_or, cover_in}
-use Rattle.pua_ever.proofs.Common.{covers_descend, is_below}
+use Rattle.pua_ever.proofs.Common.{covers_descend, is_below, ◌⊎◌, and_from, inl, inr, is_mount, is_none}
+use Rattle.pua_tree.specs.Tree.{device}
+use Rattle.pua_ever.specs.Ever.{goes_along}
+use Rattle.pua_ever.proofs.Devices.{device_at, device_over_row}
 use Rattle.pua_tree.proofs.ForCallers.{above_dir}
 use Rattle.pua_policy.specs.declared.answer.Cover.TheVariants.{Nothing}
 use Rattle.pua_policy.specs.declared.place.Place.TheVariants as place
@@ -49,6 +52,7 @@ module _ (t : Tree) (well : WellFormed t) where
       pub veil : perms_kept h (place.Dir dir) ≡ Some perms
       pub cover : cover_in t h d ≡ Only perms
       pub below : is_below t dir d ≡ true
+      pub near : (device t dir ≡ device t d) ⊎ (goes_along t h (device t d) ≡ true)
 
     here : (d perms : ℕ) → is_dir t d ≡ true → perms_kept h (place.Dir d) ≡ Some perms → Origin d
     here d perms is e = record {
@@ -58,6 +62,7 @@ module _ (t : Tree) (well : WellFormed t) where
       veil = e;
       cover = own_cover d perms is e;
       below = below_self t well d d (eq-eqb d d refl) is;
+      near = inl refl;
     }
 
     origin_in : has_veil h.veils ≡ true → (steps d : ℕ) → Reaches t steps d → is_dir t d ≡ true → has_c (cover_in t h d) ≡ true →
@@ -80,6 +85,11 @@ module _ (t : Tree) (well : WellFormed t) where
             let row = row_of t (sound_from t well) d is up.0 in
             let same : cover_in t h d ≡ cover_in t h (above t d) = under_dir t h well row.0 d is row.1 e ∙ ap (cover_in t h) (sym row.2) in
             let from = more (ap has_c (sym same) ∙ has) in
+            let goes : is_mount t d ≡ true → goes_along t h (device t d) ≡ true =
+            λ mount. ap (goes_along t h) (device_at t well d is mount) ∙
+            and_from (is_none (perms_kept h (place.Dir d))) _ (ap is_none e) has in
+            let over : is_mount t d ≡ false → device t d ≡ device t (above t d) =
+            λ plain. device_over_row t well row.0 d row.1 is plain ∙ ap (device t) (sym row.2) in
             record {
               dir = from.dir;
               living = from.living;
@@ -87,6 +97,14 @@ module _ (t : Tree) (well : WellFormed t) where
               veil = from.veil;
               cover = same ∙ from.cover;
               below = below_over from.dir d is up.0 from.below;
+              near = elim (is_mount t d) as (λ b. is_mount t d ≡ b →
+                  (device t from.dir ≡ device t d) ⊎ (goes_along t h (device t d) ≡ true)) [
+                    | true ↦ λ mount. inr (goes mount)
+                    | false ↦ λ plain. elim from.near [
+                      | inl near ↦ inl (near ∙ sym (over plain))
+                      | inr along ↦ inr (ap (goes_along t h) (over plain) ∙ along)
+                    ]
+                  ] refl;
             }
 
     pub origin : has_veil h.veils ≡ true → (d : ℕ) → is_dir t d ≡ true → has_c (cover_in t h d) ≡ true → Origin d

@@ -13,6 +13,11 @@ use Rattle.pua_policy.specs.declared.place.Place.TheVariants as place
 use Rattle.pua_ever.proofs.Grown.{new_kind, moved_has_c}
 use Rattle.pua_ever.proofs.Covers.{given_or_new, dir_row, slot_row, own_dir, under_dir, living_dir, below_next}
 use Rattle.pua_ever.proofs.Quiet.{Quiet}
+use Rattle.pua_tree.specs.Tree.{device}
+use Rattle.pua_ever.specs.Ever.{is_on, kept_on}
+use Rattle.pua_ever.proofs.Common.{and_from, is_mount, is_none}
+use Rattle.pua_ever.proofs.Devices.{device_at, device_over_row}
+use Rattle.pua_ever.proofs.Ways.{all_within, anywhere, on_same}
 use Rattle.pua_ever.proofs.Ways.{way_by_c, way_by_name, way_by_turn, name_by_veil, open_by, open_among, moves_by, file_by_name}
 use Rattle.pua_ever.proofs.Ways.{file_by_open, file_by_dir, quiet_dir, quiet_name}
 
@@ -21,12 +26,24 @@ module _ (table : CallTable) (t0 : Tree) (h : ProcessState) (well0 : WellFormed 
   abbrev pub Fixed : Spot → ℕ → Type 0
   Fixed s x = (look t0 s.0 s.1 ≡ Some x) × (can_move table h (row_cover t0 h s x) ≡ false)
 
-  -- a thing that stood in a row by which it can be moved, or in one by which link gives it a further name, or was made since
-  pub data Origin (x : ℕ) : Type 0 where
-    stood : (r : Spot) → look t0 r.0 r.1 ≡ Some x → can_move table h (row_cover t0 h r x) ≡ true → Origin x
+  -- the devices under whose covers things come that are in a directory
+  abbrev pub kept_in : Tree → ℕ → Option ℕ
+  kept_in u d = kept_on t0 h (device u d)
+
+  -- a thing that stood in a row by which it can be moved, or in one by which link gives it a further name, or was made since: on this device,
+  -- if it is no directory
+  pub data Origin (on x : ℕ) : Type 0 where
+    stood : (r : Spot) → look t0 r.0 r.1 ≡ Some x → can_move table h (row_cover t0 h r x) ≡ true →
+        (is_dir t0 x ≡ false → device t0 r.0 ≡ on) → Origin on x
     linked : (r : Spot) → look t0 r.0 r.1 ≡ Some x → is_dir t0 x ≡ false → can_link table h (kind_at t0 x) (row_cover t0 h r x) ≡ true →
-        Origin x
-    since : t0.next ≤ x → Origin x
+        device t0 r.0 ≡ on → Origin on x
+    since : t0.next ≤ x → Origin on x
+
+  -- and on another, if that is the same
+  pub origin_on : (m n x : ℕ) → ((r : Spot) → look t0 r.0 r.1 ≡ Some x → is_dir t0 x ≡ false → m ≡ n) → Origin m x → Origin n x
+  origin_on m n x same (stood r at can near) = stood r at can (λ plain. near plain ∙ same r at plain)
+  origin_on m n x same (linked r at plain can near) = linked r at plain can (near ∙ same r at plain)
+  origin_on m n x same (since from) = since from
 
   -- how a directory can stand in a directory without `c`
   pub data Entrance (s : Spot) (x : ℕ) : Type 0 where
@@ -36,14 +53,15 @@ module _ (table : CallTable) (t0 : Tree) (h : ProcessState) (well0 : WellFormed 
     still : look t0 s.0 s.1 ≡ Some x → is_dir t0 x ≡ true → has_c (cover_in t0 h x) ≡ true → Entrance s x
 
   pub record Came (u : Tree) (s : Spot) (x : ℕ) : Type 0 where
-    pub origin : Origin x
+    pub origin : Origin (device u s.0) x
     pub file : is_dir u x ≡ false → is_dir t0 s.0 ≡ true → has_c (own_or (perms_kept h (place.Slot s.0 s.1)) (cover_in t0 h s.0)) ≡ true
     pub dir : is_dir u x ≡ true → is_dir t0 s.0 ≡ true → has_c (cover_in t0 h s.0) ≡ false → Entrance s x
-    pub inner : is_dir u x ≡ false → t0.next ≤ s.0 → (has_c (cover_in u h s.0) ≡ true) ⊎ (some_dir_moves t0 table h ≡ true)
+    pub inner : is_dir u x ≡ false → t0.next ≤ s.0 → (has_c (cover_in u h s.0) ≡ true) ⊎ (some_dir_moves t0 table h (kept_in u s.0) ≡ true)
 
   pub record Known (u : Tree) (x : ℕ) : Type 0 where
     pub made : New
     pub kinds : kind_at u x ≡ Some (new_kind table made)
+    pub plain : is_mount u x ≡ false
     pub can : can_make t0 table h made ≡ true
 
   pub record Stays (u : Tree) : Type 0 where
@@ -53,6 +71,7 @@ module _ (table : CallTable) (t0 : Tree) (h : ProcessState) (well0 : WellFormed 
     pub old : (x : ℕ) → x < t0.next → is_living u x ≡ true → node_at u x ≡ node_at t0 x
     pub young : (x : ℕ) → t0.next ≤ x → is_living u x ≡ true → Known u x
     pub next : t0.next ≤ u.next
+    pub devices : (d : ℕ) → is_dir t0 d ≡ true → is_dir u d ≡ true → device u d ≡ device t0 d
     pub quiet : (y : ℕ) → y ≢ 0 → has_c_outside t0 h y ≡ false → Quiet h y u
 
   -- it is so at the beginning
@@ -64,6 +83,7 @@ module _ (table : CallTable) (t0 : Tree) (h : ProcessState) (well0 : WellFormed 
     old = λ x below lives. refl;
     young = λ x from lives. let below = below_next t0 h well0 x lives in absurd (omega arith);
     next = omega arith;
+    devices = λ d was is. refl;
     quiet = λ y n none. record {
       dirs = λ d is outside. quiet_dir t0 h y d none is outside;
       names = λ d name perms is outside e. quiet_name t0 h y d name perms none is outside e;
@@ -76,7 +96,7 @@ module _ (table : CallTable) (t0 : Tree) (h : ProcessState) (well0 : WellFormed 
       by : (s : Spot) (x : ℕ) → look t0 s.0 s.1 ≡ Some x → (b : Bool) → can_move table h (row_cover t0 h s x) ≡ b → Fixed s x ⊎ Came t0 s x
       by s x e false is = inl (e, is)
       by s x e true is = inr (record {
-        origin = stood s e is;
+        origin = stood s e is (λ plain. refl);
         file = λ other lives. ap has_c (sym (slot_row t0 h well0 s x other)) ∙ has s x is;
         dir = λ dir lives lacks. still e dir (ap has_c (sym (dir_row t0 h well0 s x dir)) ∙ has s x is);
         inner = λ other from. let below = below_next t0 h well0 s.0 (living_dir t0 h well0 s.0 (row_says t0 (sound_from t0 well0) s x e).0) in
@@ -86,7 +106,7 @@ module _ (table : CallTable) (t0 : Tree) (h : ProcessState) (well0 : WellFormed 
   -- what a directory is covered by: as at the beginning, or as one that can come somewhere
   pub data DirUnder (u : Tree) (d : ℕ) : Type 0 where
     at_rest : is_dir t0 d ≡ true → cover_in u h d ≡ cover_in t0 h d → DirUnder u d
-    come : Among (dir_covers t0 h) (cover_in u h d) → perms_kept h (place.Dir d) ≡ None →
+    come : Among (dir_covers t0 h (kept_in u d)) (cover_in u h d) → perms_kept h (place.Dir d) ≡ None →
         (is_dir t0 d ≡ true → can_move table h (cover_in t0 h d) ≡ true) → DirUnder u d
 
   module _ (u : Tree) (k : Stays u) where
@@ -127,48 +147,73 @@ module _ (table : CallTable) (t0 : Tree) (h : ProcessState) (well0 : WellFormed 
         by None is = inl (rw is refl)
         by (Some y) is = elim (at y is (has_c (row_cover t0 h s y)) refl) [ inl has ↦ inl (rw (is, has) refl) | inr fixed ↦ inr fixed ]
 
+    -- a directory of the beginning is on its device
+    on_it : (d : ℕ) → is_dir t0 d ≡ true → is_dir u d ≡ true → is_on t0 (kept_in u d) d ≡ true
+    on_it d was is = on_same t0 h d (device u d) (sym (k.devices d was is))
+
     -- the cover of a directory that has `c` at the beginning and lies still is one that things can come under
-    rest_way : (d : ℕ) → is_dir t0 d ≡ true → cover_in u h d ≡ cover_in t0 h d → has_c (cover_in t0 h d) ≡ true →
-        Among (dir_covers t0 h) (cover_in u h d)
-    rest_way d is same has = subst (Among (dir_covers t0 h)) (sym same) (way_by_c t0 h d is has)
+    rest_way : (d : ℕ) → is_dir t0 d ≡ true → is_dir u d ≡ true → cover_in u h d ≡ cover_in t0 h d → has_c (cover_in t0 h d) ≡ true →
+        Among (dir_covers t0 h (kept_in u d)) (cover_in u h d)
+    rest_way d was is same has = subst (Among (dir_covers t0 h (kept_in u d))) (sym same) (way_by_c t0 h (kept_in u d) d was (on_it d was is) has)
 
     -- a directory that came where it has no veil of its own
     came_under : (s : Spot) (d : ℕ) → look u s.0 s.1 ≡ Some d → is_dir u d ≡ true → perms_kept h (place.Dir d) ≡ None → Came u s d →
         DirUnder u s.0 → DirUnder u d
     came_under s d e is none came over =
-        come (subst (Among (dir_covers t0 h)) (sym (under_dir u h k.well s d is e none)) (by over)) none (had came.origin)
+        come (subst (Among (dir_covers t0 h (kept_in u d))) (sym (under_dir u h k.well s d is e none)) (moved (by over))) none (had came.origin)
       where
-        had : Origin d → is_dir t0 d ≡ true → can_move table h (cover_in t0 h d) ≡ true
-        had (stood r at can) dir = ap (can_move table h) (sym (dir_row t0 h well0 r d dir)) ∙ can
-        had (linked r at plain can) dir = absurd (false≢true (sym plain ∙ dir))
+        had : Origin (device u s.0) d → is_dir t0 d ≡ true → can_move table h (cover_in t0 h d) ≡ true
+        had (stood r at can near) dir = ap (can_move table h) (sym (dir_row t0 h well0 r d dir)) ∙ can
+        had (linked r at plain can near) dir = absurd (false≢true (sym plain ∙ dir))
         had (since from) dir = let below = below_next t0 h well0 d (living_dir t0 h well0 d dir) in absurd (omega arith)
 
-        entered : is_dir t0 s.0 ≡ true → has_c (cover_in t0 h s.0) ≡ false → Entrance s d → Among (dir_covers t0 h) (cover_in t0 h s.0)
+        over_lives : is_dir u s.0 ≡ true
+        over_lives = (row_says u su s d e).0
+
+        -- a mount point that came goes along
+        goes : is_mount u d ≡ true → kept_in u d ≡ None
+        goes mount = elim (given_or_new t0 d) [
+          | inl below ↦ (let dir = old_dir d below is in
+              ap (kept_on t0 h) (device_at u k.well d is mount) ∙
+              anywhere t0 h d (and_from (is_none (perms_kept h (place.Dir d))) _ (ap is_none none)
+              (moved_has_c table h (cover_in t0 h d) (had came.origin dir))))
+          | inr from ↦ absurd (false≢true (sym (k.young d from (living_dir u h k.well d is)).plain ∙ mount))
+        ]
+
+        moved : Among (dir_covers t0 h (kept_in u s.0)) (cover_in u h s.0) → Among (dir_covers t0 h (kept_in u d)) (cover_in u h s.0)
+        moved a = elim (is_mount u d) as (λ b. is_mount u d ≡ b → Among (dir_covers t0 h (kept_in u d)) (cover_in u h s.0)) [
+          | true ↦ λ mount. subst (λ on. Among (dir_covers t0 h on) (cover_in u h s.0)) (sym (goes mount))
+              (all_within t0 h (kept_in u s.0) (cover_in u h s.0) a)
+          | false ↦ λ plain. subst (λ n. Among (dir_covers t0 h (kept_on t0 h n)) (cover_in u h s.0)) (sym (device_over_row u k.well s d e is plain)) a
+        ] refl
+
+        entered : is_dir t0 s.0 ≡ true → has_c (cover_in t0 h s.0) ≡ false → Entrance s d →
+            Among (dir_covers t0 h (kept_in u s.0)) (cover_in t0 h s.0)
         entered lives lacks (by_veil perms is_kept has) = elim (free_or_fixed s d e) [
-          | inl free ↦ way_by_name t0 h s.0 s.1 perms lives is_kept has free
-          | inr fixed ↦ way_by_c t0 h s.0 lives (absurd (fixed_never fixed))
+          | inl free ↦ way_by_name t0 h (kept_in u s.0) s.0 s.1 perms lives (on_it s.0 lives over_lives) is_kept has free
+          | inr fixed ↦ absurd (fixed_never fixed)
         ]
           where
             fixed_never : Fixed s d → ⊥
             fixed_never fixed = never fixed came.origin
               where
-                never : Fixed s d → Origin d → ⊥
-                never fixed (stood r at can) =
+                never : Fixed s d → Origin (device u s.0) d → ⊥
+                never fixed (stood r at can near) =
                     let dir : is_dir t0 d ≡ true = dir_then s s d fixed.0 e is in
                     false≢true (sym fixed.1 ∙ ap (can_move table h) (dir_row t0 h well0 s d dir ∙ sym (dir_row t0 h well0 r d dir)) ∙ can)
-                never fixed (linked r at plain can) = false≢true (sym plain ∙ dir_then s s d fixed.0 e is)
+                never fixed (linked r at plain can near) = false≢true (sym plain ∙ dir_then s s d fixed.0 e is)
                 never fixed (since from) =
                     let below = below_next t0 h well0 d (row_says t0 (sound_from t0 well0) s d fixed.0).2 in absurd (omega arith)
-        entered lives lacks (turned y at dir has empty more) = way_by_turn t0 h s.0 s.1 y lives at dir has empty more
+        entered lives lacks (turned y at dir has empty more) = way_by_turn t0 h (kept_in u s.0) s.0 s.1 y lives (on_it s.0 lives over_lives) at dir has empty more
         entered lives lacks (still at dir has) =
             absurd (false≢true (sym lacks ∙ ap has_c (sym (under_dir t0 h well0 s d dir at none)) ∙ has))
 
-        by : DirUnder u s.0 → Among (dir_covers t0 h) (cover_in u h s.0)
+        by : DirUnder u s.0 → Among (dir_covers t0 h (kept_in u s.0)) (cover_in u h s.0)
         by (come a n l) = a
         by (at_rest lives same) = elim (has_c (cover_in t0 h s.0)) as (λ b. has_c (cover_in t0 h s.0) ≡ b →
-            Among (dir_covers t0 h) (cover_in u h s.0)) [
-              | true ↦ λ has. rest_way s.0 lives same has
-              | false ↦ λ lacks. subst (Among (dir_covers t0 h)) (sym same) (entered lives lacks (came.dir is lives lacks))
+            Among (dir_covers t0 h (kept_in u s.0)) (cover_in u h s.0)) [
+              | true ↦ λ has. rest_way s.0 lives over_lives same has
+              | false ↦ λ lacks. subst (Among (dir_covers t0 h (kept_in u s.0))) (sym same) (entered lives lacks (came.dir is lives lacks))
             ] refl
 
     -- a directory that stays where it was is covered as what it stands in, which can't be moved either
@@ -238,30 +283,31 @@ module _ (table : CallTable) (t0 : Tree) (h : ProcessState) (well0 : WellFormed 
     -- what a name is covered by at which nothing or no directory stands, if it has `c`
     pub name_under : (s : Spot) → is_dir u s.0 ≡ true → is_free t0 h s ≡ true →
         has_c (own_or (perms_kept h (place.Slot s.0 s.1)) (cover_in u h s.0)) ≡ true
-        → Among (name_covers t0 h ++ dir_covers t0 h) (own_or (perms_kept h (place.Slot s.0 s.1)) (cover_in u h s.0))
+        → Among (name_covers t0 h None ++ dir_covers t0 h None) (own_or (perms_kept h (place.Slot s.0 s.1)) (cover_in u h s.0))
     name_under s is free = by (perms_kept h (place.Slot s.0 s.1)) refl
       where
-        at_dir : DirUnder u s.0 → has_c (cover_in u h s.0) ≡ true → Among (dir_covers t0 h) (cover_in u h s.0)
-        at_dir (come a n l) has = a
-        at_dir (at_rest lives same) has = rest_way s.0 lives same (ap has_c (sym same) ∙ has)
+        at_dir : DirUnder u s.0 → has_c (cover_in u h s.0) ≡ true → Among (dir_covers t0 h None) (cover_in u h s.0)
+        at_dir (come a n l) has = all_within t0 h (kept_in u s.0) (cover_in u h s.0) a
+        at_dir (at_rest lives same) has =
+            all_within t0 h (kept_in u s.0) (cover_in u h s.0) (rest_way s.0 lives is same (ap has_c (sym same) ∙ has))
 
         by : (o : Option ℕ) → perms_kept h (place.Slot s.0 s.1) ≡ o → has_c (own_or o (cover_in u h s.0)) ≡ true →
-            Among (name_covers t0 h ++ dir_covers t0 h) (own_or o (cover_in u h s.0))
+            Among (name_covers t0 h None ++ dir_covers t0 h None) (own_or o (cover_in u h s.0))
         by (Some perms) e has =
-            among_left (name_covers t0 h) (dir_covers t0 h) (Only perms)
-            (name_by_veil t0 h s.0 s.1 perms (old_dir s.0 (stand (place.Slot s.0 s.1) perms e) is) e has free)
-        by None e has = among_right (name_covers t0 h) (dir_covers t0 h) (cover_in u h s.0) (at_dir (dir_under s.0 is) has)
+            among_left (name_covers t0 h None) (dir_covers t0 h None) (Only perms)
+            (name_by_veil t0 h None s.0 s.1 perms (old_dir s.0 (stand (place.Slot s.0 s.1) perms e) is) refl e has free)
+        by None e has = among_right (name_covers t0 h None) (dir_covers t0 h None) (cover_in u h s.0) (at_dir (dir_under s.0 is) has)
 
     -- what is no directory: it stays as it was, or came under one of the covers
     pub file_under : (s : Spot) (x : ℕ) → look u s.0 s.1 ≡ Some x → is_dir u x ≡ false →
-        Fixed s x ⊎ (Came u s x × Among (file_covers t0 table h) (row_cover u h s x))
+        Fixed s x ⊎ (Came u s x × Among (file_covers t0 table h (kept_in u s.0)) (row_cover u h s x))
     file_under s x e other = elim (k.rows s x e) [
       | inl fixed ↦ inl fixed
       | inr came ↦ elim (free_or_fixed s x e) [
         | inr fixed ↦ inl fixed
         | inl free ↦ inr (
           came,
-          subst (Among (file_covers t0 table h)) (sym (slot_row u h k.well s x other)) (by came free (perms_kept h (place.Slot s.0 s.1)) refl),
+          subst (Among (file_covers t0 table h (kept_in u s.0))) (sym (slot_row u h k.well s x other)) (by came free (perms_kept h (place.Slot s.0 s.1)) refl),
         )
       ]
     ]
@@ -270,28 +316,31 @@ module _ (table : CallTable) (t0 : Tree) (h : ProcessState) (well0 : WellFormed 
         lives = (row_says u su s x e).0
 
         -- a file in it can be moved with a directory of the beginning
-        with_old : (d : ℕ) → is_dir t0 d ≡ true → can_move table h (cover_in t0 h d) ≡ true → some_dir_moves t0 table h ≡ true
-        with_old d dir can =
-            moves_by t0 h table (cover_in t0 h d) (open_by t0 h d dir (moved_has_c table h (cover_in t0 h d) can)) can
+        with_old : is_dir t0 s.0 ≡ true → can_move table h (cover_in t0 h s.0) ≡ true → some_dir_moves t0 table h (kept_in u s.0) ≡ true
+        with_old dir can =
+            moves_by t0 h (kept_in u s.0) table (cover_in t0 h s.0)
+            (open_by t0 h (kept_in u s.0) s.0 dir (on_it s.0 dir lives) (moved_has_c table h (cover_in t0 h s.0) can)) can
 
-        at_dir : Came u s x → perms_kept h (place.Slot s.0 s.1) ≡ None → DirUnder u s.0 → Among (file_covers t0 table h) (cover_in u h s.0)
+        at_dir : Came u s x → perms_kept h (place.Slot s.0 s.1) ≡ None → DirUnder u s.0 → Among (file_covers t0 table h (kept_in u s.0)) (cover_in u h s.0)
         at_dir came none (at_rest dir same) =
             let has : has_c (cover_in t0 h s.0) ≡ true = ap (λ o. has_c (own_or o (cover_in t0 h s.0))) (sym none) ∙ came.file other dir in
-            file_by_open t0 h table (cover_in u h s.0) (subst (Among (open_covers t0 h)) (sym same) (open_by t0 h s.0 dir has))
+            file_by_open t0 h (kept_in u s.0) table (cover_in u h s.0)
+            (subst (Among (open_covers t0 h (kept_in u s.0))) (sym same) (open_by t0 h (kept_in u s.0) s.0 dir (on_it s.0 dir lives) has))
         at_dir came none (come a n had) = elim (given_or_new t0 s.0) [
-          | inl below ↦ (let dir = old_dir s.0 below lives in file_by_dir t0 h table (cover_in u h s.0) a (with_old s.0 dir (had dir)))
+          | inl below ↦ (let dir = old_dir s.0 below lives in file_by_dir t0 h (kept_in u s.0) table (cover_in u h s.0) a (with_old dir (had dir)))
           | inr from ↦ elim (came.inner other from) [
-            | inl has ↦ file_by_open t0 h table (cover_in u h s.0) (open_among t0 h (cover_in u h s.0) a has)
-            | inr some ↦ file_by_dir t0 h table (cover_in u h s.0) a some
+            | inl has ↦ file_by_open t0 h (kept_in u s.0) table (cover_in u h s.0) (open_among t0 h (kept_in u s.0) (cover_in u h s.0) a has)
+            | inr some ↦ file_by_dir t0 h (kept_in u s.0) table (cover_in u h s.0) a some
           ]
         ]
 
         by : Came u s x → is_free t0 h s ≡ true → (o : Option ℕ) → perms_kept h (place.Slot s.0 s.1) ≡ o →
-            Among (file_covers t0 table h) (own_or o (cover_in u h s.0))
+            Among (file_covers t0 table h (kept_in u s.0)) (own_or o (cover_in u h s.0))
         by came free (Some perms) is =
             let dir = old_dir s.0 (stand (place.Slot s.0 s.1) perms is) lives in
             let has : has_c (Only perms) ≡ true = ap (λ o. has_c (own_or o (cover_in t0 h s.0))) (sym is) ∙ came.file other dir in
-            file_by_name t0 h table (Only perms) (name_by_veil t0 h s.0 s.1 perms dir is has free)
+            file_by_name t0 h (kept_in u s.0) table (Only perms)
+            (name_by_veil t0 h (kept_in u s.0) s.0 s.1 perms dir (on_it s.0 dir lives) is has free)
         by came free None is = at_dir came is (dir_under s.0 lives)
 
     -- a directory in which nothing stands could come to be empty at the beginning

@@ -1,11 +1,12 @@
 -- The calls of a thing, by what was found for them.
 use Rattle.pua_ever.proofs.Common.{◌≡◌, ◌⊎◌, ℕ, List, [], ◌∷◌, Bool, true, false, cond, refl, sym, ap, ◌∙◌, inl, inr, Option, Some, None}
 use Rattle.pua_ever.proofs.Common.{option_map, not, ◌&&◌, ◌||◌, ◌==◌, is_none, list_any, list_all, false≢true, and_parts, and_from, Tree}
-use Rattle.pua_ever.proofs.Common.{Spot, is_dir, is_empty, has_no_row, empty_tree, misfit_errno, IsNotEmpty, Way, Named, Top, Dot, DotDot}
+use Rattle.pua_ever.proofs.Common.{Spot, is_dir, is_empty, has_no_row, empty_tree, Way, Named, Top, Dot, DotDot}
 use Rattle.pua_ever.proofs.Common.{Whole, CallTable, rule_of, has, keeps_link, ProcessState, perms_kept, may_any, object_seen, Object, IsDir}
 use Rattle.pua_ever.proofs.Common.{object_fault, cover_fault, or_fault, allowed_unless, if_promised, covered_verdict, is_allowed, Call}
 use Rattle.pua_ever.proofs.Common.{Cover, May, has_c, At, cover_in, row_cover, can_empty, dir_covers, may_edit, removable_dir, lasting_dir}
-use Rattle.pua_ever.proofs.Common.{is_named_way, is_allowed_under, is_ever_allowed, EditsNeedC, can_move, may_rename, is_yes, or_left}
+use Rattle.pua_ever.proofs.Common.{is_named_way, is_allowed_under, is_ever_allowed, EditsNeedC, can_move, may_rename, is_yes, or_left, is_mount}
+use Rattle.pua_policy.specs.Misfits.{misfit_errno, named_misfit}
 use Rattle.pua_ever.proofs.Grown.{moved_has_c}
 use Rattle.pua_path.specs.declared.errno.Errno.{Errno}
 use Rattle.pua_calls.specs.declared.call.Call.TheVariants as call
@@ -15,7 +16,9 @@ use Rattle.pua_policy.specs.declared.object.Object as seen
 use Rattle.pua_policy.specs.declared.object.Object.TheVariants as see
 use Rattle.pua_tree.specs.declared.node.Kind.TheVariants as kind
 use Rattle.pua_script.proofs.ForCallers.{c_from_cover}
-use Rattle.pua_ever.specs.Ever.{can_allow, ever_covers}
+use Rattle.pua_ever.specs.Ever.{can_allow, ever_covers, stays_on}
+use Rattle.pua_ever.specs.Movable.{IsMovable}
+use Rattle.pua_ever.specs.declared.movable.Movable.{Movable}
 use Rattle.pua_ever.specs.Prospects.{IsProspects}
 use Rattle.pua_ever.specs.declared.prospects.Prospects.{Prospects}
 use Rattle.pua_calls.specs.declared.rules.Rules.{Rules}
@@ -91,6 +94,12 @@ module _ (t : Tree) (h : ProcessState) where
   pub empty_can : (dir : ℕ) → not (list_any (λ row. row.0.0 == dir) t.rows) ≡ true → can_empty t h dir ≡ true
   empty_can dir none = empty_rows dir t.rows none
 
+-- a directory that can be removed by its name is empty, and nothing is mounted there
+pub emptied : (mount empty : Bool) → option_map misfit_errno (named_misfit mount empty) ≡ None → (mount ≡ false) × (empty ≡ true)
+emptied false true e = (refl, refl)
+emptied true empty e = cc
+emptied false false e = cc
+
 -- who may rename may edit the tree
 rename_edits : (table : CallTable) (h : ProcessState) → may_rename table h ≡ true → may_edit table h ≡ true
 rename_edits table h both =
@@ -98,16 +107,17 @@ rename_edits table h both =
     (and_parts (is_yes (may_any h table.rename.old.needs.alternatives)) _ both).1
 
 module _ (t : Tree) (table : CallTable) (h : ProcessState) (p : Prospects) (is : IsProspects t table h p) where
-  module _ (dir : ℕ) (way : Way) (living : is_dir t dir ≡ true) where
+  module _ (dir : ℕ) (way : Way) (living : is_dir t dir ≡ true) (m : Movable) (finds : IsMovable t table h (stays_on t h dir) m) where
     abbrev moves : Bool
     moves = is_none (perms_kept h (place.Dir dir)) && can_move table h (cover_in t h dir)
 
     abbrev stays : Bool
-    stays = list_any (λ other. other == dir) p.held.items
+    stays = list_any (λ other. other == dir) p.destinations.held.items
 
     -- whether rmdir is asked of it
     abbrev empties : Bool
-    empties = is_named_way way && (can_empty t h dir && (may_edit table h || not (list_any (λ row. row.0.0 == dir) t.rows)))
+    empties = is_named_way way && (can_empty t h dir && (may_edit table h || (not (list_any (λ row. row.0.0 == dir) t.rows)
+        && not (is_mount t dir))))
 
     -- a directory is no file
     dir_allows : (covers : List Cover) (b : Bool) (call : Call) →
@@ -115,25 +125,25 @@ module _ (t : Tree) (table : CallTable) (h : ProcessState) (p : Prospects) (is :
     dir_allows covers true call = refl
     dir_allows covers false call = refl
 
-    under : (call : Call) (covers : List Cover) → ever_covers moves (cover_in t h dir) (dir_covers t h) ≡ covers →
+    under : (call : Call) (covers : List Cover) → ever_covers moves (cover_in t h dir) (dir_covers t h (stays_on t h dir)) ≡ covers →
         is_allowed_under table h covers (dir_as empties) call ≡ is_ever_allowed t table h (At (Whole dir way)) call
     under call covers same =
         ap (λ cs. is_allowed_under table h cs (dir_as empties) call) (sym same)
-        ∙ dir_allows (ever_covers moves (cover_in t h dir) (dir_covers t h)) empties call
-        ∙ ap (λ b. b && can_allow table h false (ever_covers moves (cover_in t h dir) (dir_covers t h)) (dir_as empties) call)
+        ∙ dir_allows (ever_covers moves (cover_in t h dir) (dir_covers t h (stays_on t h dir))) empties call
+        ∙ ap (λ b. b && can_allow table h false (ever_covers moves (cover_in t h dir) (dir_covers t h (stays_on t h dir))) (dir_as empties) call)
         (sym (or-true (keeps_link call)))
 
     -- one that can be moved
     pub moved_calls : moves ≡ true → (emptied : Bool) → emptied ≡ (is_named_way way && not stays)
-        → (call : Call) → has (cond emptied p.movable.emptied p.movable.dir) call ≡ is_ever_allowed t table h (At (Whole dir way)) call
+        → (call : Call) → has (cond emptied m.emptied m.dir) call ≡ is_ever_allowed t table h (At (Whole dir way)) call
     moved_calls can emptied same call =
         found emptied
-        ∙ ap (λ b. is_allowed_under table h (dir_covers t h) (dir_as b) call) (same ∙ test)
-        ∙ under call (dir_covers t h) (ap (λ b. cond b (dir_covers t h) (cover_in t h dir ∷ [])) can)
+        ∙ ap (λ b. is_allowed_under table h (dir_covers t h (stays_on t h dir)) (dir_as b) call) (same ∙ test)
+        ∙ under call (dir_covers t h (stays_on t h dir)) (ap (λ b. cond b (dir_covers t h (stays_on t h dir)) (cover_in t h dir ∷ [])) can)
       where
-        found : (b : Bool) → has (cond b p.movable.emptied p.movable.dir) call ≡ is_allowed_under table h (dir_covers t h) (dir_as b) call
-        found true = is.movable.emptied call
-        found false = is.movable.dir call
+        found : (b : Bool) → has (cond b m.emptied m.dir) call ≡ is_allowed_under table h (dir_covers t h (stays_on t h dir)) (dir_as b) call
+        found true = finds.emptied call
+        found false = finds.dir call
 
         can_be : can_move table h (cover_in t h dir) ≡ true
         can_be = (and_parts (is_none (perms_kept h (place.Dir dir))) _ can).1
@@ -148,7 +158,7 @@ module _ (t : Tree) (table : CallTable) (h : ProcessState) (p : Prospects) (is :
         test : (is_named_way way && not stays) ≡ empties
         test = ap (λ b. is_named_way way && b)
             (sym (is.held dir living (moved_has_c table h (cover_in t h dir) can_be)) ∙ sym (right (can_empty t h dir)) ∙
-            ap (λ b. can_empty t h dir && (b || not (list_any (λ row. row.0.0 == dir) t.rows))) (sym edits))
+            ap (λ b. can_empty t h dir && (b || (not (list_any (λ row. row.0.0 == dir) t.rows) && not (is_mount t dir)))) (sym edits))
 
     -- one that can't
     pub still_calls : EditsNeedC table → moves ≡ false → (object : seen.Object) →
@@ -160,10 +170,10 @@ module _ (t : Tree) (table : CallTable) (h : ProcessState) (p : Prospects) (is :
         allowed (dir_as removed) (same ∙ sees) call
         ∙ dir_passes table needs h (cover_in t h dir) removed empties call (λ has. agree has)
         ∙ last (is_allowed (covered_verdict empty_tree table h call (cover_in t h dir) (dir_as empties)))
-        ∙ under call (cover_in t h dir ∷ []) (ap (λ b. cond b (dir_covers t h) (cover_in t h dir ∷ [])) can)
+        ∙ under call (cover_in t h dir ∷ []) (ap (λ b. cond b (dir_covers t h (stays_on t h dir)) (cover_in t h dir ∷ [])) can)
       where
         empty_now : Way → Bool
-        empty_now way = is_named_way way && is_empty t dir
+        empty_now way = is_named_way way && (is_empty t dir && not (is_mount t dir))
 
         removed : Bool
         removed = ((is_named_way way && not stays) && may_edit table h) || empty_now way
@@ -173,12 +183,14 @@ module _ (t : Tree) (table : CallTable) (h : ProcessState) (p : Prospects) (is :
         seen_as false = refl
 
         own : (w : Way) → object_seen t (IsDir dir w) ≡ cond (empty_now w) see.Removable (see.Node kind.Dir)
-        own (Named parent name) = by (is_empty t dir)
+        own (Named parent name) = by (is_mount t dir) (is_empty t dir)
           where
-            by : (b : Bool) → cond (is_none (option_map misfit_errno (cond b None (Some IsNotEmpty)))) see.Removable (see.Node kind.Dir)
-                ≡ cond b see.Removable (see.Node kind.Dir)
-            by true = refl
-            by false = refl
+            by : (m b : Bool) → cond (is_none (option_map misfit_errno (named_misfit m b))) see.Removable (see.Node kind.Dir)
+                ≡ cond (b && not m) see.Removable (see.Node kind.Dir)
+            by true true = refl
+            by true false = refl
+            by false true = refl
+            by false false = refl
         own Top = refl
         own Dot = refl
         own DotDot = refl
@@ -196,10 +208,11 @@ module _ (t : Tree) (table : CallTable) (h : ProcessState) (p : Prospects) (is :
         agree : has_c (cover_in t h dir) ≡ true → removed ≡ empties
         agree has =
             (λ i. ((is_named_way way && sym (is.held dir living has) i) && may_edit table h)
-            || (is_named_way way && (living i && has_no_row t dir)))
-            ∙ tidy (is_named_way way) (can_empty t h dir) (may_edit table h) (has_no_row t dir) (empty_can t h dir)
+            || (is_named_way way && ((living i && has_no_row t dir) && not (is_mount t dir))))
+            ∙ tidy (is_named_way way) (can_empty t h dir) (may_edit table h) (has_no_row t dir && not (is_mount t dir))
+            (λ bare. empty_can t h dir (and_parts (has_no_row t dir) _ bare).0)
           where
-            tidy : (n c e r : Bool) → (r ≡ true → c ≡ true) → (((n && c) && e) || (n && (true && r))) ≡ (n && (c && (e || r)))
+            tidy : (n c e r : Bool) → (r ≡ true → c ≡ true) → (((n && c) && e) || (n && r)) ≡ (n && (c && (e || r)))
             tidy false c e r some = refl
             tidy true true true r some = refl
             tidy true true false r some = refl

@@ -6,12 +6,17 @@ use Rattle.pua_ever.proofs.Common.{perms_kept, IsMissing, covered_verdict, is_al
 use Rattle.pua_ever.proofs.Common.{covers_descend, row_cover, can_link, has_c_outside, some_dir_moves, New, is_allowed_under, name_covers, dir_covers, can_make, can_move, VeilsStand}
 use Rattle.pua_policy.specs.declared.place.Place.TheVariants as place
 use Rattle.pua_script.proofs.ForCallers.{spared_twice}
-use Rattle.pua_ever.proofs.Grown.{Grown, Written, by_name, by_turn, From, is_new, is_moved, is_linked, Makes, name_cover, moved_has_c}
-use Rattle.pua_ever.proofs.Ways.{any_among, open_by, open_among, moves_by}
+use Rattle.pua_ever.proofs.Grown.{Grown, Written, by_name, by_turn, From, IsNear, is_new, is_moved, is_linked, Makes, name_cover, moved_has_c}
+use Rattle.pua_tree.specs.Tree.{device}
+use Rattle.std.specs.Prelude.{cond, unwrap_or}
+use Rattle.pua_ever.proofs.Common.{Node}
+use Rattle.pua_ever.specs.Ever.{kept_on}
+use Rattle.pua_ever.proofs.Devices.{devices_keep}
+use Rattle.pua_ever.proofs.Ways.{any_among, on_same, open_by, open_among, moves_by}
 use Rattle.pua_ever.proofs.Covers.{dir_row, own_dir, under_dir, living_dir, below_next}
 use Rattle.pua_ever.proofs.Quiet.{quiet_then, never_turned, way_up}
 use Rattle.pua_ever.proofs.Origins.{Fixed, Origin, linked, since, Entrance, by_veil, turned, still, Came, Known, Stays, DirUnder, at_rest}
-use Rattle.pua_ever.proofs.Origins.{come, dir_under, fixed_covered, same_then, name_under, could_empty, free_then}
+use Rattle.pua_ever.proofs.Origins.{come, dir_under, fixed_covered, origin_on, same_then, name_under, could_empty, free_then}
 
 module _ (table : CallTable) (t0 : Tree) (h : ProcessState) (well0 : WellFormed t0) (stand : VeilsStand t0 h) where
   abbrev Came0 : Tree → Spot → ℕ → Type 0
@@ -20,7 +25,7 @@ module _ (table : CallTable) (t0 : Tree) (h : ProcessState) (well0 : WellFormed 
   abbrev Stays0 : Tree → Type 0
   Stays0 = Stays table t0 h well0 stand
 
-  abbrev Origin0 : ℕ → Type 0
+  abbrev Origin0 : ℕ → ℕ → Type 0
   Origin0 = Origin table t0 h well0 stand
 
   abbrev Entrance0 : Spot → ℕ → Type 0
@@ -40,23 +45,31 @@ module _ (table : CallTable) (t0 : Tree) (h : ProcessState) (well0 : WellFormed 
     lives : (s : Spot) (x : ℕ) → look u s.0 s.1 ≡ Some x → is_living u x ≡ true
     lives s x e = (row_says u (sound_from u well) s x e).2
 
+    -- a directory of both trees is on its device
+    on_device : (d : ℕ) → is_dir t d ≡ true → is_dir u d ≡ true → device u d ≡ device t d
+    on_device d was is = devices_keep table t u h k.well well grown d was is
+
     -- a row by which its thing can be moved, by the tree before, came with its origin
-    came_from : (r : Spot) (x : ℕ) → look t r.0 r.1 ≡ Some x → can_move table h (row_cover t h r x) ≡ true → Origin0 x
+    came_from : (r : Spot) (x : ℕ) → look t r.0 r.1 ≡ Some x → can_move table h (row_cover t h r x) ≡ true → Origin0 (device t r.0) x
     came_from r x e can = elim (k.rows r x e) [
       | inl fixed ↦ absurd (false≢true (sym fixed.1 ∙
           ap (can_move table h) (sym (fixed_covered table t0 h well0 stand t k r x e fixed)) ∙ can))
       | inr came ↦ came.origin
     ]
 
-    origin_of : (x : ℕ) → From table t h x → Origin0 x
-    origin_of x (is_new new) = since (let from = k.next in omega arith)
-    origin_of x (is_moved r e can) = came_from r x e can
-    origin_of x (is_linked r e plain can) = elim (k.rows r x e) [
+    origin_of : (to x : ℕ) (from : From table t h x) → IsNear table t h to x from → Origin0 (device t to) x
+    origin_of to x (is_new new) near = since (let from = k.next in omega arith)
+    origin_of to x (is_moved r e can) near =
+        origin_on table t0 h well0 stand (device t r.0) (device t to) x (λ was at plain.
+        let other : is_dir t x ≡ false = same_dir t0 t x (same_then table t0 h well0 stand t k was r x at e) ∙ plain in
+        sym (ap (λ b. cond b (device t x) (device t r.0)) other) ∙ near) (came_from r x e can)
+    origin_of to x (is_linked r e plain can) near = elim (k.rows r x e) [
       | inl fixed ↦ (let node = same_then table t0 h well0 stand t k r r x fixed.0 e in
           let covered = fixed_covered table t0 h well0 stand t k r x e fixed in
           linked r fixed.0 (sym (same_dir t0 t x node) ∙ plain)
-          ((λ i. can_link table h (ap (option_map (λ n. n.kind)) (sym node) i) (sym covered i)) ∙ can))
-      | inr came ↦ came.origin
+          ((λ i. can_link table h (ap (option_map (λ n. n.kind)) (sym node) i) (sym covered i)) ∙ can)
+          (sym (k.devices r.0 (row_says t0 (sound_from t0 well0) r x fixed.0).0 (row_says t (sound_from t k.well) r x e).0) ∙ near))
+      | inr came ↦ origin_on table t0 h well0 stand (device t r.0) (device t to) x (λ was at plain. near) came.origin
     ]
 
     -- a directory that has `c` now had it at the beginning, or is not of the beginning
@@ -65,54 +78,60 @@ module _ (table : CallTable) (t0 : Tree) (h : ProcessState) (well0 : WellFormed 
     had_c d dir (come a n had) has = moved_has_c table h (cover_in t0 h d) (had dir)
 
     -- a directory that can be moved is covered as one was that could be
-    movable_then : (d : ℕ) → Under0 t d → can_move table h (cover_in t h d) ≡ true → some_dir_moves t0 table h ≡ true
-    movable_then d (at_rest dir same) can =
+    movable_then : (d : ℕ) → is_dir t d ≡ true → Under0 t d → can_move table h (cover_in t h d) ≡ true →
+        some_dir_moves t0 table h (kept_on t0 h (device t d)) ≡ true
+    movable_then d is (at_rest dir same) can =
         let was : can_move table h (cover_in t0 h d) ≡ true = ap (can_move table h) (sym same) ∙ can in
-        moves_by t0 h table (cover_in t0 h d) (open_by t0 h d dir (moved_has_c table h (cover_in t0 h d) was)) was
-    movable_then d (come a n had) can =
-        moves_by t0 h table (cover_in t h d) (open_among t0 h (cover_in t h d) a (moved_has_c table h (cover_in t h d) can)) can
+        let on = kept_on t0 h (device t d) in
+        moves_by t0 h on table (cover_in t0 h d)
+        (open_by t0 h on d dir (on_same t0 h d (device t d) (sym (k.devices d dir is))) (moved_has_c table h (cover_in t0 h d) was)) was
+    movable_then d is (come a n had) can =
+        let on = kept_on t0 h (device t d) in
+        moves_by t0 h on table (cover_in t h d) (open_among t0 h on (cover_in t h d) a (moved_has_c table h (cover_in t h d) can)) can
 
-    -- where none could be moved, none is, and covers of directories stay
-    module _ (none : some_dir_moves t0 table h ≡ false) where
-      never_moved : (d : ℕ) → is_dir t d ≡ true → From table t h d → ⊥
-      never_moved d dir (is_new new) = let below = below_next t h k.well d (living_dir t h k.well d dir) in omega (arith, new)
-      never_moved d dir (is_linked r e plain can) = false≢true (sym plain ∙ dir)
-      never_moved d dir (is_moved r e can) =
-          false≢true (sym none ∙ movable_then d (dir_under table t0 h well0 stand t k d dir)
-          (ap (can_move table h) (sym (dir_row t h k.well r d dir)) ∙ can))
+    -- a directory whose cover is none by which anything is moved keeps it
+    never_moved : (d : ℕ) → is_dir t d ≡ true → can_move table h (cover_in t h d) ≡ false → From table t h d → ⊥
+    never_moved d dir stays (is_new new) = let below = below_next t h k.well d (living_dir t h k.well d dir) in omega (arith, new)
+    never_moved d dir stays (is_linked r e plain can) = false≢true (sym plain ∙ dir)
+    never_moved d dir stays (is_moved r e can) = false≢true (sym stays ∙ ap (can_move table h) (sym (dir_row t h k.well r d dir)) ∙ can)
 
-      covers_stay_in : (steps d : ℕ) → Reaches u steps d → is_dir u d ≡ true → is_dir t d ≡ true → cover_in u h d ≡ cover_in t h d
-      covers_stay_in zero d root is dir =
-          ap (cover_in u h) root ∙ (covers_descend u h well).root ∙ sym (covers_descend t h k.well).root ∙ ap (cover_in t h) (sym root)
-      covers_stay_in (suc steps) d up is dir = by (perms_kept h (place.Dir d)) refl (covers_stay_in steps (above u d) up.1)
-        where
-          by : (o : Option ℕ) → perms_kept h (place.Dir d) ≡ o
-              → (is_dir u (above u d) ≡ true → is_dir t (above u d) ≡ true → cover_in u h (above u d) ≡ cover_in t h (above u d))
-              → cover_in u h d ≡ cover_in t h d
-          by (Some perms) own rest = own_dir u h well d perms is up.0 own ∙ sym (own_dir t h k.well d perms dir up.0 own)
-          by None own rest =
-              let row = row_of u (sound_from u well) d is up.0 in
-              elim (grown.rows row.0 d row.1) [
-                | inl there ↦ (let over : cover_in u h row.0.0 ≡ cover_in t h row.0.0 =
-                    ap (cover_in u h) (sym row.2) ∙
-                    rest (ap (is_dir u) row.2 ∙ (row_says u (sound_from u well) row.0 d row.1).0)
-                    (ap (is_dir t) row.2 ∙ (row_says t (sound_from t k.well) row.0 d there).0) ∙
-                    ap (cover_in t h) row.2 in
-                    under_dir u h well row.0 d is row.1 own ∙ over ∙ sym (under_dir t h k.well row.0 d dir there own))
-                | inr put ↦ absurd (never_moved d dir put.from)
-              ]
-
-      covers_stay : (d : ℕ) → is_dir u d ≡ true → is_dir t d ≡ true → cover_in u h d ≡ cover_in t h d
-      covers_stay d is dir = let up = way_up u well 0 d is in covers_stay_in up.0 d up.1 is dir
-
-    -- so what had `c` in the tree before has it still, or something can be moved
-    stays_open : (d : ℕ) → is_dir u d ≡ true → is_dir t d ≡ true → has_c (cover_in t h d) ≡ true →
-        (has_c (cover_in u h d) ≡ true) ⊎ (some_dir_moves t0 table h ≡ true)
-    stays_open d is dir has = by (some_dir_moves t0 table h) refl
+    cover_stays_in : (steps d : ℕ) → Reaches u steps d → is_dir u d ≡ true → is_dir t d ≡ true → can_move table h (cover_in t h d) ≡ false →
+        cover_in u h d ≡ cover_in t h d
+    cover_stays_in zero d root is dir stays =
+        ap (cover_in u h) root ∙ (covers_descend u h well).root ∙ sym (covers_descend t h k.well).root ∙ ap (cover_in t h) (sym root)
+    cover_stays_in (suc steps) d up is dir stays = by (perms_kept h (place.Dir d)) refl (cover_stays_in steps (above u d) up.1)
       where
-        by : (b : Bool) → some_dir_moves t0 table h ≡ b → (has_c (cover_in u h d) ≡ true) ⊎ (some_dir_moves t0 table h ≡ true)
-        by true some = inr some
-        by false none = inl (ap has_c (covers_stay none d is dir) ∙ has)
+        by : (o : Option ℕ) → perms_kept h (place.Dir d) ≡ o
+            → (is_dir u (above u d) ≡ true → is_dir t (above u d) ≡ true → can_move table h (cover_in t h (above u d)) ≡ false →
+            cover_in u h (above u d) ≡ cover_in t h (above u d))
+            → cover_in u h d ≡ cover_in t h d
+        by (Some perms) own rest = own_dir u h well d perms is up.0 own ∙ sym (own_dir t h k.well d perms dir up.0 own)
+        by None own rest =
+            let row = row_of u (sound_from u well) d is up.0 in
+            elim (grown.rows row.0 d row.1) [
+              | inl there ↦ (let same = under_dir t h k.well row.0 d dir there own in
+                  let over : cover_in u h row.0.0 ≡ cover_in t h row.0.0 =
+                  ap (cover_in u h) (sym row.2) ∙
+                  rest (ap (is_dir u) row.2 ∙ (row_says u (sound_from u well) row.0 d row.1).0)
+                  (ap (is_dir t) row.2 ∙ (row_says t (sound_from t k.well) row.0 d there).0)
+                  (ap (λ e. can_move table h (cover_in t h e)) row.2 ∙ ap (can_move table h) (sym same) ∙ stays) ∙
+                  ap (cover_in t h) row.2 in
+                  under_dir u h well row.0 d is row.1 own ∙ over ∙ sym same)
+              | inr put ↦ absurd (never_moved d dir stays put.from)
+            ]
+
+    -- so what had `c` in the tree before has it still, or something can be moved there
+    stays_open : (d : ℕ) → is_dir u d ≡ true → is_dir t d ≡ true → has_c (cover_in t h d) ≡ true →
+        (has_c (cover_in u h d) ≡ true) ⊎ (some_dir_moves t0 table h (kept_on t0 h (device u d)) ≡ true)
+    stays_open d is dir has = by (can_move table h (cover_in t h d)) refl
+      where
+        by : (b : Bool) → can_move table h (cover_in t h d) ≡ b →
+            (has_c (cover_in u h d) ≡ true) ⊎ (some_dir_moves t0 table h (kept_on t0 h (device u d)) ≡ true)
+        by true can = inr (subst (λ n. some_dir_moves t0 table h (kept_on t0 h n) ≡ true) (sym (on_device d dir is))
+            (movable_then d dir (dir_under table t0 h well0 stand t k d dir) can))
+        by false stays =
+            let up = way_up u well 0 d is in
+            inl (ap has_c (cover_stays_in up.0 d up.1 is dir stays) ∙ has)
 
     -- what stood in a directory without `c` and had `c` gave way
     gave_way : (s : Spot) (y x : ℕ) → look t s.0 s.1 ≡ Some y → is_dir t y ≡ true → is_empty t y ≡ true → has_c (cover_in t h y) ≡ true →
@@ -172,11 +191,11 @@ module _ (table : CallTable) (t0 : Tree) (h : ProcessState) (well0 : WellFormed 
         gave_way s y x at (and_parts (is_dir t y) (has_no_row t y) empty).0 empty has is from dir lacks
 
     put_inner : (s : Spot) (x : ℕ) → look u s.0 s.1 ≡ Some x → is_dir t s.0 ≡ true → Written table t h s x → is_dir u x ≡ false →
-        t0.next ≤ s.0 → (has_c (cover_in u h s.0) ≡ true) ⊎ (some_dir_moves t0 table h ≡ true)
+        t0.next ≤ s.0 → (has_c (cover_in u h s.0) ≡ true) ⊎ (some_dir_moves t0 table h (kept_on t0 h (device u s.0)) ≡ true)
     put_inner s x e over (by_name has) other from = by (perms_kept h (place.Slot s.0 s.1)) refl (named_c s has)
       where
         by : (o : Option ℕ) → perms_kept h (place.Slot s.0 s.1) ≡ o → has_c (own_or o (cover_in t h s.0)) ≡ true →
-            (has_c (cover_in u h s.0) ≡ true) ⊎ (some_dir_moves t0 table h ≡ true)
+            (has_c (cover_in u h s.0) ≡ true) ⊎ (some_dir_moves t0 table h (kept_on t0 h (device u s.0)) ≡ true)
         by (Some perms) e has = let below : s.0 < t0.next = stand (place.Slot s.0 s.1) perms e in absurd (omega arith)
         by None own has = stays_open s.0 (row_says u (sound_from u well) s x e).0 over has
     put_inner s x e over (by_turn y at empty has is) other from =
@@ -187,18 +206,19 @@ module _ (table : CallTable) (t0 : Tree) (h : ProcessState) (well0 : WellFormed 
       | inl there ↦ elim (k.rows s x there) [
         | inl fixed ↦ inl fixed
         | inr came ↦ (let same = same_dir t u x (same_node x (row_says t (sound_from t k.well) s x there).2 (lives s x e)) in
+            let on = on_device s.0 (row_says t (sound_from t k.well) s x there).0 (row_says u (sound_from u well) s x e).0 in
             inr (record {
-              origin = came.origin;
+              origin = subst (λ n. Origin0 n x) (sym on) came.origin;
               file = λ other dir. came.file (sym same ∙ other) dir;
               dir = λ is dir lacks. came.dir (sym same ∙ is) dir lacks;
               inner = λ other from. elim (came.inner (sym same ∙ other) from) [
                 | inl has ↦ stays_open s.0 (row_says u (sound_from u well) s x e).0 (row_says t (sound_from t k.well) s x there).0 has
-                | inr some ↦ inr some
+                | inr some ↦ inr (subst (λ n. some_dir_moves t0 table h (kept_on t0 h n) ≡ true) (sym on) some)
               ];
             }))
       ]
       | inr put ↦ inr (record {
-        origin = origin_of x put.from;
+        origin = subst (λ n. Origin0 n x) (sym (on_device s.0 put.lives (row_says u (sound_from u well) s x e).0)) (origin_of s.0 x put.from put.near);
         file = λ other dir. put_file s x e put.lives put.written other dir;
         dir = λ is dir lacks. put_dir s x put.lives put.from put.written dir lacks;
         inner = λ other from. put_inner s x e put.lives put.written other from;
@@ -207,7 +227,7 @@ module _ (table : CallTable) (t0 : Tree) (h : ProcessState) (well0 : WellFormed 
 
     can : (made : New) → Makes table t h made → can_make t0 table h made ≡ true
     can made makes =
-        makes.makes (is_allowed_under table h (name_covers t0 h ++ dir_covers t0 h) IsMissing)
+        makes.makes (is_allowed_under table h (name_covers t0 h None ++ dir_covers t0 h None) IsMissing)
         (any_among (λ left. is_allowed (covered_verdict empty_tree table h makes.maker left IsMissing)) _ _
         (name_under table t0 h well0 stand t k makes.spot makes.lives (free_then table t0 h well0 stand t k makes.spot makes.free)
         (named_c makes.spot makes.covered))
@@ -217,8 +237,13 @@ module _ (table : CallTable) (t0 : Tree) (h : ProcessState) (well0 : WellFormed 
     young_then : (x : ℕ) → t0.next ≤ x → is_living u x ≡ true → Known table t0 h well0 stand u x
     young_then x from is = elim (grown.nodes x is) [
       | inl same ↦ (let was = k.young x from (sym (ap is_some same) ∙ is) in
-          record { made = was.made; kinds = ap (option_map (λ n. n.kind)) same ∙ was.kinds; can = was.can })
-      | inr born ↦ record { made = born.made; kinds = born.kinds; can = can born.made born.makes }
+          record {
+            made = was.made;
+            kinds = ap (option_map (λ n. n.kind)) same ∙ was.kinds;
+            plain = ap (λ o. unwrap_or (option_map (λ (n : Node). n.mount) o) false) same ∙ was.plain;
+            can = was.can;
+          })
+      | inr born ↦ record { made = born.made; kinds = born.kinds; plain = born.unmarked; can = can born.made born.makes }
     ]
 
     old_then : (x : ℕ) → x < t0.next → is_living u x ≡ true → node_at u x ≡ node_at t0 x
@@ -226,6 +251,17 @@ module _ (table : CallTable) (t0 : Tree) (h : ProcessState) (well0 : WellFormed 
       | inl same ↦ same ∙ k.old x below (sym (ap is_some same) ∙ is)
       | inr born ↦ (let new = born.new in let from = k.next in absurd (omega arith))
     ]
+
+    -- a directory of the beginning that lives lived all the while
+    devices_then : (d : ℕ) → is_dir t0 d ≡ true → is_dir u d ≡ true → device u d ≡ device t0 d
+    devices_then d was is = on_device d lived is ∙ k.devices d was lived
+      where
+        lived : is_dir t d ≡ true
+        lived = elim (grown.nodes d (living_dir u h well d is)) [
+          | inl same ↦ sym (same_dir t u d same) ∙ is
+          | inr born ↦ (let below = below_next t0 h well0 d (living_dir t0 h well0 d was) in let new = born.new in
+              let from = k.next in absurd (omega (arith, below, new, from)))
+        ]
 
     pub stays_then : Stays0 u
     stays_then = record {
@@ -235,5 +271,6 @@ module _ (table : CallTable) (t0 : Tree) (h : ProcessState) (well0 : WellFormed 
       old = old_then;
       young = young_then;
       next = let more = grown.next in let from = k.next in omega arith;
+      devices = devices_then;
       quiet = λ y n none. quiet_then table h t u k.well well grown spared y n (k.quiet y n none);
     }

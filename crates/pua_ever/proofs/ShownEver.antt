@@ -23,7 +23,10 @@ use Rattle.pua_objects.proofs.ForCallers.{failed}
 use Rattle.pua_ever.specs.EnclosedForEver.{EverInside, ForeseesInside, IsEnclosedIn, KeepInside, NoExecFrees}
 use Rattle.pua_ever.specs.ShownForEver.{is_inside, only_inside}
 use Rattle.pua_objects.specs.Roots.{stays_in}
-use Rattle.pua_ever.specs.Ever.{Thing, named_covers}
+use Rattle.pua_ever.specs.Ever.{Thing, kept_on, named_covers, stays_on}
+use Rattle.pua_tree.specs.Tree.{device}
+use Rattle.pua_ever.proofs.Devices.{devices_keep}
+use Rattle.pua_ever.proofs.Growing.{requests_grow}
 use Rattle.pua_ever.specs.Laws.{IsForeseenIn, IsLineOf, MembersEdit, NoExecLoosens, of_dir, of_name, of_new_dir, of_new_file, of_new_fifo, of_new_link, of_new_sock, of_new_others}
 use Rattle.pua_ever.specs.Laws.{of_others, of_row}
 use Rattle.pua_ever.proofs.Along.{stays_along}
@@ -33,7 +36,7 @@ use Rattle.pua_ever.proofs.Enclosing.{Enclosed}
 use Rattle.pua_ever.proofs.EnclosedAlong.{AreIn, enclosed_again, enclosed_along, enclosed_in, one_request, own_turns}
 use Rattle.pua_ever.proofs.Ending.{Listed, hit, home_of, named_linked, named_moved, parts_of, row_has, slot_of, slot_then}
 use Rattle.pua_ever.proofs.Execs.{members_along, members_still}
-use Rattle.pua_ever.proofs.Homes.{CanLeave, Home, Homes, homes_first, homes_then, inner_first, moves_from_home, row_given, ties_from_home}
+use Rattle.pua_ever.proofs.Homes.{LeavesTo, Home, Homes, homes_first, homes_then, inner_first, moves_from_home, row_given, ties_from_home}
 use Rattle.pua_ever.proofs.Inside.{dir_found, text_inside}
 use Rattle.pua_ever.proofs.InsideTrees.{keep_both, keep_none}
 use Rattle.pua_ever.proofs.Origins.{Stays, at_first, file_under}
@@ -87,7 +90,7 @@ module _ (table : CallTable) (t0 : Tree) (h : ProcessState) (well0 : WellFormed 
     then = sym (same_dir t0 u x same) ∙ other
 
     old_hit : (r : Spot) → look t0 r.0 r.1 ≡ Some x → (look t0 s.0 s.1 ≡ Some x → r ≡ s) → is_within t0 r.0 root ≡ true →
-        Among (named_covers t0 table h (kind_at t0 x) (cover t0 h (Slot r.0 r.1 (Some x)))) (cover u h (Slot s.0 s.1 (Some x))) →
+        Among (named_covers t0 table h (stays_on t0 h r.0) (kind_at t0 x) (cover t0 h (Slot r.0 r.1 (Some x)))) (cover u h (Slot s.0 s.1 (Some x))) →
         InsideHit (Slot s.0 s.1 (Some x))
     old_hit r at own inner_then a =
         let parts = parts_of (may_any h (rule_of table c).alternatives)
@@ -108,19 +111,20 @@ module _ (table : CallTable) (t0 : Tree) (h : ProcessState) (well0 : WellFormed 
         inner_first table t0 h well0 stand root u kept s.0 inner (row_given table t0 h well0 stand root s x at)) home.under
 
     -- it came there from its home
-    from_home : (look t0 s.0 s.1 ≡ Some x → ⊥) → Home table t0 h well0 stand root x → Among (file_covers t0 table h) (row_cover u h s x) →
-        InsideHit (Slot s.0 s.1 (Some x))
+    from_home : (look t0 s.0 s.1 ≡ Some x → ⊥) → Home table t0 h well0 stand root (device u s.0) x →
+        Among (file_covers t0 table h (kept_on t0 h (device u s.0))) (row_cover u h s x) → InsideHit (Slot s.0 s.1 (Some x))
     from_home never home a =
         old_hit home.row home.at (λ e. absurd (never e)) home.inner
         (elim home.leaves [
-          | inl can ↦ named_moved t0 table h (kind_at t0 x) (cover t0 h (Slot home.row.0 home.row.1 (Some x))) (cover u h (Slot s.0 s.1 (Some x)))
+          | inl can ↦ named_moved t0 table h (stays_on t0 h home.row.0) (kind_at t0 x) (cover t0 h (Slot home.row.0 home.row.1 (Some x))) (cover u h (Slot s.0 s.1 (Some x)))
               (ap (can_move table h) (sym (slot_then table t0 h well0 stand u k edit c home.row x then)) ∙ can) among
-          | inr ties ↦ named_linked t0 table h (kind_at t0 x) (cover t0 h (Slot home.row.0 home.row.1 (Some x))) (cover u h (Slot s.0 s.1 (Some x)))
+          | inr ties ↦ named_linked t0 table h (stays_on t0 h home.row.0) (kind_at t0 x) (cover t0 h (Slot home.row.0 home.row.1 (Some x))) (cover u h (Slot s.0 s.1 (Some x)))
               (ap (can_link table h (kind_at t0 x)) (sym (slot_then table t0 h well0 stand u k edit c home.row x then)) ∙ ties.1) among
         ])
       where
-        among : Among (file_covers t0 table h) (cover u h (Slot s.0 s.1 (Some x)))
-        among = subst (Among (file_covers t0 table h)) (slot_of table t0 h well0 stand u k edit c s x other) a
+        among : Among (file_covers t0 table h (stays_on t0 h home.row.0)) (cover u h (Slot s.0 s.1 (Some x)))
+        among = subst (Among (file_covers t0 table h (stays_on t0 h home.row.0))) (slot_of table t0 h well0 stand u k edit c s x other)
+            (subst (λ n. Among (file_covers t0 table h (kept_on t0 h n)) (row_cover u h s x)) (sym home.near) a)
 
     away : (look t0 s.0 s.1 ≡ Some x → ⊥) → InsideHit (Slot s.0 s.1 (Some x))
     away never = elim (homes s x row inner other below) [
@@ -198,10 +202,11 @@ module _ (table : CallTable) (sound : NoCallNeedsError table) (needs : EditsNeed
           let placed = in_root ask.process belongs in
           let same : placed.0 ≡ asker.0 = same_Some placed.0 asker.0 (sym placed.1 ∙ asker.1) in
           let enclosed : Enclosed w.tree root asker.0 = subst (Enclosed w.tree root) same placed.2 in
-          let turns = own_turns table w ask asker.0 asker.1 well root enclosed (CanLeave tmp now w.tree)
+          let turns = own_turns table w ask asker.0 asker.1 well root enclosed (LeavesTo tmp now w.tree)
           (moves_from_home table sound needs now w asker.0 asker.2.within well)
           (ties_from_home table sound needs now w asker.0 asker.2.within well) in
-          homes_then tmp t0 now well0 stand root table asker.0 w.tree (apply table w ask).1.tree k well_then enclosed.lives turns kept homes
+          homes_then tmp t0 now well0 stand root table asker.0 w.tree (apply table w ask).1.tree k well_then enclosed.lives turns
+          (devices_keep tmp w.tree (apply table w ask).1.tree asker.0 well well_then (requests_grow table needs w ask asker.0 well asker.1)) kept homes
 
   pub homes_along : (asks : List Asked) (w : World) (members : List ℕ) → Members w members now false → AreIn table root w members →
       TreesAlong table w asks → NoExecLoosens table now w asks members → NoExecFrees table w asks members → MembersEdit table w asks members →

@@ -1,6 +1,6 @@
 -- A file that could be started, were it a program, has its line.
 use Rattle.pua_ever.proofs.Common.{◌≡◌, ◌⊎◌, ◌≤◌, ◌<◌, ℕ, List, [], ◌++◌, Bool, true, false, cond, map, refl, sym, ap, subst, ◌∙◌, inl}
-use Rattle.pua_ever.proofs.Common.{inr, Some, not, ◌&&◌, ◌||◌, filter, flat_map, list_any, option_map, false≢true, and_parts, and_from}
+use Rattle.pua_ever.proofs.Common.{inr, None, Some, not, ◌&&◌, ◌||◌, filter, flat_map, list_any, option_map, false≢true, and_parts, and_from}
 use Rattle.pua_ever.proofs.Common.{or_left, or_right, Tree, WellFormed, Spot, is_dir, is_dir_kind, is_living, look, kind_at, sound_from, row_says}
 use Rattle.pua_ever.proofs.Common.{is_link_kind, Slot, CallTable, calls, rule_of, ProcessState, veils, may_any, Object, object_of_kind}
 use Rattle.pua_ever.proofs.Common.{object_fault, cover, cover_fault, Cover, Call, Subject, At, items, Among, map_among, among_filter}
@@ -17,7 +17,7 @@ use Rattle.pua_ever.specs.Ever.{may_start, may_start_at, new_object, starts_unde
 use Rattle.pua_ever.proofs.MadeKinds.{startable}
 use Rattle.pua_objects.proofs.ForCallers.{among_either, one_of_calls, some_of}
 use Rattle.pua_objects.specs.Objects.{is_named_by}
-use Rattle.pua_ever.specs.Ever.{can_allow, ever_calls, is_exec_call, is_new_allowed, is_turned_held, named_covers, new_calls, Thing, turning_calls}
+use Rattle.pua_ever.specs.Ever.{can_allow, ever_calls, is_exec_call, is_new_allowed, is_turned_held, named_covers, new_calls, stays_on, Thing, turning_calls}
 use Rattle.pua_ever.specs.Laws.{of_row, of_new_file, IsStartForeseen}
 use Rattle.pua_ever.proofs.Covers.{given_or_new}
 use Rattle.pua_ever.proofs.Ways.{any_among}
@@ -118,7 +118,7 @@ module _ (table : CallTable) (t0 : Tree) (h : ProcessState) (well0 : WellFormed 
 
     -- the covers under which a file of the beginning can come
     abbrev covers_from : Spot → List Cover
-    covers_from r = named_covers t0 table h (kind_at t0 x) (cover t0 h (Slot r.0 r.1 (Some x)))
+    covers_from r = named_covers t0 table h (stays_on t0 h r.0) (kind_at t0 x) (cover t0 h (Slot r.0 r.1 (Some x)))
 
     -- what can be allowed on it: as it is, or as a program
     abbrev as_either : List Cover → Call → Bool
@@ -235,8 +235,8 @@ module _ (table : CallTable) (t0 : Tree) (h : ProcessState) (well0 : WellFormed 
         starts =
             subst (λ b. Among (cond b (filter (is_new_allowed t0 table h NewFile) calls) []) call.Exec) (sym makes)
             (among_filter (is_new_allowed t0 table h NewFile) calls call.Exec
-            (or_right (is_allowed_under table h (file_covers t0 table h) (new_object table NewFile) call.Exec) _
-            (runs (file_covers t0 table h) (young_cover_at table t0 h well0 stand u k edit call.Exec (dir, name) x here other from)))
+            (or_right (is_allowed_under table h (file_covers t0 table h None) (new_object table NewFile) call.Exec) _
+            (runs (file_covers t0 table h None) (young_cover_at table t0 h well0 stand u k edit call.Exec (dir, name) x here other from)))
             (one_of_calls call.Exec))
 
         listed : (line : EverLine) × Contains (ever t0 table h) line × (line.thing ≡ Comes NewFile) × Contains line.calls call.Exec

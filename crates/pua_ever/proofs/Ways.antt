@@ -13,9 +13,10 @@ use Rattle.std.specs.FinMap.{find as find_key}
 use Rattle.pua_tree.proofs.ForCallers.{all_from_found}
 use Rattle.pua_policy.specs.States.{veil_at}
 use Rattle.pua_policy.specs.declared.place.Place.TheVariants as place
-use Rattle.pua_objects.proofs.ForCallers.{found_among}
+use Rattle.pua_objects.proofs.ForCallers.{among_either, filter_map_among, found_among}
 use Rattle.pua_ever.specs.Ever.{opens_at, gives_way, opens_outside, is_way_in, is_dir_entry}
-use Rattle.pua_ever.specs.Ever.{veil_cover_at}
+use Rattle.pua_ever.specs.Ever.{veil_cover_at, is_on, kept_on, stays_on, goes_along}
+use Rattle.pua_tree.specs.Tree.{device}
 
 -- some element passes
 pub any_among : {X : Type 0} (p : X → Bool) (xs : List X) (x : X) → Among xs x → p x ≡ true → list_any p xs ≡ true
@@ -78,74 +79,151 @@ module _ (t : Tree) (h : ProcessState) where
   pub kept_among : (at : Place) (perms : ℕ) → perms_kept h at ≡ Some perms → Among (veils h) (at, perms)
   kept_among at perms e = veil_among (veils h) at perms e
 
-  -- a way in gives its cover
-  way_covers : (d : ℕ) → is_dir t d ≡ true → is_way_in t h d ≡ true → Among (dir_covers t h) (cover_in t h d)
-  way_covers d is way =
-      among_map (cover_in t h) (filter (is_way_in t h) (directories t)) d (among_filter (is_way_in t h) (directories t) d way
-      (dir_among d is))
+  -- a directory is on its device, wherever that goes
+  pub on_own : (d : ℕ) → is_on t (stays_on t h d) d ≡ true
+  on_own d = by (goes_along t h (device t d))
+    where
+      by : (b : Bool) → is_on t (cond b None (Some (device t d))) d ≡ true
+      by true = refl
+      by false = eq-eqb (device t d) (device t d) refl
 
-  -- by its own `c`
-  pub way_by_c : (d : ℕ) → is_dir t d ≡ true → has_c (cover_in t h d) ≡ true → Among (dir_covers t h) (cover_in t h d)
-  way_by_c d is has = way_covers d is (or_left (has_c (cover_in t h d)) _ has)
+  -- and on one that it was on
+  pub on_same : (d n : ℕ) → device t d ≡ n → is_on t (kept_on t h n) d ≡ true
+  on_same d n same = subst (λ n. is_on t (kept_on t h n) d ≡ true) same (on_own d)
 
-  -- by a name with a veil of its own
-  pub way_by_name : (d : ℕ) (name : List ℕ) (perms : ℕ) → is_dir t d ≡ true → perms_kept h (place.Slot d name) ≡ Some perms →
-      has_c (Only perms) ≡ true → is_free t h (d, name) ≡ true
-      → Among (dir_covers t h) (cover_in t h d)
-  way_by_name d name perms is e has free =
-      way_covers d is
-      (or_right (has_c (cover_in t h d)) _ (or_left (list_any (λ veil. opens_at t h d veil.0 veil.1) (veils h)) _
-      (any_among (λ veil. opens_at t h d veil.0 veil.1) (veils h) (place.Slot d name, perms) (kept_among (place.Slot d name) perms e)
-      (and_from (d == d) _ (eq-eqb d d refl) (and_from (has_c (Only perms)) _ has free)))))
+  -- what is moved elsewhere goes anywhere
+  pub anywhere : (n : ℕ) → goes_along t h n ≡ true → kept_on t h n ≡ None
+  anywhere n goes = ap (λ b. cond b None (Some n)) goes
 
-  -- by a directory that gives way
-  pub way_by_turn : (d : ℕ) (name : List ℕ) (y : ℕ) → is_dir t d ≡ true → look t d name ≡ Some y → is_dir t y ≡ true →
-      has_c (cover_in t h y) ≡ true → can_empty t h y ≡ true → has_c_outside t h y ≡ true
-      → Among (dir_covers t h) (cover_in t h d)
-  way_by_turn d name y is e dir has empty more =
-      way_covers d is
-      (or_right (has_c (cover_in t h d)) _ (or_right (list_any (λ veil. opens_at t h d veil.0 veil.1) (veils h)) _
-      (any_among (gives_way t h d) t.rows ((d, name), y) (found_among (d, name) y t.rows e)
-      (and_from (d == d) _ (eq-eqb d d refl)
-      (and_from (is_dir t y) _ dir (and_from (has_c (cover_in t h y)) _ has (and_from (can_empty t h y) _ empty more)))))))
+  module _ (on : Option ℕ) where
+    -- a way in gives its cover
+    way_covers : (d : ℕ) → is_dir t d ≡ true → is_on t on d ≡ true → is_way_in t h d ≡ true → Among (dir_covers t h on) (cover_in t h d)
+    way_covers d is here way =
+        among_map (cover_in t h) (filter (λ dir. is_on t on dir && is_way_in t h dir) (directories t)) d
+        (among_filter (λ dir. is_on t on dir && is_way_in t h dir) (directories t) d (and_from (is_on t on d) _ here way) (dir_among d is))
 
-  -- the cover of a name with a veil of its own
-  pub name_by_veil : (d : ℕ) (name : List ℕ) (perms : ℕ) → is_dir t d ≡ true → perms_kept h (place.Slot d name) ≡ Some perms →
-      has_c (Only perms) ≡ true → is_free t h (d, name) ≡ true
-      → Among (name_covers t h) (Only perms)
-  name_by_veil d name perms is e has free =
-      among_filter_map (λ veil. veil_cover_at t h veil.0 veil.1) (veils h) (
-        place.Slot d name,
-        perms,
-      ) (Only perms) (kept_among (place.Slot d name) perms e)
-      (ap (λ b. cond b (Some (Only perms)) None) (and_from (is_dir t d) _ is (and_from (has_c (Only perms)) _ has free)))
+    -- by its own `c`
+    pub way_by_c : (d : ℕ) → is_dir t d ≡ true → is_on t on d ≡ true → has_c (cover_in t h d) ≡ true →
+        Among (dir_covers t h on) (cover_in t h d)
+    way_by_c d is here has = way_covers d is here (or_left (has_c (cover_in t h d)) _ has)
 
-  -- the cover of a directory with `c` is one of those in which a file can be put
-  pub open_by : (d : ℕ) → is_dir t d ≡ true → has_c (cover_in t h d) ≡ true → Among (open_covers t h) (cover_in t h d)
-  open_by d is has =
-      among_filter has_c (map (cover_in t h) (directories t)) (cover_in t h d) has
-      (among_map (cover_in t h) (directories t) d (dir_among d is))
+    -- by a name with a veil of its own
+    pub way_by_name : (d : ℕ) (name : List ℕ) (perms : ℕ) → is_dir t d ≡ true → is_on t on d ≡ true →
+        perms_kept h (place.Slot d name) ≡ Some perms → has_c (Only perms) ≡ true → is_free t h (d, name) ≡ true
+        → Among (dir_covers t h on) (cover_in t h d)
+    way_by_name d name perms is here e has free =
+        way_covers d is here
+        (or_right (has_c (cover_in t h d)) _ (or_left (list_any (λ veil. opens_at t h d veil.0 veil.1) (veils h)) _
+        (any_among (λ veil. opens_at t h d veil.0 veil.1) (veils h) (place.Slot d name, perms) (kept_among (place.Slot d name) perms e)
+        (and_from (d == d) _ (eq-eqb d d refl) (and_from (has_c (Only perms)) _ has free)))))
 
-  -- and so is one with `c` under which a directory can come
-  pub open_among : (c : Cover) → Among (dir_covers t h) c → has_c c ≡ true → Among (open_covers t h) c
-  open_among c a has =
-      let from = map_among (cover_in t h) (filter (is_way_in t h) (directories t)) c a in
-      let here = (filter_among (is_way_in t h) (directories t) from.0 from.1).0 in
-      among_filter has_c (map (cover_in t h) (directories t)) c has
-      (subst (Among (map (cover_in t h) (directories t))) from.2 (among_map (cover_in t h) (directories t) from.0 here))
+    -- by a directory that gives way
+    pub way_by_turn : (d : ℕ) (name : List ℕ) (y : ℕ) → is_dir t d ≡ true → is_on t on d ≡ true → look t d name ≡ Some y →
+        is_dir t y ≡ true → has_c (cover_in t h y) ≡ true → can_empty t h y ≡ true → has_c_outside t h y ≡ true
+        → Among (dir_covers t h on) (cover_in t h d)
+    way_by_turn d name y is here e dir has empty more =
+        way_covers d is here
+        (or_right (has_c (cover_in t h d)) _ (or_right (list_any (λ veil. opens_at t h d veil.0 veil.1) (veils h)) _
+        (any_among (gives_way t h d) t.rows ((d, name), y) (found_among (d, name) y t.rows e)
+        (and_from (d == d) _ (eq-eqb d d refl)
+        (and_from (is_dir t y) _ dir (and_from (has_c (cover_in t h y)) _ has (and_from (can_empty t h y) _ empty more)))))))
 
-  module _ (table : CallTable) where
-    pub moves_by : (c : Cover) → Among (open_covers t h) c → can_move table h c ≡ true → some_dir_moves t table h ≡ true
-    moves_by c a can = any_among (can_move table h) (open_covers t h) c a can
+    -- those on a device are among those on any
+    pub all_within : (c : Cover) → Among (dir_covers t h on) c → Among (dir_covers t h None) c
+    all_within c a =
+        let test : ℕ → Bool = λ dir. is_on t on dir && is_way_in t h dir in
+        let from = map_among (cover_in t h) (filter test (directories t)) c a in
+        let here = filter_among test (directories t) from.0 from.1 in
+        subst (Among (dir_covers t h None)) from.2
+        (among_map (cover_in t h) (filter (is_way_in t h) (directories t)) from.0
+        (among_filter (is_way_in t h) (directories t) from.0 (and_parts (is_on t on from.0) _ here.1).1 here.0))
 
-    pub file_by_name : (c : Cover) → Among (name_covers t h) c → Among (file_covers t table h) c
-    file_by_name c a = among_left (name_covers t h) _ c a
+    -- the cover of a name with a veil of its own
+    pub name_by_veil : (d : ℕ) (name : List ℕ) (perms : ℕ) → is_dir t d ≡ true → is_on t on d ≡ true →
+        perms_kept h (place.Slot d name) ≡ Some perms → has_c (Only perms) ≡ true → is_free t h (d, name) ≡ true
+        → Among (name_covers t h on) (Only perms)
+    name_by_veil d name perms is here e has free =
+        among_filter_map (λ veil. veil_cover_at t h on veil.0 veil.1) (veils h) (
+          place.Slot d name,
+          perms,
+        ) (Only perms) (kept_among (place.Slot d name) perms e)
+        (ap (λ b. cond b (Some (Only perms)) None)
+        (and_from (is_dir t d) _ is (and_from (is_on t on d) _ here (and_from (has_c (Only perms)) _ has free))))
 
-    pub file_by_open : (c : Cover) → Among (open_covers t h) c → Among (file_covers t table h) c
-    file_by_open c a = among_right (name_covers t h) _ c (among_left (open_covers t h) _ c a)
+    -- the cover of a directory with `c` is one of those in which a file can be put
+    pub open_by : (d : ℕ) → is_dir t d ≡ true → is_on t on d ≡ true → has_c (cover_in t h d) ≡ true →
+        Among (open_covers t h on) (cover_in t h d)
+    open_by d is here has =
+        among_filter has_c (map (cover_in t h) (filter (is_on t on) (directories t))) (cover_in t h d) has
+        (among_map (cover_in t h) (filter (is_on t on) (directories t)) d (among_filter (is_on t on) (directories t) d here (dir_among d is)))
 
-    pub file_by_dir : (c : Cover) → Among (dir_covers t h) c → some_dir_moves t table h ≡ true → Among (file_covers t table h) c
-    file_by_dir c a some = among_right (name_covers t h) _ c (among_right (open_covers t h) _ c (rw some a))
+    -- and so is one with `c` under which a directory can come
+    pub open_among : (c : Cover) → Among (dir_covers t h on) c → has_c c ≡ true → Among (open_covers t h on) c
+    open_among c a has =
+        let test : ℕ → Bool = λ dir. is_on t on dir && is_way_in t h dir in
+        let from = map_among (cover_in t h) (filter test (directories t)) c a in
+        let here = filter_among test (directories t) from.0 from.1 in
+        among_filter has_c (map (cover_in t h) (filter (is_on t on) (directories t))) c has
+        (subst (Among (map (cover_in t h) (filter (is_on t on) (directories t)))) from.2
+        (among_map (cover_in t h) (filter (is_on t on) (directories t)) from.0
+        (among_filter (is_on t on) (directories t) from.0 (and_parts (is_on t on from.0) _ here.1).0 here.0)))
+
+    -- and so are the others
+    open_all : (c : Cover) → Among (open_covers t h on) c → Among (open_covers t h None) c
+    open_all c a =
+        let parts = filter_among has_c (map (cover_in t h) (filter (is_on t on) (directories t))) c a in
+        let from = map_among (cover_in t h) (filter (is_on t on) (directories t)) c parts.0 in
+        let here = filter_among (is_on t on) (directories t) from.0 from.1 in
+        subst (Among (open_covers t h None)) from.2
+        (among_filter has_c (map (cover_in t h) (filter (is_on t None) (directories t))) (cover_in t h from.0) (ap has_c from.2 ∙ parts.1)
+        (among_map (cover_in t h) (filter (is_on t None) (directories t)) from.0
+        (among_filter (is_on t None) (directories t) from.0 refl here.0)))
+
+    names_all : (c : Cover) → Among (name_covers t h on) c → Among (name_covers t h None) c
+    names_all c a =
+        let from = filter_map_among (λ veil. veil_cover_at t h on veil.0 veil.1) (veils h) c a in
+        among_filter_map (λ veil. veil_cover_at t h None veil.0 veil.1) (veils h) from.0 c from.1 (by from.0.0 from.0.1 from.2)
+      where
+        drop : (a b d : Bool) (left : Cover) → cond (a && (b && d)) (Some left) None ≡ Some c → cond (a && d) (Some left) None ≡ Some c
+        drop true true d left e = e
+        drop true false d left e = cc
+        drop false b d left e = e
+
+        by : (at : Place) (perms : ℕ) → veil_cover_at t h on at perms ≡ Some c → veil_cover_at t h None at perms ≡ Some c
+        by (place.Slot d name) perms e = drop (is_dir t d) (is_on t on d) (has_c (Only perms) && is_free t h (d, name)) (Only perms) e
+        by (place.Dir d) perms e = e
+
+    module _ (table : CallTable) where
+      pub moves_by : (c : Cover) → Among (open_covers t h on) c → can_move table h c ≡ true → some_dir_moves t table h on ≡ true
+      moves_by c a can = any_among (can_move table h) (open_covers t h on) c a can
+
+      some_all : some_dir_moves t table h on ≡ true → some_dir_moves t table h None ≡ true
+      some_all e =
+          let one = any_found (can_move table h) (open_covers t h on) e in
+          any_among (can_move table h) (open_covers t h None) one.0 (open_all one.0 one.1) one.2
+
+      pub files_all : (c : Cover) → Among (file_covers t table h on) c → Among (file_covers t table h None) c
+      files_all c a = elim (among_either (name_covers t h on) _ c a) [
+        | inl name ↦ among_left (name_covers t h None) _ c (names_all c name)
+        | inr more ↦ among_right (name_covers t h None) _ c (elim (among_either (open_covers t h on) _ c more) [
+          | inl other ↦ among_left (open_covers t h None) _ c (open_all c other)
+          | inr dir ↦ among_right (open_covers t h None) _ c (by (some_dir_moves t table h on) refl dir)
+        ])
+      ]
+        where
+          by : (b : Bool) → some_dir_moves t table h on ≡ b → Among (cond b (dir_covers t h on) []) c →
+              Among (cond (some_dir_moves t table h None) (dir_covers t h None) []) c
+          by true some a = subst (λ (b : Bool). Among (cond b (dir_covers t h None) []) c) (sym (some_all some)) (all_within c a)
+          by false none a = absurd a
+
+      pub file_by_name : (c : Cover) → Among (name_covers t h on) c → Among (file_covers t table h on) c
+      file_by_name c a = among_left (name_covers t h on) _ c a
+
+      pub file_by_open : (c : Cover) → Among (open_covers t h on) c → Among (file_covers t table h on) c
+      file_by_open c a = among_right (name_covers t h on) _ c (among_left (open_covers t h on) _ c a)
+
+      pub file_by_dir : (c : Cover) → Among (dir_covers t h on) c → some_dir_moves t table h on ≡ true → Among (file_covers t table h on) c
+      file_by_dir c a some = among_right (name_covers t h on) _ c (among_right (open_covers t h on) _ c (rw some a))
 
   -- where nothing outside has `c`, no directory and no name there has
   pub quiet_dir : (y d : ℕ) → has_c_outside t h y ≡ false → is_dir t d ≡ true → is_below t y d ≡ false → has_c (cover_in t h d) ≡ false

@@ -81,7 +81,7 @@ dir_places t h = insides t h ++ arounds t h
 
 abbrev pub file_places : Tree → CallTable → ProcessState → List Place
 file_places t table h =
-    filter_map (at_name t h) (places_kept h) ++ (insides t h ++ (if some_dir_moves t table h then arounds t h else []))
+    filter_map (at_name t h) (places_kept h) ++ (insides t h ++ (if some_dir_moves t table h None then arounds t h else []))
 
 -- a directory with a veil of its own keeps that wherever it is; its further names are covered as it is
 abbrev pub places_of_dir : Tree → CallTable → ProcessState → ℕ → List Place
@@ -115,7 +115,7 @@ pub record AreComings (t : Tree) (table : CallTable) (h : ProcessState) (found :
   pub names : found.names.items ≡ filter_map (at_name t h) (places_kept h)
   pub insides : found.insides.items ≡ insides t h
   pub arounds : found.arounds.items ≡ arounds t h
-  pub moves : found.moves ≡ some_dir_moves t table h
+  pub moves : found.moves ≡ some_dir_moves t table h None
 
 -- by these directories it is told which give way
 abbrev pub GivesWay : Tree → ProcessState → List ℕ → List ℕ → Type 0

@@ -6,7 +6,7 @@
 use Rattle.std.specs.Prelude.{ℕ, Bool, true, false, not, ◌&&◌, ◌||◌, if◌then◌else◌, List, [], ◌∷◌, ◌++◌, map, filter, filter_map, flat_map}
 use Rattle.std.specs.Prelude.{◌==◌, Option, Some, None, is_some, is_none, nat_lt, length, codes}
 use Rattle.std.specs.List.{list_any, list_all}
-use Rattle.pua_tree.specs.Tree.{Tree, Node, Spot, is_dir_kind, is_dir, look, kind_at, climb, empty_tree}
+use Rattle.pua_tree.specs.Tree.{Tree, Node, Spot, is_dir_kind, is_dir, is_mount, look, kind_at, climb, device, empty_tree}
 use Rattle.pua_tree.specs.declared.node.Kind.{Kind}
 use Rattle.pua_tree.specs.declared.node.Kind.TheVariants as kind
 use Rattle.pua_tree.specs.declared.node.FileType.TheVariants as file_type
@@ -94,22 +94,42 @@ is_way_in t h dir =
     has_c (cover_in t h dir)
     || (list_any (λ veil. opens_at t h dir veil.0 veil.1) (veils h) || list_any (gives_way t h dir) t.rows)
 
--- the covers under which a directory can come that is moved or made
-abbrev pub dir_covers : Tree → ProcessState → List Cover
-dir_covers t h = map (cover_in t h) (filter (is_way_in t h) (directories t))
+-- what is moved stays on its device, and so do further names: this device, or any
+abbrev pub is_device : Option ℕ → ℕ → Bool
+is_device None found = true
+is_device (Some on) found = found == on
+
+abbrev pub is_on : Tree → Option ℕ → ℕ → Bool
+is_on t on dir = is_device on (device t dir)
+
+-- a mount point with `c` and without a veil of its own goes with the directory in which it stands, and so do the covers of all that is
+-- mounted there
+abbrev pub goes_along : Tree → ProcessState → ℕ → Bool
+goes_along t h mount = is_none (perms_kept h (place.Dir mount)) && has_c (cover_in t h mount)
+
+-- where the directories are under whose covers things on a device can come: on that device, and on any where it goes along
+abbrev pub kept_on : Tree → ProcessState → ℕ → Option ℕ
+kept_on t h on = if goes_along t h on then None else Some on
+
+abbrev pub stays_on : Tree → ProcessState → ℕ → Option ℕ
+stays_on t h dir = kept_on t h (device t dir)
+
+-- the covers there under which a directory can come that is moved or made
+abbrev pub dir_covers : Tree → ProcessState → Option ℕ → List Cover
+dir_covers t h on = map (cover_in t h) (filter (λ dir. is_on t on dir && is_way_in t h dir) (directories t))
 
 -- the covers of names with a veil of their own to which something else can be moved
-abbrev pub veil_cover_at : Tree → ProcessState → Place → ℕ → Option Cover
-veil_cover_at t h (place.Slot dir name) perms =
-    if is_dir t dir && (has_c (Only perms) && is_free t h (dir, name)) then Some (Only perms) else None
-veil_cover_at t h (place.Dir dir) perms = None
+abbrev pub veil_cover_at : Tree → ProcessState → Option ℕ → Place → ℕ → Option Cover
+veil_cover_at t h on (place.Slot dir name) perms =
+    if is_dir t dir && (is_on t on dir && (has_c (Only perms) && is_free t h (dir, name))) then Some (Only perms) else None
+veil_cover_at t h on (place.Dir dir) perms = None
 
-abbrev pub name_covers : Tree → ProcessState → List Cover
-name_covers t h = filter_map (λ veil. veil_cover_at t h veil.0 veil.1) (veils h)
+abbrev pub name_covers : Tree → ProcessState → Option ℕ → List Cover
+name_covers t h on = filter_map (λ veil. veil_cover_at t h on veil.0 veil.1) (veils h)
 
 -- those of the directories that have `c`, in which a file can be put
-abbrev pub open_covers : Tree → ProcessState → List Cover
-open_covers t h = filter has_c (map (cover_in t h) (directories t))
+abbrev pub open_covers : Tree → ProcessState → Option ℕ → List Cover
+open_covers t h on = filter has_c (map (cover_in t h) (filter (is_on t on) (directories t)))
 
 -- the tree can change by them at all: they may give a new name by rename or link, or make one of the calls that make a name or
 -- take one away
@@ -137,13 +157,13 @@ can_move table h now =
     may_rename table h && (has_c now && is_none (cover_fault now table.rename.old.needs.perms))
 
 -- some directory with `c` can be moved, and what was put into it with it
-abbrev pub some_dir_moves : Tree → CallTable → ProcessState → Bool
-some_dir_moves t table h = list_any (can_move table h) (open_covers t h)
+abbrev pub some_dir_moves : Tree → CallTable → ProcessState → Option ℕ → Bool
+some_dir_moves t table h on = list_any (can_move table h) (open_covers t h on)
 
 -- the covers under which anything else can come
-abbrev pub file_covers : Tree → CallTable → ProcessState → List Cover
-file_covers t table h =
-    name_covers t h ++ (open_covers t h ++ (if some_dir_moves t table h then dir_covers t h else []))
+abbrev pub file_covers : Tree → CallTable → ProcessState → Option ℕ → List Cover
+file_covers t table h on =
+    name_covers t h on ++ (open_covers t h on ++ (if some_dir_moves t table h on then dir_covers t h on else []))
 
 -- the promises of both of link's names are held
 abbrev pub may_link : CallTable → ProcessState → Bool
@@ -165,26 +185,27 @@ ever_covers moves now others = if moves then others else now ∷ []
 
 -- those of a file, program or link, which can also come under another cover by a further name, and keep what
 -- covers it now by this one
-abbrev pub named_covers : Tree → CallTable → ProcessState → Option Kind → Cover → List Cover
-named_covers t table h kind now =
-    if can_move table h now then file_covers t table h
-    else now ∷ (if can_link table h kind now then file_covers t table h else [])
+abbrev pub named_covers : Tree → CallTable → ProcessState → Option ℕ → Option Kind → Cover → List Cover
+named_covers t table h on kind now =
+    if can_move table h now then file_covers t table h on
+    else now ∷ (if can_link table h kind now then file_covers t table h on else [])
 
 -- a directory with a veil of its own keeps its cover wherever it is
 abbrev pub covers_of_dir : Tree → CallTable → ProcessState → ℕ → List Cover
 covers_of_dir t table h dir =
-    ever_covers (is_none (perms_kept h (place.Dir dir)) && can_move table h (cover_in t h dir)) (cover_in t h dir) (dir_covers t h)
+    ever_covers (is_none (perms_kept h (place.Dir dir)) && can_move table h (cover_in t h dir)) (cover_in t h dir) (dir_covers t h (stays_on t h dir))
 
 -- and a missing name keeps its own veil
 abbrev pub covers_of : Tree → CallTable → ProcessState → Subject → List Cover
 covers_of t table h (At (Whole dir way)) = covers_of_dir t table h dir
 covers_of t table h (Others dir) = covers_of_dir t table h dir
 covers_of t table h (At (Slot dir name (Some node))) =
-    named_covers t table h (kind_at t node) (cover t h (Slot dir name (Some node)))
+    named_covers t table h (stays_on t h dir) (kind_at t node) (cover t h (Slot dir name (Some node)))
 covers_of t table h (At (Slot dir name None)) = cover t h (Slot dir name None) ∷ []
 
 -- a thing as the last check of a call sees it, which asks for its kind; rmdir asks more of a directory: one
--- that has a name can be removed where it can come to be empty. No tree is asked any more
+-- that has a name can be removed where it can come to be empty, a mount point too; by who edits no names, where it
+-- is empty now and no mount point. No tree is asked any more
 abbrev pub removable_dir : Object
 removable_dir = IsDir 0 (Named 0 [])
 
@@ -197,11 +218,11 @@ is_named_way _ = false
 
 abbrev pub ever_object : Tree → CallTable → ProcessState → Subject → Object
 ever_object t table h (At (Whole dir way)) =
-    if is_named_way way && (can_empty t h dir && (may_edit table h || is_none_in dir))
+    if is_named_way way && (can_empty t h dir && (may_edit table h || is_bare dir))
     then removable_dir else lasting_dir
   where
-    is_none_in : ℕ → Bool
-    is_none_in dir = not (list_any (λ row. row.0.0 == dir) t.rows)
+    is_bare : ℕ → Bool
+    is_bare dir = not (list_any (λ row. row.0.0 == dir) t.rows) && not (is_mount t dir)
 ever_object t table h (Others dir) = IsMissing
 ever_object t table h (At (Slot dir name node)) = object_of t (Slot dir name node)
 
@@ -305,14 +326,14 @@ is_made_by passes NewLink = passes call.Symlink
 is_made_by passes NewSock = passes call.Bind
 is_made_by passes NewFifo = passes call.Mknod
 
--- the covers under which it can come, and what it is
+-- the covers under which it can come, on whatever device it is made, and what it is
 abbrev pub new_covers : Tree → CallTable → ProcessState → New → List Cover
-new_covers t table h NewDir = dir_covers t h
-new_covers t table h NewOthers = dir_covers t h
-new_covers t table h NewFile = file_covers t table h
-new_covers t table h NewLink = file_covers t table h
-new_covers t table h NewSock = file_covers t table h
-new_covers t table h NewFifo = file_covers t table h
+new_covers t table h NewDir = dir_covers t h None
+new_covers t table h NewOthers = dir_covers t h None
+new_covers t table h NewFile = file_covers t table h None
+new_covers t table h NewLink = file_covers t table h None
+new_covers t table h NewSock = file_covers t table h None
+new_covers t table h NewFifo = file_covers t table h None
 
 abbrev pub new_object : CallTable → New → Object
 new_object table NewDir = removable_dir
@@ -325,12 +346,12 @@ is_new_named _ call = true
 
 -- it can be made where a call that makes it is allowed on a missing name, under some cover that a name can have
 abbrev pub can_make : Tree → CallTable → ProcessState → New → Bool
-can_make t table h new = is_made_by (is_allowed_under table h (name_covers t h ++ dir_covers t h) IsMissing) new
+can_make t table h new = is_made_by (is_allowed_under table h (name_covers t h None ++ dir_covers t h None) IsMissing) new
 
 -- a call can be allowed on it under these covers; a file is made with any mode, so as a program too
 abbrev pub can_allow_new : Tree → CallTable → ProcessState → New → Call → Bool
 can_allow_new t table h NewFile call =
-    is_allowed_under table h (file_covers t table h) (new_object table NewFile) call || starts_under table h (file_covers t table h) call
+    is_allowed_under table h (file_covers t table h None) (new_object table NewFile) call || starts_under table h (file_covers t table h None) call
 can_allow_new t table h new call = is_allowed_under table h (new_covers t table h new) (new_object table new) call
 
 abbrev pub is_new_allowed : Tree → CallTable → ProcessState → New → Call → Bool

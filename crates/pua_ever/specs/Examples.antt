@@ -1,5 +1,5 @@
 -- Worked rows on what can ever be touched, by the standard table and by OpenBSD's rules, and on where there is no list.
-use Rattle.std.specs.Prelude.{◌≡◌, ◌+◌, ℕ, true, List, [], ◌∷◌, map, Some, None, codes, refl}
+use Rattle.std.specs.Prelude.{◌≡◌, ◌+◌, ℕ, true, false, List, [], ◌∷◌, map, Some, None, codes, refl}
 use Rattle.pua_tree.specs.Tree.{Tree, Node, empty_tree}
 use Rattle.pua_tree.specs.declared.node.Kind.TheVariants.{Dir, File, Link, Prog, Known}
 use Rattle.pua_tree.specs.declared.node.FileType.{FileType}
@@ -24,13 +24,17 @@ abbrev pub words : Tree → ProcessState → List (List (List ℕ))
 words t h = map (λ line. line.word) (ever t standard_table h)
 
 abbrev directory : Node
-directory = record { kind = Dir; target = None }
+directory = record { kind = Dir; target = None; mount = false }
+
+-- one at which another file system is mounted
+abbrev mount : Node
+mount = record { kind = Dir; target = None; mount = true }
 
 abbrev file : Node
-file = record { kind = File; target = None }
+file = record { kind = File; target = None; mount = false }
 
 abbrev program : Node
-program = record { kind = Prog; target = None }
+program = record { kind = Prog; target = None; mount = false }
 
 -- who is locked, and holds these promises and has these veils
 abbrev locked_by : ℕ → List (Place × ℕ) → ProcessState
@@ -213,7 +217,7 @@ dpath_process = locked_by (rpath + dpath) []
 abbrev pub aliases_tree : Tree
 aliases_tree = record empty_tree {
   rows = ((0, codes "mail"), 1) ∷ ((0, codes "spool"), 2) ∷ ((1, codes "aliases"), 3) ∷ ((1, codes "l"), 4) ∷ [];
-  nodes = (0, directory) ∷ (1, directory) ∷ (2, directory) ∷ (3, file) ∷ (4, record { kind = Link; target = Some (codes "x") }) ∷ [];
+  nodes = (0, directory) ∷ (1, directory) ∷ (2, directory) ∷ (3, file) ∷ (4, record { kind = Link; target = Some (codes "x"); mount = false }) ∷ [];
   next = 5;
 }
 
@@ -475,6 +479,80 @@ drop_box_process =
     ∷ (place.Dir 2, reading + writing + creating)
     ∷ [])
 
+-- `/a` has rwc, and `/b` has c, where another file system is mounted: what stands there is never moved into `/a`
+abbrev pub mounted_on_tree : Tree
+mounted_on_tree = record moved_on_tree {
+  nodes = (0, directory) ∷ (1, directory) ∷ (2, mount) ∷ (3, directory) ∷ (4, file) ∷ [];
+}
+
+-- so it is by link
+abbrev pub mounted_aliases_tree : Tree
+mounted_aliases_tree = record aliases_tree {
+  nodes = (0, directory) ∷ (1, mount) ∷ (2, directory) ∷ (3, file) ∷ (4, record { kind = Link; target = Some (codes "x"); mount = false }) ∷ [];
+}
+
+-- `/m/a` and `/m/b` are on the file system that is mounted at `/m`, and `/r` is not: what stands in `/m/b` alone is moved into `/m/a`
+abbrev pub within_mount_tree : Tree
+within_mount_tree = record empty_tree {
+  rows = ((0, codes "m"), 1) ∷ ((0, codes "r"), 2) ∷ ((1, codes "a"), 3) ∷ ((1, codes "b"), 4) ∷ ((2, codes "g"), 6) ∷ ((4, codes "f"), 5) ∷ [];
+  nodes = (0, directory) ∷ (1, mount) ∷ (2, directory) ∷ (3, directory) ∷ (4, directory) ∷ (5, file) ∷ (6, file) ∷ [];
+  next = 7;
+}
+
+abbrev pub within_mount_process : ProcessState
+within_mount_process =
+    locked_with (
+    (place.Dir 2, creating)
+    ∷ (place.Dir 3, reading + writing + creating)
+    ∷ (place.Dir 4, creating)
+    ∷ [])
+
+-- `/a` has c and `/b` has rwc: `/a/d` is moved into `/b`, and with it what is mounted in it, though it stays on its file system
+abbrev pub carried_mount_tree : Tree
+carried_mount_tree = record empty_tree {
+  rows = ((0, codes "a"), 1) ∷ ((0, codes "b"), 2) ∷ ((1, codes "d"), 3) ∷ ((3, codes "m"), 4) ∷ ((4, codes "f"), 5) ∷ [];
+  nodes = (0, directory) ∷ (1, directory) ∷ (2, directory) ∷ (3, directory) ∷ (4, mount) ∷ (5, file) ∷ [];
+  next = 6;
+}
+
+abbrev pub carried_mount_process : ProcessState
+carried_mount_process =
+    locked_with (
+    (place.Dir 1, creating)
+    ∷ (place.Dir 2, reading + writing + creating)
+    ∷ [])
+
+-- a file system is mounted in another: what stands in `/a` is not moved into `/a/n`
+abbrev pub nested_mount_tree : Tree
+nested_mount_tree = record empty_tree {
+  rows = ((0, codes "a"), 1) ∷ ((1, codes "f"), 2) ∷ ((1, codes "n"), 3) ∷ ((3, codes "g"), 4) ∷ [];
+  nodes = (0, directory) ∷ (1, mount) ∷ (2, file) ∷ (3, mount) ∷ (4, file) ∷ [];
+  next = 5;
+}
+
+abbrev pub nested_mount_process : ProcessState
+nested_mount_process =
+    locked_with (
+    (place.Dir 1, creating)
+    ∷ (place.Dir 3, reading + writing + creating)
+    ∷ [])
+
+-- the name `/n` has rwc, and `/m` and `/r` have c: what stands in `/r` alone is moved to the name
+abbrev pub other_name_tree : Tree
+other_name_tree = record empty_tree {
+  rows = ((0, codes "m"), 1) ∷ ((0, codes "r"), 2) ∷ ((1, codes "f"), 3) ∷ ((2, codes "g"), 4) ∷ [];
+  nodes = (0, directory) ∷ (1, mount) ∷ (2, directory) ∷ (3, file) ∷ (4, file) ∷ [];
+  next = 5;
+}
+
+abbrev pub other_name_process : ProcessState
+other_name_process =
+    locked_with (
+    (place.Slot 0 (codes "n"), reading + writing + creating)
+    ∷ (place.Dir 1, creating)
+    ∷ (place.Dir 2, creating)
+    ∷ [])
+
 -- what can be moved, by rules by which rename asks more of the old name than `c`: by these nothing is carried out of `/a`
 -- in a directory either, so the program in it is not run
 pub record MovedRows : Type 0 where
@@ -512,9 +590,98 @@ pub record MovedRows : Type 0 where
       ∷ codes "file new stat,lstat,open-r,open-w,open-rw,create,unlink,chmod,chown,create-rw,fchmod,fchown"
       ∷ codes "link new lstat,readlink,unlink"
       ∷ []
+  -- what is moved, or linked, stays on its file system; what is new is made on any
+  pub mounted_on : lines mounted_on_tree moved_on_process ≡
+      codes "dir /a stat,lstat,open-r,rmdir,chmod,chdir"
+      ∷ codes "other /a create,mkdir,symlink"
+      ∷ codes "dir /b rmdir"
+      ∷ codes "other /b mkdir,symlink"
+      ∷ codes "dir /b/x rmdir"
+      ∷ codes "other /b/x mkdir,symlink"
+      ∷ codes "file /b/x/f unlink"
+      ∷ codes "dir new stat,lstat,open-r,rmdir,chmod,chdir"
+      ∷ codes "other new create,mkdir,symlink"
+      ∷ codes "file new stat,lstat,open-r,open-w,open-rw,create,unlink,chmod"
+      ∷ codes "link new lstat,readlink,unlink"
+      ∷ []
+  pub mounted_aliases : lines_by_openbsd mounted_aliases_tree aliases_process ≡
+      codes "dir /mail stat,lstat,open-r,chdir,fchmod,fchown"
+      ∷ codes "file /mail/aliases stat,lstat,open-r,fchmod,fchown"
+      ∷ codes "link /mail/l lstat,readlink"
+      ∷ codes "dir /spool stat,lstat,open-r,rmdir,chmod,chdir,chown,fchmod,fchown"
+      ∷ codes "other /spool create,mkdir,symlink,create-rw"
+      ∷ codes "dir new stat,lstat,open-r,rmdir,chmod,chdir,chown,fchmod,fchown"
+      ∷ codes "other new create,mkdir,symlink,create-rw"
+      ∷ codes "file new stat,lstat,open-r,open-w,open-rw,create,unlink,chmod,chown,create-rw,fchmod,fchown"
+      ∷ codes "link new lstat,readlink,unlink"
+      ∷ []
+  pub within_mount : lines within_mount_tree within_mount_process ≡
+      codes "dir /m/a stat,lstat,open-r,rmdir,chmod,chdir"
+      ∷ codes "other /m/a create,mkdir,symlink"
+      ∷ codes "dir /m/b rmdir"
+      ∷ codes "other /m/b mkdir,symlink"
+      ∷ codes "file /m/b/f stat,lstat,open-r,open-w,open-rw,create,unlink,chmod"
+      ∷ codes "dir /r rmdir"
+      ∷ codes "other /r mkdir,symlink"
+      ∷ codes "file /r/g unlink"
+      ∷ codes "dir new stat,lstat,open-r,rmdir,chmod,chdir"
+      ∷ codes "other new create,mkdir,symlink"
+      ∷ codes "file new stat,lstat,open-r,open-w,open-rw,create,unlink,chmod"
+      ∷ codes "link new lstat,readlink,unlink"
+      ∷ []
+  pub carried_mount : lines carried_mount_tree carried_mount_process ≡
+      codes "dir /a rmdir"
+      ∷ codes "other /a mkdir,symlink"
+      ∷ codes "dir /a/d stat,lstat,open-r,rmdir,chmod,chdir"
+      ∷ codes "other /a/d create,mkdir,symlink"
+      ∷ codes "dir /a/d/m stat,lstat,open-r,rmdir,chmod,chdir"
+      ∷ codes "other /a/d/m create,mkdir,symlink"
+      ∷ codes "file /a/d/m/f stat,lstat,open-r,open-w,open-rw,create,unlink,chmod"
+      ∷ codes "dir /b stat,lstat,open-r,rmdir,chmod,chdir"
+      ∷ codes "other /b create,mkdir,symlink"
+      ∷ codes "dir new stat,lstat,open-r,rmdir,chmod,chdir"
+      ∷ codes "other new create,mkdir,symlink"
+      ∷ codes "file new stat,lstat,open-r,open-w,open-rw,create,unlink,chmod"
+      ∷ codes "link new lstat,readlink,unlink"
+      ∷ []
+  pub nested_mount : lines nested_mount_tree nested_mount_process ≡
+      codes "dir /a rmdir"
+      ∷ codes "other /a mkdir,symlink"
+      ∷ codes "file /a/f unlink"
+      ∷ codes "dir /a/n stat,lstat,open-r,rmdir,chmod,chdir"
+      ∷ codes "other /a/n create,mkdir,symlink"
+      ∷ codes "file /a/n/g stat,lstat,open-r,open-w,open-rw,create,unlink,chmod"
+      ∷ codes "dir new stat,lstat,open-r,rmdir,chmod,chdir"
+      ∷ codes "other new create,mkdir,symlink"
+      ∷ codes "file new stat,lstat,open-r,open-w,open-rw,create,unlink,chmod"
+      ∷ codes "link new lstat,readlink,unlink"
+      ∷ []
+  pub other_name : lines other_name_tree other_name_process ≡
+      codes "dir /m rmdir"
+      ∷ codes "other /m mkdir,symlink"
+      ∷ codes "file /m/f unlink"
+      ∷ codes "missing /n create,mkdir,symlink"
+      ∷ codes "dir /r rmdir"
+      ∷ codes "other /r mkdir,symlink"
+      ∷ codes "file /r/g stat,lstat,open-r,open-w,open-rw,create,unlink,chmod"
+      ∷ codes "dir new rmdir"
+      ∷ codes "other new mkdir,symlink"
+      ∷ codes "file new stat,lstat,open-r,open-w,open-rw,create,unlink,chmod"
+      ∷ codes "link new lstat,readlink,unlink"
+      ∷ []
 
 pub moved_rows : MovedRows
-moved_rows = record { drop_box = refl; openbsd_drop_box = refl; openbsd_name_and_area = refl }
+moved_rows = record {
+  drop_box = refl;
+  openbsd_drop_box = refl;
+  openbsd_name_and_area = refl;
+  mounted_on = refl;
+  mounted_aliases = refl;
+  within_mount = refl;
+  carried_mount = refl;
+  nested_mount = refl;
+  other_name = refl;
+}
 
 -- `/tmp` has rwxc: what is made there, and the file that stands there, can be made programs
 abbrev pub job_tree : Tree
@@ -527,7 +694,7 @@ job_tree = record empty_tree {
 -- the same, where the job is a file of a known type
 abbrev typed_job_tree : FileType → Tree
 typed_job_tree type = record job_tree {
-  nodes = (0, directory) ∷ (1, directory) ∷ (2, record { kind = Known type; target = None }) ∷ [];
+  nodes = (0, directory) ∷ (1, directory) ∷ (2, record { kind = Known type; target = None; mount = false }) ∷ [];
 }
 
 abbrev job_veils : List (Place × ℕ)

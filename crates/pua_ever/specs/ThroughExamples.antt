@@ -12,13 +12,13 @@ use Rattle.pua_ever.specs.Through.{ever_lasting, execs_of}
 use Rattle.pua_ever.specs.declared.lasting_list.ExecBound.TheVariants as told
 
 abbrev pub directory : Node
-directory = record { kind = Dir; target = None }
+directory = record { kind = Dir; target = None; mount = false }
 
 abbrev pub file : Node
-file = record { kind = File; target = None }
+file = record { kind = File; target = None; mount = false }
 
 abbrev pub program : Node
-program = record { kind = Prog; target = None }
+program = record { kind = Prog; target = None; mount = false }
 
 -- `/in` has c, `/out` has rc, and the program `/p` the letters
 abbrev pub started_tree : Tree

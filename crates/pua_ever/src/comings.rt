@@ -123,13 +123,14 @@ pub fn find_comings<T: FileTree>(
     tree.known();
     process.known();
     let found = find_destinations(alloc, tree, process)?;
+    let covers = found.covers(alloc, None)?;
     let places = process.places(alloc)?;
     let opened = all_opened(alloc, tree, process, &places)?;
     Ok(Comings {
         names: at_names(alloc, tree, process, &places)?,
         insides: insides(alloc, tree, process, &places)?,
         arounds: arounds(alloc, tree, process, &found.held, &opened, &places)?,
-        moves: moves_any(process, table, &found.dirs),
+        moves: moves_any(process, table, &covers.dirs),
     })
 }
 

@@ -2,15 +2,14 @@
 
 ghost use Rattle.std.specs.Prelude.{◌≡◌, ◌<◌, ◌≤◌, ◌++◌, ◌∷◌, [], ℕ, Some, None, true, not, ◌==◌};
 ghost use Rattle.std.specs.Prelude.{IfOk, filter_map, map, get_or, length};
-ghost use Rattle.std.specs.Prelude.{if◌then◌else◌};
+ghost use Rattle.std.specs.Prelude.{if◌then◌else◌, ◌&&◌, is_none};
 ghost use Rattle.std.specs.List.{list_any};
 ghost use Rattle.pua_tree.specs.Tree.{above, is_dir as lives_as_dir, look as node_at_name};
-ghost use Rattle.pua_policy.specs.States.{has_veil};
+ghost use Rattle.pua_policy.specs.States.{has_veil, perms_kept};
 ghost use Rattle.pua_script.specs.Confinement.{has_c as cover_has_c, object_in};
 ghost use Rattle.pua_objects.specs.Objects.{cover_in as cover_of_others};
 ghost use Rattle.pua_ever.specs.Ever.{row_cover as cover_of_row, is_free as can_be_free, can_empty};
-ghost use Rattle.pua_ever.specs.Ever.{dir_covers, name_covers};
-ghost use Rattle.pua_ever.specs.Ever.{open_covers};
+ghost use Rattle.pua_ever.specs.Ever.{is_device};
 ghost use Rattle.pua_ever.specs.Destinations.{destination as destination_of};
 ghost use Rattle.pua_ever.specs.Destinations.{is_barred as barred_by};
 ghost use Rattle.pua_ever.specs.Destinations.{dir_destination as dir_destination_of};
@@ -19,7 +18,8 @@ ghost use Rattle.pua_ever.specs.Destinations.{opened_dir as opened_dir_of, held_
 ghost use Rattle.pua_ever.specs.Destinations.{entrance_cover as entrance_of};
 ghost use Rattle.pua_ever.specs.Destinations.{can_give_way as gives_way_to};
 ghost use Rattle.pua_ever.specs.Destinations.{is_outside as stands_outside, depth as depth_of};
-ghost use Rattle.pua_ever.specs.Destinations.{HaveSame};
+ghost use Rattle.pua_ever.specs.Destinations.{AreDestinations, IsOnDevice, cover_on, covers_on};
+ghost use Rattle.pua_ever.specs.Destinations.{with_device};
 
 use pua_calls::Perms;
 use pua_path::{Counted, Found, Way};
@@ -27,18 +27,82 @@ use pua_policy::{Cover, Place, Process};
 use pua_tree::{FileTree, Kind, Name, NodeId, OutOfMemory};
 use std::alloc::{AllocError, Global};
 
-/// Where things can come that are moved or made.
+/// Where things can come that are moved or made: each cover with the device of its directory.
 #[derive(Drop)]
 pub(crate) struct Destinations {
     /// The covers of directories that have `c`.
-    pub(crate) dirs: Vec<Cover>,
+    dirs: Vec<(NodeId, Cover)>,
     /// The covers under which a directory can come beside: at names with veils of their own, and in
     /// the place of others.
-    pub(crate) entrances: Vec<Cover>,
+    entrances: Vec<(NodeId, Cover)>,
     /// The covers of names that have `c` by a veil of their own and can come to be free.
-    pub(crate) names: Vec<Cover>,
+    names: Vec<(NodeId, Cover)>,
     /// The directories in which something stands that has a veil of its own without `c`.
     pub(crate) held: Vec<NodeId>,
+}
+
+/// Those covers on one device, or on any.
+#[derive(Drop)]
+pub(crate) struct Covers {
+    /// Those of directories that have `c`.
+    pub(crate) dirs: Vec<Cover>,
+    /// Those under which a directory can come beside.
+    pub(crate) entrances: Vec<Cover>,
+    /// Those of names.
+    pub(crate) names: Vec<Cover>,
+}
+
+impl Destinations {
+    /// The covers on a device, or on any. The only error is that a growth was refused.
+    pub(crate) fn covers(&self, alloc: Global, on: Option<NodeId>) -> Result<Covers, AllocError>
+        ensures dirs { IfOk result (λ found. found.dirs.items
+            ≡ covers_on on self.now.dirs.items) }
+        ensures entrances { IfOk result (λ found. found.entrances.items
+            ≡ covers_on on self.now.entrances.items) }
+        ensures names { IfOk result (λ found. found.names.items
+            ≡ covers_on on self.now.names.items) }
+    {
+        Ok(Covers {
+            dirs: covers_on(alloc, on, &self.dirs)?,
+            entrances: covers_on(alloc, on, &self.entrances)?,
+            names: covers_on(alloc, on, &self.names)?,
+        })
+    }
+}
+
+/// Those of some covers that are on a device, or on any.
+fn covers_on(
+    alloc: Global,
+    on: Option<NodeId>,
+    found: &[(NodeId, Cover)],
+) -> Result<Vec<Cover>, AllocError>
+    ensures { IfOk result (λ covers. covers.items ≡ covers_on on found.now) }
+{
+    found
+        .iter()
+        .filter_map(|one| cover_on(on, one))
+        .collect(alloc)
+}
+
+/// A cover, if its device is this one, or any is.
+fn cover_on(on: Option<NodeId>, found: &(NodeId, Cover)) -> Option<Cover>
+    ensures { result ≡ cover_on on found.now }
+{
+    if is_device(on, found.0) {
+        Some(found.1)
+    } else {
+        None
+    }
+}
+
+/// Whether a device is this one, or any.
+fn is_device(on: Option<NodeId>, device: NodeId) -> bool
+    ensures { result ≡ is_device on device }
+{
+    match on {
+        Some(on) => device == on,
+        None => true,
+    }
 }
 
 /// Finds by the veils of a process where things can come that are moved or made: a directory under
@@ -51,13 +115,7 @@ pub(crate) fn find_destinations<T: FileTree>(
     tree: &T,
     process: &Process,
 ) -> Result<Destinations, OutOfMemory>
-    ensures dirs { IfOk result (λ found.
-        HaveSame (found.dirs.items ++ found.entrances.items) (dir_covers
-        (T.content tree.now) process.now)) }
-    ensures names { IfOk result (λ found.
-        HaveSame found.names.items (name_covers (T.content tree.now) process.now)) }
-    ensures open { IfOk result (λ found.
-        HaveSame found.dirs.items (open_covers (T.content tree.now) process.now)) }
+    ensures covers { IfOk result (AreDestinations (T.content tree.now) process.now) }
     ensures held { IfOk result (λ found. (dir : ℕ) → lives_as_dir (T.content tree.now) dir ≡ true →
         cover_has_c (cover_of_others (T.content tree.now) process.now dir) ≡ true →
         can_empty (T.content tree.now) process.now dir
@@ -89,7 +147,8 @@ fn gathered<T: FileTree>(
 ) -> Result<Destinations, AllocError>
     ensures dirs { IfOk result (λ found. found.dirs.items
         ≡ filter_map (dir_destination_of (T.content tree.now) process.now) (map
-        (λ place. place.now) places.now) ++ (if has_veil process.now.veils then [] else Cover.All ∷ [])) }
+        (λ place. place.now) places.now)
+        ++ (if has_veil process.now.veils then [] else (0, Cover.All) ∷ [])) }
     ensures entrances { IfOk result (λ found. found.entrances.items
         ≡ filter_map (entrance_of (T.content tree.now) process.now found.held.items (filter_map
         (opened_dir_of process.now) (map (λ place. place.now) places.now))) (map
@@ -103,7 +162,7 @@ fn gathered<T: FileTree>(
 {
     let mut dirs = dir_destinations(alloc, tree, process, places)?;
     if !process.is_veiled() {
-        dirs.push(Cover::All)?;
+        dirs.push((NodeId::ROOT, Cover::All))?;
     }
     let held = held_dirs(alloc, tree, process, places)?;
     let opened = all_opened(alloc, tree, process, places)?;
@@ -123,7 +182,7 @@ fn dir_destinations<T: FileTree>(
     tree: &T,
     process: &Process,
     places: &[&Place],
-) -> Result<Vec<Cover>, AllocError>
+) -> Result<Vec<(NodeId, Cover)>, AllocError>
     ensures { IfOk result (λ found. found.items
         ≡ filter_map (dir_destination_of (T.content tree.now) process.now) (map
         (λ place. place.now) places.now)) }
@@ -140,7 +199,7 @@ fn name_destinations<T: FileTree>(
     tree: &T,
     process: &Process,
     places: &[&Place],
-) -> Result<Vec<Cover>, AllocError>
+) -> Result<Vec<(NodeId, Cover)>, AllocError>
     ensures { IfOk result (λ found. found.items
         ≡ filter_map (name_destination_of (T.content tree.now) process.now) (map
         (λ place. place.now) places.now)) }
@@ -207,7 +266,7 @@ fn entrances<T: FileTree>(
     held: &[NodeId],
     opened: &Opened,
     places: &[&Place],
-) -> Result<Vec<Cover>, AllocError>
+) -> Result<Vec<(NodeId, Cover)>, AllocError>
     ensures { IfOk result (λ found. found.items
         ≡ filter_map (entrance_of (T.content tree.now) process.now held.now opened.now.dirs.items)
         (map (λ place. place.now) places.now)) }
@@ -239,22 +298,32 @@ fn is_barred(process: &Process, place: &Place) -> bool
 }
 
 /// The cover of a directory that has `c` by its own veil.
-fn dir_destination<T: FileTree>(tree: &T, process: &Process, place: &Place) -> Option<Cover>
+fn dir_destination<T: FileTree>(
+    tree: &T,
+    process: &Process,
+    place: &Place,
+) -> Option<(NodeId, Cover)>
     ensures { result ≡ dir_destination_of (T.content tree.now) process.now place.now }
 {
     match place {
-        Place::Dir(dir) if is_dir(tree, *dir) => destination(process, place),
+        Place::Dir(dir) if is_dir(tree, *dir) => {
+            with_device(tree, *dir, destination(process, place))
+        }
         _ => None,
     }
 }
 
 /// The cover of a name that has `c` by its own veil and can come to be free.
-fn name_destination<T: FileTree>(tree: &T, process: &Process, place: &Place) -> Option<Cover>
+fn name_destination<T: FileTree>(
+    tree: &T,
+    process: &Process,
+    place: &Place,
+) -> Option<(NodeId, Cover)>
     ensures { result ≡ name_destination_of (T.content tree.now) process.now place.now }
 {
     match place {
         Place::Slot(dir, name) if is_dir(tree, *dir) && is_free(tree, process, *dir, name) => {
-            destination(process, place)
+            with_device(tree, *dir, destination(process, place))
         }
         _ => None,
     }
@@ -296,7 +365,7 @@ fn entrance<T: FileTree>(
     held: &[NodeId],
     opened: &Opened,
     place: &Place,
-) -> Option<Cover>
+) -> Option<(NodeId, Cover)>
     ensures { result ≡ entrance_of
         (T.content tree.now) process.now held.now opened.now.dirs.items place.now }
 {
@@ -418,10 +487,21 @@ fn found_in<T: FileTree>(tree: &T, dir: NodeId, name: &Name, node: NodeId) -> Fo
     }
 }
 
-/// What the veils leave of the further names of the directory above a directory.
-fn cover_above<T: FileTree>(tree: &T, process: &Process, dir: NodeId) -> Option<Cover>
-    ensures { result ≡ (if lives_as_dir (T.content tree.now) dir then Some (cover_of_others
-        (T.content tree.now) process.now (above (T.content tree.now) dir)) else None) }
+/// A cover, with the device of a directory.
+fn with_device<T: FileTree>(tree: &T, dir: NodeId, cover: Option<Cover>) -> Option<(NodeId, Cover)>
+    ensures { result ≡ with_device (T.content tree.now) dir cover }
+{
+    match cover {
+        Some(cover) => Some((tree.device(dir), cover)),
+        None => None,
+    }
+}
+
+/// What the veils leave of the further names of the directory above a directory, and its device.
+fn cover_above<T: FileTree>(tree: &T, process: &Process, dir: NodeId) -> Option<(NodeId, Cover)>
+    ensures { let t = T.content tree.now in result ≡ (if lives_as_dir t dir
+        then with_device t (above t dir) (Some (cover_of_others t process.now (above t dir)))
+        else None) }
 {
     tree.known();
     let Some(above) = tree.parent(dir) else {
@@ -430,15 +510,15 @@ fn cover_above<T: FileTree>(tree: &T, process: &Process, dir: NodeId) -> Option<
     cover_in(tree, process, above)
 }
 
-/// What the veils leave of the further names of a directory.
-fn cover_in<T: FileTree>(tree: &T, process: &Process, dir: NodeId) -> Option<Cover>
-    ensures { result ≡ (if lives_as_dir (T.content tree.now) dir then Some (cover_of_others
-        (T.content tree.now) process.now dir) else None) }
+/// What the veils leave of the further names of a directory, and its device.
+fn cover_in<T: FileTree>(tree: &T, process: &Process, dir: NodeId) -> Option<(NodeId, Cover)>
+    ensures { let t = T.content tree.now in result ≡ (if lives_as_dir t dir
+        then with_device t dir (Some (cover_of_others t process.now dir)) else None) }
 {
     if !is_dir(tree, dir) {
         return None;
     }
-    Some(cover_of_dir(tree, process, dir))
+    Some((tree.device(dir), cover_of_dir(tree, process, dir)))
 }
 
 /// What the veils leave of a living directory.
@@ -449,6 +529,37 @@ fn cover_of_dir<T: FileTree>(tree: &T, process: &Process, dir: NodeId) -> Cover
     tree.known();
     let found = Found::Whole { dir, way: Way::Top };
     process.cover(&mut Counted::new(tree), &found)
+}
+
+/// A directory, the one at which its file system is mounted, and whether that goes along with the
+/// directory in which it stands.
+#[derive(Clone, Copy)]
+pub(crate) struct OnDevice {
+    pub(crate) dir: NodeId,
+    pub(crate) device: NodeId,
+    pub(crate) along: bool,
+}
+
+/// The device of a living directory.
+pub(crate) fn on_device<T: FileTree>(tree: &T, process: &Process, dir: NodeId) -> OnDevice
+    ensures own { result.dir ≡ dir }
+    ensures on { IsOnDevice (T.content tree.now) process.now result }
+{
+    tree.known();
+    let device = tree.device(dir);
+    let cover = cover_of_dir(tree, process, device);
+    OnDevice {
+        dir,
+        device,
+        along: goes_along(process, device, cover),
+    }
+}
+
+/// Whether a mount point goes along with the directory in which it stands, by what covers it.
+pub(crate) fn goes_along(process: &Process, mount: NodeId, cover: Cover) -> bool
+    ensures { result ≡ (is_none (perms_kept process.now (Place.Dir mount)) && cover_has_c cover) }
+{
+    process.kept(&Place::Dir(mount)).is_none() && has_c(cover)
 }
 
 /// Whether a directory is neither another one nor below it.

@@ -16,18 +16,23 @@ ghost use Rattle.pua_objects.specs.ListItems.{AreNear, IsToldIn, last_name, last
 ghost use Rattle.pua_objects.specs.Objects.{Subject as About, subject_word};
 ghost use Rattle.pua_objects.specs.declared.list.ListItem.{ListItem as Listed};
 ghost use Rattle.pua_ever.specs.Ever.{Comes, Stands, can_make, ever, is_new_allowed, may_edit};
-ghost use Rattle.pua_ever.specs.Ever.{own_spot};
+ghost use Rattle.pua_ever.specs.Ever.{kept_on, own_spot};
 ghost use Rattle.pua_ever.specs.EverLines.{IsThing, new_of};
 ghost use Rattle.pua_ever.specs.EverList.{AreEverTold, AreRowsBut, AreRowsSoFar, IsFreedRow};
+ghost use Rattle.pua_ever.specs.Destinations.{IsOnDevice};
 ghost use Rattle.pua_ever.specs.EverList.{IsOwnInside, IsRowAt, IsRowOn, IsStandsRow, subject_at};
 ghost use Rattle.pua_ever.specs.EverList.{thing_of};
 ghost use Rattle.pua_ever.specs.Laws.{EditsNeedC};
-ghost use Rattle.pua_ever.specs.Prospects.{AreOnFreed, IsProspects, own_given};
+ghost use Rattle.pua_ever.specs.Movable.{IsMovable};
+ghost use Rattle.pua_ever.specs.Prospects.{AreOnFreed, IsMovableAt, IsProspects, dir_of_subject};
+ghost use Rattle.pua_ever.specs.Prospects.{own_given};
 ghost use Rattle.pua_ever.specs.Refusals.{refusal as refusal_of, refusal_in};
 
+use crate::destinations::{OnDevice, goes_along, on_device};
 use crate::fault::EverFault;
 use crate::line::{EverLine, EverThing};
 use crate::made::Made;
+use crate::movable::Movable;
 use crate::prospects::{Prospects, find_prospects, own_name};
 use crate::refusal::why_refused;
 use pua_calls::CallTable;
@@ -140,10 +145,96 @@ fn rows_of<'t, T: FileTree>(
         AllByRecursion (IsRowOn t process.now) rows.items) }
 {
     let mut rows = Vec::new(alloc);
+    let mut above = Vec::new(alloc);
+    let root = on_device(tree, process, NodeId::ROOT);
+    let mut device = root.device;
+    let mut movable = movable_by(alloc, prospects, process, table, &root)?;
     for item in items {
-        add_rows(tree, prospects, process, table, item, &mut rows)?;
+        let own = device_at(tree, process, item, &mut above)?;
+        if own.device != device {
+            device = own.device;
+            movable = movable_by(alloc, prospects, process, table, &own)?;
+        }
+        add_rows(tree, prospects, process, table, &movable, item, &mut rows)?;
     }
     Ok(rows)
+}
+
+/// The calls on what is moved from a device. The only error is that a growth was refused.
+fn movable_by(
+    alloc: Global,
+    prospects: &Prospects,
+    process: &Process,
+    table: &CallTable,
+    own: &OnDevice,
+) -> Result<Movable, AllocError>
+    ensures { IfOk result (λ movable. (t : Tree) →
+        IsProspects t table.now process.now prospects.now → IsOnDevice t process.now own.now →
+        IsMovable t table.now process.now (kept_on t process.now own.now.device) movable) }
+{
+    if own.along {
+        return Ok(prospects.anywhere());
+    }
+    prospects.movable_on(alloc, process, table, Some(own.device))
+}
+
+/// The device of what an item is about, of items in their order. Behind are kept the directories
+/// that lead to the item before, each at its depth, and then those that lead to this one; whatever
+/// they are, answers are the same. The only error is that a growth was refused.
+fn device_at<T: FileTree>(
+    tree: &T,
+    process: &Process,
+    item: &ListItem<'_>,
+    above: &mut Vec<OnDevice>,
+) -> Result<OnDevice, AllocError>
+    ensures { IfOk result (λ own. let t = T.content tree.now in IsToldIn t process.now item.now →
+        AllByRecursion (IsOnDevice t process.now) above.old.items →
+        IsOnDevice t process.now own
+        × (own.dir ≡ dir_of_subject (subject_given t item.now.item.subject))
+        × AllByRecursion (IsOnDevice t process.now) above.new.items) }
+{
+    tree.known();
+    let cover = item.item.cover;
+    let (dir, device, along, depth) = match item.item.subject {
+        Subject::Root => (
+            NodeId::ROOT,
+            NodeId::ROOT,
+            goes_along(process, NodeId::ROOT, cover),
+            0,
+        ),
+        Subject::Dir(id, dir, _) => {
+            let over = device_in(tree, process, above, item.depth, dir);
+            let below = item.depth.saturating_add(1);
+            if tree.is_mount(id) {
+                (id, id, goes_along(process, id, cover), below)
+            } else {
+                (id, over.device, over.along, below)
+            }
+        }
+        Subject::Others(dir) | Subject::Name(dir, _) => {
+            return Ok(device_in(tree, process, above, item.depth, dir));
+        }
+    };
+    above.truncate(depth);
+    above.push(OnDevice { dir, device, along })?;
+    Ok(OnDevice { dir, device, along })
+}
+
+/// The device of a directory, which may be kept at a depth.
+fn device_in<T: FileTree>(
+    tree: &T,
+    process: &Process,
+    above: &[OnDevice],
+    depth: usize,
+    dir: NodeId,
+) -> OnDevice
+    ensures { AllByRecursion (IsOnDevice (T.content tree.now) process.now) above.now →
+        IsOnDevice (T.content tree.now) process.now result × (result.dir ≡ dir) }
+{
+    match above.get(depth) {
+        Some(kept) if kept.dir == dir => *kept,
+        _ => on_device(tree, process, dir),
+    }
 }
 
 /// Adds the rows of an item. The only error is that a growth was refused.
@@ -152,12 +243,15 @@ fn add_rows<'t, T: FileTree>(
     prospects: &Prospects,
     process: &Process,
     table: &CallTable,
+    movable: &Movable,
     item: &ListItem<'t>,
     rows: &mut Vec<EverRow<'t>>,
 ) -> Result<(), AllocError>
     ensures told { OnOk result ((items so_far left : List Listed) →
         WellFormed (T.content tree.now) → EditsNeedC table.now →
         IsProspects (T.content tree.now) table.now process.now prospects.now →
+        IsMovableAt (T.content tree.now) table.now process.now (subject_given
+        (T.content tree.now) item.now.item.subject) movable.now →
         IsToldIn (T.content tree.now) process.now item.now →
         item.now.depth ≤ length (last_word [] so_far) →
         AreRowsSoFar (T.content tree.now) table.now process.now items so_far (item.now ∷ left)
@@ -167,7 +261,7 @@ fn add_rows<'t, T: FileTree>(
         AllByRecursion (IsRowOn t process.now) rows.old.items →
         AllByRecursion (IsRowOn t process.now) rows.new.items) }
 {
-    let stands = stands_row(tree, prospects, process, table, item);
+    let stands = stands_row(tree, prospects, process, table, movable, item);
     let Ok(()) = rows.push(stands) else {
         return Err(AllocError);
     };
@@ -205,6 +299,7 @@ fn stands_row<'t, T: FileTree>(
     prospects: &Prospects,
     process: &Process,
     table: &CallTable,
+    movable: &Movable,
     item: &ListItem<'t>,
 ) -> EverRow<'t>
     ensures at { IsRowAt item.now result }
@@ -213,6 +308,8 @@ fn stands_row<'t, T: FileTree>(
     ensures on { (t : Tree) (h : ProcessState) → IsToldIn t h item.now → IsRowOn t h result }
     ensures row { WellFormed (T.content tree.now) → EditsNeedC table.now →
         IsProspects (T.content tree.now) table.now process.now prospects.now →
+        IsMovableAt (T.content tree.now) table.now process.now (subject_given
+        (T.content tree.now) item.now.item.subject) movable.now →
         IsToldIn (T.content tree.now) process.now item.now →
         IsStandsRow (T.content tree.now) table.now process.now item.now result }
 {
@@ -223,7 +320,7 @@ fn stands_row<'t, T: FileTree>(
         about: EverAbout::Stands(place_of(own), own.object, own.cover),
         line: EverLine {
             thing: EverThing::Stands(kind_of(own)),
-            calls: prospects.calls_on(tree, process, table, own),
+            calls: prospects.calls_on(tree, process, table, movable, own),
         },
         inside: item.inside,
     }

@@ -1,6 +1,7 @@
 //! The calls that can ever be allowed on what can be moved or made.
 
-ghost use Rattle.std.specs.Prelude.{◌≡◌, Some, ◌++◌, [], IfOk, if◌then◌else◌, slice_index};
+ghost use Rattle.std.specs.Prelude.{◌≡◌, ℕ, Option, Some, None, ◌++◌, [], IfOk, if◌then◌else◌};
+ghost use Rattle.std.specs.Prelude.{slice_index};
 ghost use Rattle.pua_tree.specs.Kinds.{about_kind};
 ghost use Rattle.pua_tree.specs.Tree.{Tree, empty_tree};
 ghost use Rattle.pua_tree.specs.declared.node.Kind.{Kind as AnyKind};
@@ -15,7 +16,7 @@ ghost use Rattle.pua_ever.specs.Ever.{open_covers};
 ghost use Rattle.pua_ever.specs.Movable.{IsMovable, all_destinations};
 ghost use Rattle.pua_ever.specs.Destinations.{HaveSame};
 
-use crate::destinations::{Destinations, find_destinations};
+use crate::destinations::{Covers, find_destinations};
 use crate::moving::moves_any;
 use pua_calls::{CallTable, Calls};
 use pua_policy::{Cover, Object, Process, judge};
@@ -24,8 +25,8 @@ use std::alloc::Global;
 
 /// The calls that can ever be allowed on what can be moved now and has no veil of its own that goes
 /// with it, and on what is made, by what it is: the calls that are allowed under some cover that it
-/// can come to have. So they are on a file, program or link that link can give a further name,
-/// beside those that its own cover allows.
+/// can come to have, on one device or on any. So they are on a file, program or link that link can
+/// give a further name, beside those that its own cover allows.
 #[derive(Clone, Copy)]
 pub struct Movable {
     /// On a directory, rmdir aside.
@@ -53,10 +54,10 @@ impl Movable {
 
     /// The calls on what is no directory and stands at a name.
     pub(crate) fn on(&self, object: Object) -> Calls
-        ensures { (t : Tree) (table : Table) (h : ProcessState) (kind : AnyKind) →
-            IsMovable t table h self.now → object
+        ensures { (t : Tree) (table : Table) (h : ProcessState) (on : Option ℕ) (kind : AnyKind) →
+            IsMovable t table h on self.now → object
             ≡ object_seen empty_tree (object_of_kind (Some kind)) → (call : Call) → has result call
-            ≡ is_allowed_under table h (file_covers t table h) (object_of_kind (Some kind)) call }
+            ≡ is_allowed_under table h (file_covers t table h on) (object_of_kind (Some kind)) call }
     {
         match object {
             Object::Node(kind) => self.on_node(kind),
@@ -82,19 +83,21 @@ pub fn find_movable<T: FileTree>(
     process: &Process,
     table: &CallTable,
 ) -> Result<Movable, OutOfMemory>
-    ensures { IfOk result (λ found. IsMovable (T.content tree.now) table.now process.now found) }
+    ensures { IfOk result (λ found. IsMovable
+        (T.content tree.now) table.now process.now None found) }
 {
     let found = find_destinations(alloc, tree, process)?;
-    Ok(calls_by_object(process, table, &found))
+    let covers = found.covers(alloc, None)?;
+    Ok(calls_by_object(process, table, &covers))
 }
 
 /// The calls by what they are on.
-pub(crate) fn calls_by_object(process: &Process, table: &CallTable, found: &Destinations) -> Movable
-    ensures { (t : Tree) → HaveSame (found.now.dirs.items
-        ++ found.now.entrances.items) (dir_covers t process.now) →
-        HaveSame found.now.names.items (name_covers t process.now) →
-        HaveSame found.now.dirs.items (open_covers t process.now) →
-        IsMovable t table.now process.now result }
+pub(crate) fn calls_by_object(process: &Process, table: &CallTable, found: &Covers) -> Movable
+    ensures { (t : Tree) (on : Option ℕ) → HaveSame (found.now.dirs.items
+        ++ found.now.entrances.items) (dir_covers t process.now on) →
+        HaveSame found.now.names.items (name_covers t process.now on) →
+        HaveSame found.now.dirs.items (open_covers t process.now on) →
+        IsMovable t table.now process.now on result }
 {
     let dir = on_dirs(process, table, found, Object::Node(Kind::Dir));
     let emptied = on_dirs(process, table, found, Object::Removable);
@@ -117,7 +120,7 @@ pub(crate) fn calls_by_object(process: &Process, table: &CallTable, found: &Dest
 fn calls_by_kind(
     process: &Process,
     table: &CallTable,
-    found: &Destinations,
+    found: &Covers,
     moves: bool,
 ) -> [Calls; Kind::COUNT]
     ensures { (kind : AnyKind) (call : Call) → has (slice_index result (about_kind kind).number)
@@ -137,13 +140,7 @@ fn calls_by_kind(
 }
 
 /// The calls on what is of a kind, where anything but a directory can come.
-fn on_node(
-    process: &Process,
-    table: &CallTable,
-    found: &Destinations,
-    moves: bool,
-    kind: Kind,
-) -> Calls
+fn on_node(process: &Process, table: &CallTable, found: &Covers, moves: bool, kind: Kind) -> Calls
     ensures { (call : Call) → has result call ≡ is_allowed_under table.now process.now
         (all_destinations found.now moves) (Is kind) call }
 {
@@ -151,7 +148,7 @@ fn on_node(
 }
 
 /// The calls on such an object where a directory can come.
-fn on_dirs(process: &Process, table: &CallTable, found: &Destinations, object: Object) -> Calls
+fn on_dirs(process: &Process, table: &CallTable, found: &Covers, object: Object) -> Calls
     ensures { (judged : Judged) → object ≡ object_seen empty_tree judged → (call : Call) →
         has result call ≡ is_allowed_under table.now process.now (found.now.dirs.items
         ++ found.now.entrances.items) judged call }
@@ -166,7 +163,7 @@ fn on_dirs(process: &Process, table: &CallTable, found: &Destinations, object: O
 fn on_files(
     process: &Process,
     table: &CallTable,
-    found: &Destinations,
+    found: &Covers,
     moves: bool,
     object: Object,
 ) -> Calls
@@ -185,7 +182,7 @@ fn on_files(
 }
 
 /// The calls on a name where nothing stands, wherever something can be made.
-fn on_names(process: &Process, table: &CallTable, found: &Destinations) -> Calls
+fn on_names(process: &Process, table: &CallTable, found: &Covers) -> Calls
     ensures { (call : Call) → has result call
         ≡ is_allowed_under table.now process.now (found.now.names.items
         ++ (found.now.dirs.items ++ found.now.entrances.items)) IsMissing call }

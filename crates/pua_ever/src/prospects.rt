@@ -1,6 +1,6 @@
 //! What decides the calls of the lines.
 
-ghost use Rattle.std.specs.Prelude.{◌≡◌, ◌&&◌, Option, Some, option_map, true, not, is_none};
+ghost use Rattle.std.specs.Prelude.{◌≡◌, ◌&&◌, ℕ, Option, Some, option_map, true, not, is_none};
 ghost use Rattle.std.specs.Prelude.{if◌then◌else◌, ◌==◌, IfOk};
 ghost use Rattle.std.specs.List.{list_any};
 ghost use Rattle.pua_tree.specs.Tree.{Tree, WellFormed, empty_tree, is_dir as lives_as_dir};
@@ -23,13 +23,16 @@ ghost use Rattle.pua_ever.specs.Ever.{is_new_allowed};
 ghost use Rattle.pua_ever.specs.Ever.{is_named_way, own_spot};
 ghost use Rattle.pua_ever.specs.Ever.{may_link as links_files, can_link as gives_names};
 ghost use Rattle.pua_ever.specs.Ever.{can_move as moves};
-ghost use Rattle.pua_ever.specs.Ever.{is_turned_there, named_covers};
+ghost use Rattle.pua_ever.specs.Ever.{is_turned_there, named_covers, stays_on};
+ghost use Rattle.pua_ever.specs.Destinations.{StaysPut};
+ghost use Rattle.pua_ever.specs.Movable.{IsMovable};
 ghost use Rattle.pua_ever.specs.EverLines.{new_of};
 ghost use Rattle.pua_ever.specs.Laws.{EditsNeedC};
-ghost use Rattle.pua_ever.specs.Prospects.{IsProspects, AreOnFreed, IsTurnedSet, own_given};
+ghost use Rattle.pua_ever.specs.Prospects.{IsProspects, AreOnFreed, IsMovableAt, IsTurnedSet};
+ghost use Rattle.pua_ever.specs.Prospects.{own_given};
 ghost use Rattle.pua_ever.specs.Prospects.{is_startable, kind_allowed, kind_covers};
 
-use crate::destinations::{find_destinations, has_c};
+use crate::destinations::{Destinations, find_destinations, has_c};
 use crate::made::Made;
 use crate::movable::{Movable, calls_by_object};
 use crate::moving::{can_move, may_any};
@@ -40,7 +43,7 @@ use pua_objects::{Item, Subject};
 use pua_path::Last;
 use pua_policy::{Cover, Object, Place, Process, judge};
 use pua_tree::{FileTree, FileType, Kind, Name, NodeId, OutOfMemory};
-use std::alloc::Global;
+use std::alloc::{AllocError, Global};
 use std::collections::BTreeSet;
 
 /// What decides the calls of the lines of a list for ever, beside an item's own object and cover.
@@ -51,12 +54,11 @@ pub struct Prospects {
     may_edit: bool,
     /// Whether the promises of both of link's names are held.
     may_link: bool,
-    /// The directories in which something stays that has no `c`: no other one with `c` but can be
-    /// emptied.
-    held: Vec<NodeId>,
+    /// Where things can come; no directory with `c` but those that are held there stays full.
+    destinations: Destinations,
     /// The numbers of the nodes that the process holds open so that it can make programs of them.
     turned: BTreeSet<u32>,
-    /// The calls on what is moved or made.
+    /// The calls on what is moved or made, on any device.
     movable: Movable,
 }
 
@@ -72,12 +74,13 @@ pub fn find_prospects<T: FileTree>(
     ensures { IfOk result (λ found. IsProspects (T.content tree.now) table.now process.now found) }
 {
     let found = find_destinations(alloc, tree, process)?;
-    let movable = calls_by_object(process, table, &found);
+    let covers = found.covers(alloc, None)?;
+    let movable = calls_by_object(process, table, &covers);
     let turned = turned_nodes(alloc, process)?;
     Ok(Prospects {
         may_edit: may_edit(process, table),
         may_link: may_link(process, table),
-        held: found.held,
+        destinations: found,
         turned,
         movable,
     })
@@ -114,28 +117,54 @@ fn may_call(process: &Process, table: &CallTable) -> bool
 }
 
 impl Prospects {
-    /// The calls that can ever be allowed on what an item of a tree is about.
+    /// The calls on what is moved from a device that goes along, and on what is made.
+    pub fn anywhere(&self) -> Movable
+        ensures { result ≡ self.now.movable }
+    {
+        self.movable
+    }
+
+    /// The calls on what is moved from a device, where the covers are those on this one, or on any.
+    /// The only error is that a growth was refused.
+    pub fn movable_on(
+        &self,
+        alloc: Global,
+        process: &Process,
+        table: &CallTable,
+        on: Option<NodeId>,
+    ) -> Result<Movable, AllocError>
+        ensures { IfOk result (λ found. (t : Tree) → IsProspects t table.now process.now self.now →
+            StaysPut t process.now on → IsMovable t table.now process.now on found) }
+    {
+        let covers = self.destinations.covers(alloc, on)?;
+        Ok(calls_by_object(process, table, &covers))
+    }
+
+    /// The calls that can ever be allowed on what an item of a tree is about, by those on what is
+    /// moved from its device.
     pub fn calls_on<T: FileTree>(
         &self,
         tree: &T,
         process: &Process,
         table: &CallTable,
+        movable: &Movable,
         item: &Item<'_>,
     ) -> Calls
         ensures { (about : About) → WellFormed (T.content tree.now) → EditsNeedC table.now →
             IsProspects (T.content tree.now) table.now process.now self.now →
+            IsMovableAt (T.content tree.now) table.now process.now about movable.now →
             SubjectFits (T.content tree.now) about →
             IsItemOn (T.content tree.now) process.now about item.now → (call : AnyCall) →
             has result call
             ≡ is_ever_allowed (T.content tree.now) table.now process.now about call }
     {
         match item.subject {
-            Subject::Root => self.on_dir(process, table, NodeId::ROOT, false, item),
-            Subject::Dir(dir, _, _) => self.on_dir(process, table, dir, true, item),
-            Subject::Others(dir) => self.on_others(process, table, dir, &item.cover),
+            Subject::Root => self.on_dir(process, table, movable, NodeId::ROOT, false, item),
+            Subject::Dir(dir, _, _) => self.on_dir(process, table, movable, dir, true, item),
+            Subject::Others(dir) => on_others(process, table, movable, dir, &item.cover),
             Subject::Name(dir, name) => {
                 let turned = self.is_turned_at(tree, dir, name);
-                self.on_name(process, table, turned, item)
+                self.on_name(process, table, movable, turned, item)
             }
         }
     }
@@ -145,43 +174,44 @@ impl Prospects {
         &self,
         process: &Process,
         table: &CallTable,
+        movable: &Movable,
         dir: NodeId,
         is_named: bool,
         item: &Item<'_>,
     ) -> Calls
         ensures { (t : Tree) (way : Way) → EditsNeedC table.now →
-            IsProspects t table.now process.now self.now → lives_as_dir t dir ≡ true → is_named
+            IsProspects t table.now process.now self.now →
+            IsMovable t table.now process.now (stays_on t process.now dir) movable.now →
+            lives_as_dir t dir ≡ true → is_named
             ≡ is_named_way way → item.now.cover ≡ cover_of_others t process.now dir →
             item.now.object ≡ object_seen t (IsDir dir way) → (call : AnyCall) → has result call
             ≡ is_ever_allowed t table.now process.now (At (Whole dir way)) call }
     {
         let emptied = self.can_empty(dir, is_named);
         if moves_dir(process, table, dir, &item.cover) {
-            return self.movable.on_dir(emptied);
+            return movable.on_dir(emptied);
         }
         let object = self.seen_as(emptied, item.object);
         judge::allowed(process, table, item.cover, object)
     }
 
-    /// The calls on the further names of a directory.
-    fn on_others(&self, process: &Process, table: &CallTable, dir: NodeId, cover: &Cover) -> Calls
-        ensures { (t : Tree) → IsProspects t table.now process.now self.now → cover.now
-            ≡ cover_of_others t process.now dir → (call : AnyCall) → has result call
-            ≡ is_ever_allowed t table.now process.now (Others dir) call }
-    {
-        if moves_dir(process, table, dir, cover) {
-            return self.movable.others;
-        }
-        judge::allowed(process, table, *cover, Object::Missing)
-    }
-
     /// The calls on a name at which no directory stands, by what does.
-    fn on_name(&self, process: &Process, table: &CallTable, turned: bool, item: &Item<'_>) -> Calls
-        ensures { (t : Tree) (kind : Option AnyKind) → IsProspects t table.now process.now self.now →
+    fn on_name(
+        &self,
+        process: &Process,
+        table: &CallTable,
+        movable: &Movable,
+        turned: bool,
+        item: &Item<'_>,
+    ) -> Calls
+        ensures { (t : Tree) (on : Option ℕ) (kind : Option AnyKind) →
+            IsProspects t table.now process.now self.now →
+            IsMovable t table.now process.now on movable.now →
             item.now.object ≡ object_seen empty_tree (object_of_kind kind) → (call : AnyCall) →
-            has result call ≡ kind_allowed t table.now process.now turned item.now.cover kind call }
+            has result call
+            ≡ kind_allowed t table.now process.now on turned item.now.cover kind call }
     {
-        let calls = self.on_plain(process, table, turned, item);
+        let calls = self.on_plain(process, table, movable, turned, item);
         if item.object == Object::Node(Kind::Link) {
             calls.keeping()
         } else {
@@ -190,48 +220,76 @@ impl Prospects {
     }
 
     /// The same, of a link with the calls on what it leads to.
-    fn on_plain(&self, process: &Process, table: &CallTable, turned: bool, item: &Item<'_>) -> Calls
-        ensures { (t : Tree) (kind : Option AnyKind) → IsProspects t table.now process.now self.now →
+    fn on_plain(
+        &self,
+        process: &Process,
+        table: &CallTable,
+        movable: &Movable,
+        turned: bool,
+        item: &Item<'_>,
+    ) -> Calls
+        ensures { (t : Tree) (on : Option ℕ) (kind : Option AnyKind) →
+            IsProspects t table.now process.now self.now →
+            IsMovable t table.now process.now on movable.now →
             item.now.object ≡ object_seen empty_tree (object_of_kind kind) → (call : AnyCall) →
             has result call ≡ can_allow table.now process.now turned
-            (kind_covers t table.now process.now item.now.cover kind) (object_of_kind kind) call }
+            (kind_covers t table.now process.now on item.now.cover kind) (object_of_kind kind) call }
     {
         if item.object == Object::Missing {
             return judge::allowed(process, table, item.cover, item.object);
         }
-        self.on_thing(process, table, turned, item)
+        self.on_thing(process, table, movable, turned, item)
     }
 
     /// The same, of what stands there; of a file with exec, where it can be made a program.
-    fn on_thing(&self, process: &Process, table: &CallTable, turned: bool, item: &Item<'_>) -> Calls
-        ensures { (t : Tree) (kind : AnyKind) → IsProspects t table.now process.now self.now →
+    fn on_thing(
+        &self,
+        process: &Process,
+        table: &CallTable,
+        movable: &Movable,
+        turned: bool,
+        item: &Item<'_>,
+    ) -> Calls
+        ensures { (t : Tree) (on : Option ℕ) (kind : AnyKind) →
+            IsProspects t table.now process.now self.now →
+            IsMovable t table.now process.now on movable.now →
             item.now.object ≡ object_seen empty_tree (object_of_kind (Some kind)) →
             (call : AnyCall) → has result call ≡ can_allow table.now process.now turned
-            (named_covers t table.now process.now (Some kind) item.now.cover) (object_of_kind
+            (named_covers t table.now process.now on (Some kind) item.now.cover) (object_of_kind
             (Some kind)) call }
     {
-        let calls = self.on_seen(process, table, &item.cover, item.object);
+        let calls = self.on_seen(process, table, movable, &item.cover, item.object);
         if !is_startable(item.object) {
             return calls;
         }
-        let as_program = self.on_seen(process, table, &item.cover, Object::Node(Kind::Prog));
+        let program = Object::Node(Kind::Prog);
+        let as_program = self.on_seen(process, table, movable, &item.cover, program);
         on_file(turned, calls, as_program)
     }
 
     /// The same, of what stays what it is.
-    fn on_seen(&self, process: &Process, table: &CallTable, cover: &Cover, object: Object) -> Calls
-        ensures { (t : Tree) (kind : AnyKind) → IsProspects t table.now process.now self.now → object
+    fn on_seen(
+        &self,
+        process: &Process,
+        table: &CallTable,
+        movable: &Movable,
+        cover: &Cover,
+        object: Object,
+    ) -> Calls
+        ensures { (t : Tree) (on : Option ℕ) (kind : AnyKind) →
+            IsProspects t table.now process.now self.now →
+            IsMovable t table.now process.now on movable.now → object
             ≡ object_seen empty_tree (object_of_kind (Some kind)) → (call : AnyCall) →
             has result call ≡ is_allowed_under table.now process.now
-            (named_covers t table.now process.now (Some kind) cover.now) (object_of_kind
+            (named_covers t table.now process.now on (Some kind) cover.now) (object_of_kind
             (Some kind)) call }
     {
         if can_move(process, table, cover) {
-            return self.movable.on(object);
+            return movable.on(object);
         }
         let calls = judge::allowed(process, table, *cover, object);
         if self.can_link(table, *cover, object) {
-            return calls.union(self.movable.on(object));
+            return calls.union(movable.on(object));
         }
         calls
     }
@@ -309,9 +367,9 @@ impl Prospects {
     /// to be so if it has `c`.
     fn can_empty(&self, dir: NodeId, is_named: bool) -> bool
         ensures { result
-            ≡ (is_named && not (list_any (λ other. other == dir) self.now.held.items)) }
+            ≡ (is_named && not (list_any (λ other. other == dir) self.now.destinations.held.items)) }
     {
-        is_named && !self.held.contains(&dir)
+        is_named && !self.destinations.held.contains(&dir)
     }
 
     /// What rmdir is on, of a directory that is seen so now.
@@ -324,6 +382,25 @@ impl Prospects {
             object
         }
     }
+}
+
+/// The calls on the further names of a directory.
+fn on_others(
+    process: &Process,
+    table: &CallTable,
+    movable: &Movable,
+    dir: NodeId,
+    cover: &Cover,
+) -> Calls
+    ensures { (t : Tree) →
+        IsMovable t table.now process.now (stays_on t process.now dir) movable.now → cover.now
+        ≡ cover_of_others t process.now dir → (call : AnyCall) → has result call
+        ≡ is_ever_allowed t table.now process.now (Others dir) call }
+{
+    if moves_dir(process, table, dir, cover) {
+        return movable.others;
+    }
+    judge::allowed(process, table, *cover, Object::Missing)
 }
 
 /// Whether an object is a file that is a plain one or may be.

@@ -233,6 +233,7 @@ pub(crate) fn list(
         columns: Columns::Plain,
         images: false,
         beside: None,
+        below: None,
     };
     let table = TableChoice::STANDARD;
     list_to(alloc, tree, lines, table, &list, &mut sink)?;

@@ -37,10 +37,10 @@ use Rattle.pua_how.specs.declared.target.Target.{Target}
 use Rattle.pua_how.specs.declared.target.Target.TheVariants as target
 
 abbrev directory : Node
-directory = record { kind = Dir; target = None }
+directory = record { kind = Dir; target = None; mount = false }
 
 abbrev file : Node
-file = record { kind = File; target = None }
+file = record { kind = File; target = None; mount = false }
 
 -- `/etc/conf` may be read, and `/run/pid` read, written and replaced
 abbrev pub pid_tree : Tree

@@ -117,7 +117,8 @@ impl<'p> Search<'p, '_> {
         let planner = self.planner;
         let from = Origin::Standing(row);
         let links = planner.gives(By::Link, row.object == Object::Node(Kind::Link));
-        let is_bound = row.is_dir() && (row.name.is_none() || planner.is_veiled(row));
+        let is_kept = row.name.is_none() || row.is_mount() || planner.is_veiled(row);
+        let is_bound = row.is_dir() && is_kept;
         if self.suffices(&row.cover) {
             self.add(Form::plain(from, By::Rename, Destination::Here))
         } else if self.is_movable(row) && !is_bound {
@@ -143,7 +144,7 @@ impl<'p> Search<'p, '_> {
     }
 
     /// Adds those for what comes from somewhere: into a directory in which the call is granted, one
-    /// that isn't in it or else any, or by a veil.
+    /// that isn't in it or else any, or by a veil. What stands stays on its device.
     fn add_moves(&mut self, from: Origin<'p>, by: By) -> Result<(), AllocError> {
         let planner = self.planner;
         let need = planner.call(self.call).and(planner.takes(by));
@@ -151,8 +152,9 @@ impl<'p> Search<'p, '_> {
             Origin::Standing(row) => planner.extent(row),
             Origin::Made(_) => 0..0,
         };
-        let outer = planner.nearest(&[inner], &need);
-        if let Some(room) = outer.or(planner.nearest(&[], &need)) {
+        let on = from.device();
+        let outer = planner.nearest(&[inner], &need, &on);
+        if let Some(room) = outer.or(planner.nearest(&[], &need, &on)) {
             self.add(Form::plain(from, by, Destination::Inside(room)))?;
         }
         for veil in &planner.veils {
@@ -192,7 +194,9 @@ impl<'p> Search<'p, '_> {
             (Carrier::Made, _) => !form.is_dir(),
         };
         let (is_dir, by) = form.mover();
-        let fits = !veil.is_at_dir || (is_dir && by == By::Rename);
+        let is_near = form.device().is_none_or(|device| device == veil.row.over);
+        let gives_way = is_dir && by == By::Rename && !veil.row.is_mount();
+        let fits = is_near && (!veil.is_at_dir || gives_way);
         let suffices = self.suffices(if is_dir { &veil.outer } else { &veil.cover });
         let takes = self.planner.takes(by);
         is_carried && fits && suffices && takes.is_met(&veil.cover)

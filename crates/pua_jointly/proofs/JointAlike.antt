@@ -1,5 +1,5 @@
 -- What can make a program of a file is on a plain file as it is on one of which no more is known.
-use Rattle.pua_jointly.proofs.Common.{◌≡◌, ◌⊎◌, ◌∷◌, [], true, false, Bool, List, refl, ap, subst, inl, inr, false≢true, Among}
+use Rattle.pua_jointly.proofs.Common.{◌≡◌, ◌∷◌, [], true, false, Bool, List, refl, ap, subst, inl, inr, false≢true, Among}
 use Rattle.pua_jointly.proofs.Common.{Call, CallTable, Cover, ProcessState, Kind, covered_verdict, is_allowed, empty_tree}
 use Rattle.std.specs.List.{AllByRecursion}
 use Rattle.std.specs.Prelude.{option_map}

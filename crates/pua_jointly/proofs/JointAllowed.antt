@@ -10,7 +10,7 @@ use Rattle.pua_policy.specs.declared.place.Place.TheVariants as place
 use Rattle.pua_ever.specs.Ever.{Thing, is_exec_call, may_start, new_object}
 use Rattle.pua_jointly.specs.JointCalls.{AreAllowedOf, AreCallsOf, AreFreeCalls, free_allows}
 use Rattle.pua_jointly.specs.JointCovers.{allows_under, numbered}
-use Rattle.pua_jointly.specs.Jointly.{Seat, Old, Made, Source, Row, Maker, Can, DirCover, NameCover, Free, StandsAt, IsJointlyAllowed, Shows, is_link_thing}
+use Rattle.pua_jointly.specs.Jointly.{Hand, Seat, Old, Made, Source, Row, Maker, Can, DirCover, NameCover, Free, StandsAt, IsJointlyAllowed, Shows, is_link_thing}
 use Rattle.pua_jointly.specs.Jointly.{shows_dir, shows_emptied, shows_others, shows_row, shows_name, shows_new_dir, shows_new_others, shows_new_file}
 use Rattle.pua_jointly.specs.Jointly.{shows_new_link, shows_new_sock, shows_new_fifo, CanTurn, IsJointlyStarted}
 use Rattle.pua_jointly.specs.Closing.{has_bit}
@@ -40,12 +40,12 @@ module _ (t : Tree) (table : CallTable) (crew : List ProcessState) (a : ProcessS
       (perms : ℕ) × (is_dir t dir ≡ true) × (perms_kept a (place.Slot dir name) ≡ Some perms) × Can t table crew (Free (Old dir) name)
       × (k ≡ Only perms) × (o ≡ IsMissing)
   ShownAs (Stands (Others d)) k o = Can t table crew (DirCover a (Old d) k) × (o ≡ IsMissing)
-  ShownAs (Comes NewDir) k o = (m : ProcessState) × Can t table crew (DirCover a (Made m) k) × (o ≡ removable_dir)
-  ShownAs (Comes NewOthers) k o = (m : ProcessState) × Can t table crew (DirCover a (Made m) k) × (o ≡ IsMissing)
-  ShownAs (Comes NewFile) k o = (m : ProcessState) × Comes_as (Maker NewFile m) k × (o ≡ new_object table NewFile)
-  ShownAs (Comes NewLink) k o = (m : ProcessState) × Comes_as (Maker NewLink m) k × (o ≡ IsLink)
-  ShownAs (Comes NewSock) k o = (m : ProcessState) × Comes_as (Maker NewSock m) k × (o ≡ new_object table NewSock)
-  ShownAs (Comes NewFifo) k o = (m : ProcessState) × Comes_as (Maker NewFifo m) k × (o ≡ new_object table NewFifo)
+  ShownAs (Comes NewDir) k o = (m : Hand) × Can t table crew (DirCover a (Made m) k) × (o ≡ removable_dir)
+  ShownAs (Comes NewOthers) k o = (m : Hand) × Can t table crew (DirCover a (Made m) k) × (o ≡ IsMissing)
+  ShownAs (Comes NewFile) k o = (m : Hand) × Comes_as (Maker NewFile m) k × (o ≡ new_object table NewFile)
+  ShownAs (Comes NewLink) k o = (m : Hand) × Comes_as (Maker NewLink m) k × (o ≡ IsLink)
+  ShownAs (Comes NewSock) k o = (m : Hand) × Comes_as (Maker NewSock m) k × (o ≡ new_object table NewSock)
+  ShownAs (Comes NewFifo) k o = (m : Hand) × Comes_as (Maker NewFifo m) k × (o ≡ new_object table NewFifo)
 
   pub shown : {thing : Thing} {k : Cover} {o : Object} → Shows t table crew a thing k o → ShownAs thing k o
   shown (shows_dir can) = (can, inl refl)

@@ -9,7 +9,7 @@ use Rattle.pua_policy.specs.declared.place.Place.TheVariants as place
 use Rattle.pua_jointly.specs.Closing.{has_bit}
 use Rattle.pua_jointly.specs.Jointly.{Old}
 use Rattle.pua_jointly.specs.JointFacts.{Kept, Covers, IsOver, over_own, over_within}
-use Rattle.pua_jointly.specs.JointTable.{IsTold, entities, columns, table_says, TableFits}
+use Rattle.pua_jointly.specs.JointTable.{IsTold, entities, columns, hands_of, table_says, TableFits}
 use Rattle.pua_jointly.specs.JointPlace.{Once, cover_bit}
 use Rattle.pua_jointly.specs.JointSetting.{is_on}
 use Rattle.pua_jointly.specs.JointWords.{word_at, covers_in, has_named, is_name, meets, AreCovers}
@@ -49,11 +49,11 @@ asked_same h true is told columns dir name of = refl
 asked_same h false is told columns dir name of =
     ap (λ o. own_or_word o (covers_in (word_at told columns dir of))) (sym (no_name h (sym is) dir name))
 
-module _ (t : Tree) (table : CallTable) (crew : List ProcessState) (watched : ℕ → Bool) (dirs : ℕ) (spots : List Spot)
-    (guarded : List ℕ) (fits : TableFits t crew watched dirs spots guarded) (each_agent : Once crew) (each_name : Once spots)
+module _ (t : Tree) (table : CallTable) (crew : List ProcessState) (devices : List ℕ) (watched : ℕ → Bool) (dirs : ℕ) (spots : List Spot)
+    (guarded : List ℕ) (fits : TableFits t crew devices watched dirs spots guarded) (each_agent : Once crew) (each_hand : Once (hands_of crew devices)) (each_name : Once spots)
     (each_watched : Once guarded) (told : List ℕ) where
   abbrev pub T : Kept → Type 0
-  T x = IsTold (table_says (entities crew dirs spots) (columns crew guarded)) told x
+  T x = IsTold (table_says (entities (hands_of crew devices) dirs spots) (columns crew guarded)) told x
 
   abbrev pub many : ℕ
   many = length (columns crew guarded)
@@ -70,8 +70,8 @@ module _ (t : Tree) (table : CallTable) (crew : List ProcessState) (watched : �
         has_bit (own_or_word own within) (cover_bit k) → Over k
     own_means k small (Some perms) e known = subst Over (sym (alone_is (Only perms) k known)) (over_own stands e)
     own_means k small None e known =
-        over_within e (is_told crew dirs spots guarded each_agent each_name each_watched told (dir * many + j) (cover_bit k) (Covers a (Old dir) k)
-        (covers_said crew dirs spots guarded dir j (Old dir) a k (old_at low) of small)
+        over_within e (is_told crew (hands_of crew devices) dirs spots guarded each_agent each_hand each_name each_watched told (dir * many + j) (cover_bit k) (Covers a (Old dir) k)
+        (covers_said crew (hands_of crew devices) dirs spots guarded dir j (Old dir) a k (old_at low) of small)
         (sym (masked (word_at told many dir j) (cover_bit k) small) ∙ known))
 
     pub over_has : (k : Cover) → cover_bit k < 18 → Over k → has_bit (over_word a told many dir name j) (cover_bit k)
@@ -79,8 +79,8 @@ module _ (t : Tree) (table : CallTable) (crew : List ProcessState) (watched : �
     over_has k small (over_within none cov) =
         ap (λ o. bit_at (own_or_word o within) (cover_bit k) == 1) none
         ∙ (masked (word_at told many dir j) (cover_bit k) small
-        ∙ told_is crew dirs spots guarded each_agent each_name each_watched told (dir * many + j) (cover_bit k) (Covers a (Old dir) k)
-        (covers_said crew dirs spots guarded dir j (Old dir) a k (old_at low) of small) cov)
+        ∙ told_is crew (hands_of crew devices) dirs spots guarded each_agent each_hand each_name each_watched told (dir * many + j) (cover_bit k) (Covers a (Old dir) k)
+        (covers_said crew (hands_of crew devices) dirs spots guarded dir j (Old dir) a k (old_at low) of small) cov)
 
     pub over_means : (k : Cover) → cover_bit k < 18 → has_bit (over_word a told many dir name j) (cover_bit k) → Over k
     over_means k small held = own_means k small (perms_kept a (place.Slot dir name)) refl held
@@ -100,5 +100,5 @@ module _ (t : Tree) (table : CallTable) (crew : List ProcessState) (watched : �
 
       pub some_over_has : (k : Cover) → Over k → IsTrue (test k) → meets (over_word a told many dir name j) mask ≡ true
       some_over_has k is passes =
-          let small = small_of k (over_small t table crew watched dirs spots guarded fits told a (Old dir) name k among is) in
+          let small = small_of k (over_small t table crew devices watched dirs spots guarded fits told a (Old dir) name k among is) in
           meets_by (over_word a told many dir name j) mask (cover_bit k) (over_has k small is) (covers.all k small ∙ passes)

@@ -10,14 +10,14 @@ use Rattle.std.specs.List.{Contains}
 use Rattle.std.specs.Int.{bit_at}
 use Rattle.std.specs.Int.Bits.{bit_or}
 use Rattle.std.proofs.lemmas.Nat.Bits.{bit_at-zero, bit_at-pow_same, bit_at-pow_other}
-use Rattle.pua_tree.specs.Tree.{parent}
+use Rattle.pua_tree.specs.Tree.{device, parent}
 use Rattle.pua_policy.specs.declared.answer.Cover.TheVariants.{Nothing}
 use Rattle.pua_policy.specs.declared.place.Place.TheVariants as place
 use Rattle.pua_jointly.specs.Closing.{has_bit}
-use Rattle.pua_jointly.specs.Jointly.{Seat, Old, is_standing, own_veil}
+use Rattle.pua_jointly.specs.Jointly.{Hand, seat_device, Seat, Old, is_standing, own_veil}
 use Rattle.pua_jointly.specs.JointFacts.{Kept, Covers, Lands, Enters, Clear, Moves, IsPlain, Follows, covers_own, covers_root, covers_within}
 use Rattle.pua_jointly.specs.JointFacts.{covers_moved, covers_apart, covers_born}
-use Rattle.pua_jointly.specs.JointTable.{IsTold, entities, columns, table_says, TableFits}
+use Rattle.pua_jointly.specs.JointTable.{IsTold, entities, columns, hands_of, table_says, TableFits}
 use Rattle.pua_jointly.specs.JointPlace.{Once, cover_bit}
 use Rattle.pua_jointly.specs.JointWords.{word_at}
 use Rattle.pua_jointly.specs.JointOld.{cover_word, root_word, parent_word, above_word, dir_word, old_word}
@@ -64,11 +64,11 @@ pub differs : (b : Bool) → (b ≡ true → ⊥) → b ≡ false
 differs true never = absurd (never refl)
 differs false never = refl
 
-module _ (t : Tree) (well : WellFormed t) (table : CallTable) (crew : List ProcessState) (watched : ℕ → Bool) (dirs : ℕ)
-    (spots : List Spot) (guarded : List ℕ) (fits : TableFits t crew watched dirs spots guarded) (each_agent : Once crew)
+module _ (t : Tree) (well : WellFormed t) (table : CallTable) (crew : List ProcessState) (devices : List ℕ) (watched : ℕ → Bool) (dirs : ℕ)
+    (spots : List Spot) (guarded : List ℕ) (fits : TableFits t crew devices watched dirs spots guarded) (each_agent : Once crew) (each_hand : Once (hands_of crew devices))
     (each_name : Once spots) (each_watched : Once guarded) (told : List ℕ) where
   abbrev pub T : Kept → Type 0
-  T x = IsTold (table_says (entities crew dirs spots) (columns crew guarded)) told x
+  T x = IsTold (table_says (entities (hands_of crew devices) dirs spots) (columns crew guarded)) told x
 
   abbrev pub many : ℕ
   many = length (columns crew guarded)
@@ -76,17 +76,17 @@ module _ (t : Tree) (well : WellFormed t) (table : CallTable) (crew : List Proce
   abbrev pub New : Kept → Type 0
   New x = Follows t table crew watched T x
 
-  abbrev pub IsFamily : ℕ → ℕ → (Seat → Kept) → (ProcessState → Kept) → Type 0
-  IsFamily j bit F L = Family t table crew watched dirs spots guarded fits each_agent each_name each_watched told j bit F L
+  abbrev pub IsFamily : ℕ → ℕ → (Seat → Kept) → (Hand → Kept) → Type 0
+  IsFamily j bit F L = Family t table crew devices watched dirs spots guarded fits each_agent each_hand each_name each_watched told j bit F L
 
-  pub known : (at bit : ℕ) (x : Kept) → says crew dirs spots guarded at bit x → has_bit (get_or told at 0) bit → T x
-  known at bit x it held = is_told crew dirs spots guarded each_agent each_name each_watched told at bit x it held
+  pub known : (at bit : ℕ) (x : Kept) → says crew (hands_of crew devices) dirs spots guarded at bit x → has_bit (get_or told at 0) bit → T x
+  known at bit x it held = is_told crew (hands_of crew devices) dirs spots guarded each_agent each_hand each_name each_watched told at bit x it held
 
-  pub has : (at bit : ℕ) (x : Kept) → says crew dirs spots guarded at bit x → T x → has_bit (get_or told at 0) bit
-  has at bit x it is = told_is crew dirs spots guarded each_agent each_name each_watched told at bit x it is
+  pub has : (at bit : ℕ) (x : Kept) → says crew (hands_of crew devices) dirs spots guarded at bit x → T x → has_bit (get_or told at 0) bit
+  has at bit x it is = told_is crew (hands_of crew devices) dirs spots guarded each_agent each_hand each_name each_watched told at bit x it is
 
   -- a bit of the directory above
-  module _ (j bit : ℕ) (F : Seat → Kept) (L : ProcessState → Kept) (fam : IsFamily j bit F L) (d : ℕ) where
+  module _ (j bit : ℕ) (F : Seat → Kept) (L : Hand → Kept) (fam : IsFamily j bit F L) (d : ℕ) where
     pub record Above : Type 0 where
       pub dir : ℕ
       pub name : List ℕ
@@ -128,13 +128,13 @@ module _ (t : Tree) (well : WellFormed t) (table : CallTable) (crew : List Proce
 
     -- how a directory comes elsewhere
     pub data Come : Type 0 where
-      come_plain : IsFalse (watched d) → (b : ProcessState) → Moves t table crew watched T b (Old d) → T (L b) → Come
+      come_plain : IsFalse (watched d) → (b : ProcessState) → Moves t table crew watched T b (Old d) → T (L (b, device t d)) → Come
       come_apart : IsTrue (watched d) → (b : ProcessState) (p : Seat) → Moves t table crew watched T b (Old d) → T (Enters b p) →
-          T (Clear d p) → T (F p) → Come
+          T (Clear d p) → T (F p) → seat_device t p ≡ device t d → Come
 
   module _ (d j : ℕ) (a : ProcessState) (k : Cover) (of : slice_get crew j ≡ Some a) (small : cover_bit k < 18) where
     abbrev pub fam : IsFamily j (cover_bit k) (λ p. Covers a p k) (λ b. Lands b a k)
-    fam = cover_family t table crew watched dirs spots guarded fits each_agent each_name each_watched told j a k of small
+    fam = cover_family t table crew devices watched dirs spots guarded fits each_agent each_hand each_name each_watched told j a k of small
 
     abbrev pub Comes : Type 0
     Comes = Come j (cover_bit k) (λ p. Covers a p k) (λ b. Lands b a k) fam d
@@ -162,7 +162,7 @@ module _ (t : Tree) (well : WellFormed t) (table : CallTable) (crew : List Proce
 
       comes_new : perms_kept a (place.Dir d) ≡ None → Comes → New (Covers a (Old d) k)
       comes_new none (come_plain plain b m lands) = covers_moved b among none plain m lands
-      comes_new none (come_apart is b p m enters clear cov) = covers_apart b p none is m enters clear cov
+      comes_new none (come_apart is b p m enters clear cov near) = covers_apart b p none is m enters clear cov near
 
       others_mean : perms_kept a (place.Dir d) ≡ None → has_bit (bit_or (bit_or root up) moved) (cover_bit k) → New (Covers a (Old d) k)
       others_mean none held =
@@ -229,12 +229,12 @@ module _ (t : Tree) (well : WellFormed t) (table : CallTable) (crew : List Proce
       by_rule c is_k s e (covers_moved b _ none is_plain m lands) =
           come_has (sym (ap (own_veil a) e) ∙ none)
           (come_plain (subst (IsPlain t table crew watched T) e is_plain) b (subst (Moves t table crew watched T b) e m)
-          (subst (λ x. T (Lands b a x)) is_k lands))
-      by_rule c is_k s e (covers_apart {d = x} b p none is m enters clear cov) =
+          (subst (λ q. T (Lands (b, seat_device t q) a k)) e (subst (λ x. T (Lands (b, seat_device t s) a x)) is_k lands)))
+      by_rule c is_k s e (covers_apart {d = x} b p none is m enters clear cov near) =
           let here : x ≡ d = ap seat_number e in
           come_has (sym (ap (own_veil a) e) ∙ none)
           (come_apart (subst (λ y. IsTrue (watched y)) here is) b p (subst (Moves t table crew watched T b) e m) enters
-          (subst (λ y. T (Clear y p)) here clear) (subst (λ x. T (Covers a p x)) is_k cov))
+          (subst (λ y. T (Clear y p)) here clear) (subst (λ x. T (Covers a p x)) is_k cov) (near ∙ ap (device t) here))
       by_rule c is_k s e (covers_born _ creates lands) = absurd (made_other _ d e)
 
       -- and what follows is found

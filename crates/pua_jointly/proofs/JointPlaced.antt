@@ -3,22 +3,23 @@ use Rattle.pua_jointly.proofs.Common.{◌≡◌, ◌<◌, ◌≤◌, ◌⊎◌, 
 use Rattle.pua_jointly.proofs.Common.{Option, Some, None, same_Some, None≢Some, Tree, CallTable, ProcessState, Spot, All}
 use Rattle.pua_jointly.proofs.Common.{Only, Cover, New, NewDir, NewOthers, NewFile, NewLink, NewSock, NewFifo, all_new, has_veil, if◌then◌else◌}
 use Rattle.pua_jointly.proofs.Common.{Among, among_contained, among_left, among_map, among_right}
-use Rattle.pua_objects.proofs.ForCallers.{among_either, map_among}
+use Rattle.pua_objects.proofs.ForCallers.{among_either, among_flat, flat_among, map_among}
+use Rattle.pua_tree.specs.Tree.{device}
 use Rattle.std.specs.Prelude.{⊤, slice_get, ◌/◌, ◌%◌, ◌*◌, ◌+◌, IsTrue}
 use Rattle.std.specs.List.{Contains}
 use Rattle.std.proofs.lemmas.Bool.{cases_lt}
 use Rattle.std.proofs.lemmas.Nat.{div-mul-add, mod-mul-add, mul-add-lt}
 use Rattle.pua_policy.specs.declared.answer.Cover.TheVariants.{Nothing}
 use Rattle.pua_policy.specs.declared.place.Place.TheVariants as place
-use Rattle.pua_jointly.specs.Jointly.{Seat, Old, Made, Row, Maker, own_veil}
+use Rattle.pua_jointly.specs.Jointly.{Hand, seat_device, Seat, Old, Made, Row, Maker, own_veil}
 use Rattle.pua_jointly.specs.JointFacts.{Kept, Covers, Enters, Lands, Clear, LandsClear, Turns, Taken, Creates, Drops, Carries}
 use Rattle.pua_jointly.specs.JointFacts.{IsOfCrew, Moves, IsOver, over_own, over_within, Follows, covers_own, covers_root}
 use Rattle.pua_jointly.specs.JointFacts.{covers_within, covers_moved, covers_apart, covers_born, lands_in, clear_root, clear_within, clear_moved}
 use Rattle.pua_jointly.specs.JointFacts.{clear_apart, clear_born, lands_clear, enters_by_c, enters_by_name, enters_by_turn, enters_by_moved}
-use Rattle.pua_jointly.specs.JointFacts.{turns_by, taken_dir, taken_other, drops_within, drops_at}
+use Rattle.pua_jointly.specs.JointFacts.{turns_by, taken_dir, taken_other, creates_within, creates_at, drops_within, drops_at}
 use Rattle.pua_jointly.specs.JointFacts.{carries_row, carries_born, carries_on}
-use Rattle.pua_jointly.specs.JointTable.{IsTold, HasBit, Entity, DirAt, MadeBy, LandingOf, DropsOf, Makers, NameAt, Column, ByAgent, Common}
-use Rattle.pua_jointly.specs.JointTable.{Watching, numbers, all_covers, entities, columns, word, bit_says, table_says, TableFits}
+use Rattle.pua_jointly.specs.JointTable.{IsTold, HasBit, Entity, DirAt, MadeBy, LandingOf, DropsOf, NameAt, Column, ByAgent, Common}
+use Rattle.pua_jointly.specs.JointTable.{Watching, numbers, all_covers, entities, columns, hands_of, word, bit_says, table_says, TableFits}
 
 pub got_among : {X : Type 0} (xs : List X) (i : ℕ) (x : X) → slice_get xs i ≡ Some x → Among xs x
 got_among [] i x e = absurd (None≢Some x e)
@@ -79,6 +80,17 @@ every_new NewFifo = inr (inr (inr (inr (inr (inl refl)))))
 of_map : {X Y : Type 0} (P : Y → Type 0) (f : X → Y) (xs : List X) → ((x : X) → Among xs x → P (f x)) → (y : Y) → Among (map f xs) y → P y
 of_map P f xs all y a = let m = map_among f xs y a in subst P m.2 (all m.0 m.1)
 
+-- each process on each device, once
+pub hand_among : (crew : List ProcessState) (devices : List ℕ) (by : Hand) → Among crew by.0 → Among devices by.1 → Among (hands_of crew devices) by
+hand_among crew devices by in_crew in_devices =
+    among_flat (λ at. map (λ a. (a, at)) crew) devices by.1 by in_devices (among_map (λ a. (a, by.1)) crew by.0 in_crew)
+
+pub hand_parts : (crew : List ProcessState) (devices : List ℕ) (by : Hand) → Among (hands_of crew devices) by → Among crew by.0 × Among devices by.1
+hand_parts crew devices by among =
+    let found = flat_among (λ at. map (λ a. (a, at)) crew) devices by among in
+    let one = map_among (λ a. (a, found.0)) crew by found.2 in
+    (subst (λ (h : Hand). Among crew h.0) one.2 one.1, subst (λ (h : Hand). Among devices h.1) one.2 found.1)
+
 module _ (es : List Entity) (cs : List Column) where
   -- a fact of a word of the table has its bit
   placed : (e : Entity) (c : Column) (x : Kept) → Among es e → Among cs c → Among (word e c) x →
@@ -116,17 +128,20 @@ module _ (es : List Entity) (cs : List Column) where
     in_word = got_among (word e c) bit x says;
   }
 
-module _ (t : Tree) (table : CallTable) (crew : List ProcessState) (watched : ℕ → Bool) (dirs : ℕ) (spots : List Spot)
-    (guarded : List ℕ) (fits : TableFits t crew watched dirs spots guarded) where
+module _ (t : Tree) (table : CallTable) (crew : List ProcessState) (devices : List ℕ) (watched : ℕ → Bool) (dirs : ℕ) (spots : List Spot)
+    (guarded : List ℕ) (fits : TableFits t crew devices watched dirs spots guarded) where
   abbrev pub es : List Entity
-  es = entities crew dirs spots
+  es = entities (hands_of crew devices) dirs spots
 
   abbrev pub cs : List Column
   cs = columns crew guarded
 
+  abbrev pub hands : List Hand
+  hands = hands_of crew devices
+
   abbrev pub IsSeat : Seat → Type 0
   IsSeat (Old d) = d < dirs
-  IsSeat (Made maker) = Among crew maker
+  IsSeat (Made maker) = Among hands maker
 
   abbrev pub IsWatched : ℕ → Type 0
   IsWatched y = Among guarded y
@@ -135,50 +150,47 @@ module _ (t : Tree) (table : CallTable) (crew : List ProcessState) (watched : �
   abbrev pub InRange : Kept → Type 0
   InRange (Covers a d k) = Among crew a × IsSeat d × Among all_covers k
   InRange (Enters a d) = Among crew a × IsSeat d
-  InRange (Lands b a k) = Among crew b × Among crew a × Among all_covers k
+  InRange (Lands b a k) = Among hands b × Among crew a × Among all_covers k
   InRange (Clear y d) = IsSeat d × IsWatched y
-  InRange (LandsClear b y) = Among crew b × IsWatched y
+  InRange (LandsClear b y) = Among hands b × IsWatched y
   InRange (Turns a y) = Among crew a × (y < dirs)
   InRange (Taken dir name) = Among spots (dir, name)
-  InRange (Creates a new) = Among crew a
-  InRange (Drops b a k) = Among crew b × Among crew a × Among all_covers k
+  InRange (Creates b new) = Among hands b
+  InRange (Drops b a k) = Among hands b × Among crew a × Among all_covers k
   InRange (Carries (Row spot) a) = Among crew a × Among spots spot
-  InRange (Carries (Maker new m) a) = Among crew a × Among crew m
+  InRange (Carries (Maker new m) a) = Among crew a × Among hands m
 
   abbrev after_dirs : List Entity
-  after_dirs = map MadeBy crew ++ (map LandingOf crew ++ (map DropsOf crew ++ (Makers ∷ map NameAt spots)))
+  after_dirs = map MadeBy hands ++ (map LandingOf hands ++ (map DropsOf hands ++ map NameAt spots))
 
   abbrev after_made : List Entity
-  after_made = map LandingOf crew ++ (map DropsOf crew ++ (Makers ∷ map NameAt spots))
+  after_made = map LandingOf hands ++ (map DropsOf hands ++ map NameAt spots)
 
   abbrev after_landings : List Entity
-  after_landings = map DropsOf crew ++ (Makers ∷ map NameAt spots)
+  after_landings = map DropsOf hands ++ map NameAt spots
 
   abbrev after_drops : List Entity
-  after_drops = Makers ∷ map NameAt spots
+  after_drops = map NameAt spots
 
   dir_in : (d : ℕ) → d < dirs → Among es (DirAt d)
   dir_in d low = among_left (map DirAt (numbers dirs)) after_dirs (DirAt d) (among_map DirAt (numbers dirs) d (among_numbers dirs d low))
 
-  made_in : (m : ProcessState) → Among crew m → Among es (MadeBy m)
-  made_in m a = among_right (map DirAt (numbers dirs)) after_dirs _ (among_left (map MadeBy crew) after_made _ (among_map MadeBy crew m a))
+  made_in : (m : Hand) → Among hands m → Among es (MadeBy m)
+  made_in m a = among_right (map DirAt (numbers dirs)) after_dirs _ (among_left (map MadeBy hands) after_made _ (among_map MadeBy hands m a))
 
-  landing_in : (m : ProcessState) → Among crew m → Among es (LandingOf m)
-  landing_in m a = among_right (map DirAt (numbers dirs)) after_dirs _ (among_right (map MadeBy crew) after_made _
-      (among_left (map LandingOf crew) after_landings _ (among_map LandingOf crew m a)))
+  landing_in : (m : Hand) → Among hands m → Among es (LandingOf m)
+  landing_in m a = among_right (map DirAt (numbers dirs)) after_dirs _ (among_right (map MadeBy hands) after_made _
+      (among_left (map LandingOf hands) after_landings _ (among_map LandingOf hands m a)))
 
   last_in : (e : Entity) → Among after_landings e → Among es e
-  last_in e a = among_right (map DirAt (numbers dirs)) after_dirs e (among_right (map MadeBy crew) after_made e
-      (among_right (map LandingOf crew) after_landings e a))
+  last_in e a = among_right (map DirAt (numbers dirs)) after_dirs e (among_right (map MadeBy hands) after_made e
+      (among_right (map LandingOf hands) after_landings e a))
 
-  drops_in : (m : ProcessState) → Among crew m → Among es (DropsOf m)
-  drops_in m a = last_in _ (among_left (map DropsOf crew) after_drops _ (among_map DropsOf crew m a))
-
-  makers_in : Among es Makers
-  makers_in = last_in _ (among_right (map DropsOf crew) after_drops _ (inl refl))
+  drops_in : (m : Hand) → Among hands m → Among es (DropsOf m)
+  drops_in m a = last_in _ (among_left (map DropsOf hands) after_drops _ (among_map DropsOf hands m a))
 
   name_in : (s : Spot) → Among spots s → Among es (NameAt s)
-  name_in s a = last_in _ (among_right (map DropsOf crew) after_drops _ (inr (among_map NameAt spots s a)))
+  name_in s a = last_in _ (among_right (map DropsOf hands) after_drops _ (among_map NameAt spots s a))
 
   agent_in : (a : ProcessState) → Among crew a → Among cs (ByAgent a)
   agent_in a among = among_left (map ByAgent crew) (Common ∷ map Watching guarded) _ (among_map ByAgent crew a among)
@@ -212,7 +224,7 @@ module _ (t : Tree) (table : CallTable) (crew : List ProcessState) (watched : �
   has_bit (Turns a d) r = placed es cs (DirAt d) (ByAgent a) _ (dir_in d r.1) (agent_in a r.0)
       (among_right (map (Covers a (Old d)) all_covers) (Enters a (Old d) ∷ Turns a d ∷ []) _ (inr (inl refl)))
   has_bit (Taken dir name) r = placed es cs (NameAt (dir, name)) Common _ (name_in (dir, name) r) common_in (inl refl)
-  has_bit (Creates a new) r = placed es cs Makers (ByAgent a) _ makers_in (agent_in a r) (among_map (Creates a) all_new new (every_new new))
+  has_bit (Creates b new) r = placed es cs (DropsOf b) Common _ (drops_in b r) common_in (among_map (Creates b) all_new new (every_new new))
   has_bit (Drops b a k) r = placed es cs (DropsOf b) (ByAgent a) _ (drops_in b r.0) (agent_in a r.1) (among_map (Drops b a) all_covers k r.2)
   has_bit (Carries (Row spot) a) r = placed es cs (NameAt spot) (ByAgent a) _ (name_in spot r.1) (agent_in a r.0) (inl refl)
   has_bit (Carries (Maker new m) a) r = placed es cs (MadeBy m) (ByAgent a) _ (made_in m r.1) (agent_in a r.0)
@@ -222,10 +234,9 @@ module _ (t : Tree) (table : CallTable) (crew : List ProcessState) (watched : �
   -- and what a bit says is in range
   abbrev pub EntityFits : Entity → Type 0
   EntityFits (DirAt d) = d < dirs
-  EntityFits (MadeBy m) = Among crew m
-  EntityFits (LandingOf m) = Among crew m
-  EntityFits (DropsOf m) = Among crew m
-  EntityFits Makers = ⊤
+  EntityFits (MadeBy m) = Among hands m
+  EntityFits (LandingOf m) = Among hands m
+  EntityFits (DropsOf m) = Among hands m
   EntityFits (NameAt s) = Among spots s
 
   abbrev pub ColumnFits : Column → Type 0
@@ -236,14 +247,13 @@ module _ (t : Tree) (table : CallTable) (crew : List ProcessState) (watched : �
   pub entity_fits : (e : Entity) → Among es e → EntityFits e
   entity_fits e a = elim (among_either (map DirAt (numbers dirs)) after_dirs e a) [
     | inl b ↦ of_map EntityFits DirAt (numbers dirs) (numbers_among dirs) e b
-    | inr b ↦ elim (among_either (map MadeBy crew) after_made e b) [
-      | inl c ↦ of_map EntityFits MadeBy crew (λ m in_crew. in_crew) e c
-      | inr c ↦ elim (among_either (map LandingOf crew) after_landings e c) [
-        | inl d ↦ of_map EntityFits LandingOf crew (λ m in_crew. in_crew) e d
-        | inr d ↦ elim (among_either (map DropsOf crew) after_drops e d) [
-          | inl f ↦ of_map EntityFits DropsOf crew (λ m in_crew. in_crew) e f
-          | inr (inl f) ↦ subst EntityFits f tt
-          | inr (inr f) ↦ of_map EntityFits NameAt spots (λ s in_spots. in_spots) e f
+    | inr b ↦ elim (among_either (map MadeBy hands) after_made e b) [
+      | inl c ↦ of_map EntityFits MadeBy hands (λ m in_hands. in_hands) e c
+      | inr c ↦ elim (among_either (map LandingOf hands) after_landings e c) [
+        | inl d ↦ of_map EntityFits LandingOf hands (λ m in_hands. in_hands) e d
+        | inr d ↦ elim (among_either (map DropsOf hands) after_drops e d) [
+          | inl f ↦ of_map EntityFits DropsOf hands (λ m in_hands. in_hands) e f
+          | inr f ↦ of_map EntityFits NameAt spots (λ s in_spots. in_spots) e f
         ]
       ]
     ]
@@ -281,11 +291,8 @@ module _ (t : Tree) (table : CallTable) (crew : List ProcessState) (watched : �
   word_fits (LandingOf b) (Watching y) e c x (inl is) = subst InRange is (e, c)
   word_fits (LandingOf b) (Watching y) e c x (inr none) = absurd none
   word_fits (DropsOf b) (ByAgent a) e c x among = of_map InRange (Drops b a) all_covers (λ k small. (e, c, small)) x among
-  word_fits (DropsOf b) Common e c x among = absurd among
+  word_fits (DropsOf b) Common e c x among = of_map InRange (Creates b) all_new (λ new is. e) x among
   word_fits (DropsOf b) (Watching y) e c x among = absurd among
-  word_fits Makers (ByAgent a) e c x among = of_map InRange (Creates a) all_new (λ new is. c) x among
-  word_fits Makers Common e c x among = absurd among
-  word_fits Makers (Watching y) e c x among = absurd among
   word_fits (NameAt s) (ByAgent a) e c x (inl is) = subst InRange is (c, e)
   word_fits (NameAt s) (ByAgent a) e c x (inr none) = absurd none
   word_fits (NameAt s) Common e c x (inl is) = subst InRange is e
@@ -324,6 +331,15 @@ module _ (t : Tree) (table : CallTable) (crew : List ProcessState) (watched : �
     moves_seat : (b : ProcessState) (d : Seat) → Moves t table crew watched T b d → IsSeat d
     moves_seat b d m = (in_range (Covers b d m.cover) m.covers).1
 
+    -- a process of the crew, on the device of a directory that has a row
+    hand_in : (by : Hand) (d : Seat) → Among crew by.0 → IsSeat d → seat_device t d ≡ by.1 → Among hands by
+    hand_in by d among here near =
+        hand_among crew devices by among (subst (Among devices) near (on d here))
+      where
+        on : (d : Seat) → IsSeat d → Among devices (seat_device t d)
+        on (Old d) low = among_contained devices (device t d) (fits.on_device d low)
+        on (Made m) in_hands = (hand_parts crew devices m in_hands).1
+
     -- so what follows is in range, too
     follows_range : (x : Kept) → IsOfCrew crew x → Follows t table crew watched T x → InRange x
     follows_range (Covers a d k) among (covers_own stands own) = own_range a d _ among own
@@ -332,41 +348,48 @@ module _ (t : Tree) (table : CallTable) (crew : List ProcessState) (watched : �
         (among_contained crew a among, fits.below _ name _ at is, (in_range _ cov).2)
     follows_range (Covers a d k) among (covers_moved b of none plain m lands) =
         (among_contained crew a among, moves_seat b d m, (in_range _ lands).2)
-    follows_range (Covers a d k) among (covers_apart b p none is m enters clear cov) =
+    follows_range (Covers a d k) among (covers_apart b p none is m enters clear cov near) =
         (among_contained crew a among, moves_seat b _ m, (in_range _ cov).2)
-    follows_range (Covers a d k) among (covers_born by makes lands) =
-        (among_contained crew a among, among_contained crew _ by, (in_range _ lands).2)
-    follows_range (Lands b a k) both (lands_in p enters cov) =
-        (among_contained crew b both.0, among_contained crew a both.1, (in_range _ cov).2)
+    follows_range (Covers a d k) among (covers_born from makes lands) =
+        (among_contained crew a among, in_range _ makes, (in_range _ lands).2)
+    follows_range (Lands by a k) both (lands_in p near enters cov) =
+        (hand_in by p (among_contained crew by.0 both.0) (in_range _ enters).1 near, among_contained crew a both.1, (in_range _ cov).2)
     follows_range (Clear y d) of (clear_root is other) = (fits.root, watch y is)
     follows_range (Clear y d) of (clear_within name is other at lives clear) = (fits.below _ name _ at lives, watch y is)
     follows_range (Clear y d) of (clear_moved b is other plain m lands) = (moves_seat b d m, watch y is)
-    follows_range (Clear y d) of (clear_apart b p is other watches m enters clear from) = (moves_seat b _ m, watch y is)
-    follows_range (Clear y d) of (clear_born is by makes lands) = (among_contained crew _ by, watch y is)
-    follows_range (LandsClear b y) among (lands_clear p is enters clear) = (among_contained crew b among, watch y is)
+    follows_range (Clear y d) of (clear_apart b p is other watches m enters clear from near) = (moves_seat b _ m, watch y is)
+    follows_range (Clear y d) of (clear_born is from makes lands) = (in_range _ makes, watch y is)
+    follows_range (LandsClear by y) among (lands_clear p is near enters clear) =
+        (hand_in by p (among_contained crew by.0 among) (in_range _ enters).1 near, watch y is)
     follows_range (Enters a d) among (enters_by_c k cov has) = (among_contained crew a among, (in_range _ cov).1)
     follows_range (Enters a d) among (enters_by_name {dir = dir} name puts) =
         (among_contained crew a among, over_dir a dir name puts.cover among puts.over)
-    follows_range (Enters a d) among (enters_by_turn name watches turns at is) = (among_contained crew a among, fits.above _ name _ at)
-    follows_range (Enters a d) among (enters_by_moved b is turns m enters clear) = (among_contained crew a among, (in_range _ enters).1)
-    follows_range (Turns a y) among (turns_by perms other k own has empty cov can differs clear) =
+    follows_range (Enters a d) among (enters_by_turn name watches turns at is near) = (among_contained crew a among, fits.above _ name _ at)
+    follows_range (Enters a d) among (enters_by_moved b is turns m enters clear near) = (among_contained crew a among, (in_range _ enters).1)
+    follows_range (Turns a y) among (turns_by perms other k own has empty cov can differs clear near) =
         (among_contained crew a among, fits.veiled a y perms among own)
     follows_range (Taken dir name) of (taken_dir a d k among may at is cov has) = among_contained spots (dir, name) (fits.rows dir name d at)
     follows_range (Taken dir name) of (taken_other a x k among may at is covers has) =
         among_contained spots (dir, name) (fits.rows dir name x at)
-    follows_range (Creates a new) among new_follows = among_contained crew a among
-    follows_range (Drops b a k) both (drops_within d j by has cov) =
-        (among_contained crew b both.0, among_contained crew a both.1, (in_range _ cov).2)
-    follows_range (Drops b a k) both (drops_at dir name puts covers) =
-        (among_contained crew b both.0, among_contained crew a both.1, over_small a (Old dir) name k both.1 covers)
+    follows_range (Creates by new) among (creates_within d k near cov made) =
+        hand_in by d (among_contained crew by.0 among) (in_range _ cov).1 near
+    follows_range (Creates by new) among (creates_at dir name k near covers free made) =
+        hand_in by (Old dir) (among_contained crew by.0 among) (over_dir by.0 dir name k among covers) near
+    follows_range (Drops by a k) both (drops_within d j near from has cov) =
+        (hand_in by d (among_contained crew by.0 both.0) (in_range _ from).1 near, among_contained crew a both.1, (in_range _ cov).2)
+    follows_range (Drops by a k) both (drops_at dir name near puts covers) = (
+      hand_in by (Old dir) (among_contained crew by.0 both.0) (over_dir a dir name k both.1 covers) near,
+      among_contained crew a both.1,
+      over_small a (Old dir) name k both.1 covers,
+    )
     follows_range (Carries r a) among (carries_row x k of at is covers can) =
         (among_contained crew a among, among_contained spots _ (fits.rows _ _ x at))
-    follows_range (Carries r a) among (carries_born k of by makes drops can) = (among_contained crew a among, among_contained crew _ by)
+    follows_range (Carries r a) among (carries_born k of from makes drops can) = (among_contained crew a among, in_range _ makes)
     follows_range (Carries (Row spot) a) among (carries_on b k of by carries drops can) =
         (among_contained crew a among, (in_range (Carries (Row spot) b) carries).1)
     follows_range (Carries (Maker new m) a) among (carries_on b k of by carries drops can) =
         (among_contained crew a among, (in_range (Carries (Maker new m) b) carries).1)
 
     pub follows_bit : (x : Kept) → IsOfCrew crew x → Follows t table crew watched T x →
-        HasBit (table_says (entities crew dirs spots) (columns crew guarded)) (length (columns crew guarded) * length (entities crew dirs spots)) x
+        HasBit (table_says (entities (hands_of crew devices) dirs spots) (columns crew guarded)) (length (columns crew guarded) * length (entities (hands_of crew devices) dirs spots)) x
     follows_bit x of new = has_bit x (follows_range x of new)

@@ -6,9 +6,9 @@ use Rattle.std.specs.Prelude.{slice_get, ◌+◌, ◌*◌, ◌/◌, ◌%◌}
 use Rattle.std.proofs.lemmas.Nat.{div-add-mod'}
 use Rattle.std.proofs.lemmas.Option.{slice_get_within}
 use Rattle.pua_policy.specs.declared.answer.Cover.TheVariants.{Nothing}
-use Rattle.pua_jointly.specs.Jointly.{Seat, Old, Made, Row, Maker}
+use Rattle.pua_jointly.specs.Jointly.{Hand, Seat, Old, Made, Row, Maker}
 use Rattle.pua_jointly.specs.JointFacts.{Kept, Covers, Enters, Lands, Clear, LandsClear, Turns, Taken, Creates, Drops, Carries}
-use Rattle.pua_jointly.specs.JointTable.{Entity, DirAt, MadeBy, LandingOf, DropsOf, Makers, NameAt, Column, ByAgent, Common, Watching}
+use Rattle.pua_jointly.specs.JointTable.{Entity, DirAt, MadeBy, LandingOf, DropsOf, NameAt, Column, ByAgent, Common, Watching}
 use Rattle.pua_jointly.specs.JointTable.{numbers, all_covers, entities, columns, word, bit_says, table_says}
 use Rattle.pua_jointly.specs.JointPlace.{Once, cover_bit, new_bit}
 use Rattle.pua_jointly.proofs.JointRows.{number_at, length_numbers}
@@ -46,7 +46,7 @@ row_of_fact (Clear y d) = seat_row d
 row_of_fact (LandsClear b y) = LandingOf b
 row_of_fact (Turns a y) = DirAt y
 row_of_fact (Taken dir name) = NameAt (dir, name)
-row_of_fact (Creates a new) = Makers
+row_of_fact (Creates b new) = DropsOf b
 row_of_fact (Drops b a k) = DropsOf b
 row_of_fact (Carries (Row spot) a) = NameAt spot
 row_of_fact (Carries (Maker new m) a) = MadeBy m
@@ -62,7 +62,7 @@ IsIn (Clear y d) c bit = IsWatchedAt y c bit
 IsIn (LandsClear b y) c bit = IsWatchedAt y c bit
 IsIn (Turns a y) c bit = (c ≡ ByAgent a) × (bit ≡ 19)
 IsIn (Taken dir name) c bit = (c ≡ Common) × (bit ≡ 0)
-IsIn (Creates a new) c bit = (c ≡ ByAgent a) × (bit ≡ new_bit new)
+IsIn (Creates b new) c bit = (c ≡ Common) × (bit ≡ new_bit new)
 IsIn (Drops b a k) c bit = (c ≡ ByAgent a) × (bit ≡ cover_bit k)
 IsIn (Carries (Row spot) a) c bit = (c ≡ ByAgent a) × (bit ≡ 0)
 IsIn (Carries (Maker new m) a) c bit = (c ≡ ByAgent a) × (bit ≡ 19 + new_bit new)
@@ -76,7 +76,7 @@ enters_or_turns d a bit zero x here e = subst (Says (DirAt d) (ByAgent a) bit) (
 enters_or_turns d a bit (suc zero) x here e = subst (Says (DirAt d) (ByAgent a) bit) (same_Some (Turns a d) x e) (refl, (refl, here))
 enters_or_turns d a bit (suc (suc j)) x here e = absurd (None≢Some x e)
 
-enters_or_carries : (m a : ProcessState) (bit j : ℕ) (x : Kept) → bit ≡ 18 + j →
+enters_or_carries : (m : Hand) (a : ProcessState) (bit j : ℕ) (x : Kept) → bit ≡ 18 + j →
     slice_get (Enters a (Made m) ∷ map (λ new. Carries (Maker new m) a) all_new) j ≡ Some x → Says (MadeBy m) (ByAgent a) bit x
 enters_or_carries m a bit zero x here e = subst (Says (MadeBy m) (ByAgent a) bit) (same_Some (Enters a (Made m)) x e) (refl, (refl, here))
 enters_or_carries m a bit (suc j) x here e =
@@ -111,76 +111,70 @@ word_says (LandingOf b) (Watching y) bit x is = one_bit (LandingOf b) (Watching 
 word_says (DropsOf b) (ByAgent a) bit x is =
     let c = mapped (Drops b a) all_covers bit x is in
     subst (Says (DropsOf b) (ByAgent a) bit) c.gives (refl, (refl, cover_is bit c.at c.is))
-word_says (DropsOf b) Common bit x is = absurd (None≢Some x is)
+word_says (DropsOf b) Common bit x is =
+    let c = mapped (Creates b) all_new bit x is in subst (Says (DropsOf b) Common bit) c.gives (refl, (refl, new_is bit c.at c.is))
 word_says (DropsOf b) (Watching y) bit x is = absurd (None≢Some x is)
-word_says Makers (ByAgent a) bit x is =
-    let c = mapped (Creates a) all_new bit x is in subst (Says Makers (ByAgent a) bit) c.gives (refl, (refl, new_is bit c.at c.is))
-word_says Makers Common bit x is = absurd (None≢Some x is)
-word_says Makers (Watching y) bit x is = absurd (None≢Some x is)
 word_says (NameAt s) (ByAgent a) bit x is = one_bit (NameAt s) (ByAgent a) (Carries (Row s) a) x bit (refl, (refl, refl)) is
 word_says (NameAt s) Common bit x is = one_bit (NameAt s) Common (Taken s.0 s.1) x bit (refl, (refl, refl)) is
 word_says (NameAt s) (Watching y) bit x is = absurd (None≢Some x is)
 
-module _ (crew : List ProcessState) (dirs : ℕ) (spots : List Spot) where
+module _ (hands : List Hand) (dirs : ℕ) (spots : List Spot) where
   abbrev n : ℕ
-  n = length crew
+  n = length hands
 
   abbrev after_drops : List Entity
-  after_drops = Makers ∷ map NameAt spots
+  after_drops = map NameAt spots
 
   abbrev after_landings : List Entity
-  after_landings = map DropsOf crew ++ after_drops
+  after_landings = map DropsOf hands ++ after_drops
 
   abbrev after_made : List Entity
-  after_made = map LandingOf crew ++ after_landings
+  after_made = map LandingOf hands ++ after_landings
 
   abbrev after_dirs : List Entity
-  after_dirs = map MadeBy crew ++ after_made
+  after_dirs = map MadeBy hands ++ after_made
 
   abbrev RowAt : ℕ → Entity → Type 0
   RowAt i (DirAt d) = i ≡ d
-  RowAt i (MadeBy m) = (p : ℕ) × (i ≡ dirs + p) × (slice_get crew p ≡ Some m)
-  RowAt i (LandingOf m) = (p : ℕ) × (i ≡ dirs + (n + p)) × (slice_get crew p ≡ Some m)
-  RowAt i (DropsOf m) = (p : ℕ) × (i ≡ dirs + (n + (n + p))) × (slice_get crew p ≡ Some m)
-  RowAt i Makers = i ≡ dirs + (n + (n + (n + 0)))
-  RowAt i (NameAt s) = (p : ℕ) × (i ≡ dirs + (n + (n + (n + suc p)))) × (slice_get spots p ≡ Some s)
+  RowAt i (MadeBy m) = (p : ℕ) × (i ≡ dirs + p) × (slice_get hands p ≡ Some m)
+  RowAt i (LandingOf m) = (p : ℕ) × (i ≡ dirs + (n + p)) × (slice_get hands p ≡ Some m)
+  RowAt i (DropsOf m) = (p : ℕ) × (i ≡ dirs + (n + (n + p))) × (slice_get hands p ≡ Some m)
+  RowAt i (NameAt s) = (p : ℕ) × (i ≡ dirs + (n + (n + (n + p)))) × (slice_get spots p ≡ Some s)
 
   in_names : (i j : ℕ) (e : Entity) → i ≡ dirs + (n + (n + (n + j))) → slice_get after_drops j ≡ Some e → RowAt i e
-  in_names i zero e here is = subst (RowAt i) (same_Some Makers e is) here
-  in_names i (suc j) e here is = let m = mapped NameAt spots j e is in subst (RowAt i) m.gives (j, here, m.is)
+  in_names i j e here is = let m = mapped NameAt spots j e is in subst (RowAt i) m.gives (j, here, m.is)
 
   in_drops : (i j : ℕ) (e : Entity) → i ≡ dirs + (n + (n + j)) → slice_get after_landings j ≡ Some e → RowAt i e
-  in_drops i j e here is = elim (mapped_or DropsOf crew after_drops n j e refl is) [
+  in_drops i j e here is = elim (mapped_or DropsOf hands after_drops n j e refl is) [
     | inl m ↦ subst (RowAt i) m.gives (j, here, m.is)
     | inr b ↦ in_names i b.at e (here ∙ ap (λ k. dirs + (n + (n + k))) b.place) b.is
   ]
 
   in_landings : (i j : ℕ) (e : Entity) → i ≡ dirs + (n + j) → slice_get after_made j ≡ Some e → RowAt i e
-  in_landings i j e here is = elim (mapped_or LandingOf crew after_landings n j e refl is) [
+  in_landings i j e here is = elim (mapped_or LandingOf hands after_landings n j e refl is) [
     | inl m ↦ subst (RowAt i) m.gives (j, here, m.is)
     | inr b ↦ in_drops i b.at e (here ∙ ap (λ k. dirs + (n + k)) b.place) b.is
   ]
 
   in_made : (i j : ℕ) (e : Entity) → i ≡ dirs + j → slice_get after_dirs j ≡ Some e → RowAt i e
-  in_made i j e here is = elim (mapped_or MadeBy crew after_made n j e refl is) [
+  in_made i j e here is = elim (mapped_or MadeBy hands after_made n j e refl is) [
     | inl m ↦ subst (RowAt i) m.gives (j, here, m.is)
     | inr b ↦ in_landings i b.at e (here ∙ ap (λ k. dirs + k) b.place) b.is
   ]
 
-  pub row_at : (i : ℕ) (e : Entity) → slice_get (entities crew dirs spots) i ≡ Some e → RowAt i e
+  pub row_at : (i : ℕ) (e : Entity) → slice_get (entities hands dirs spots) i ≡ Some e → RowAt i e
   row_at i e is = elim (mapped_or DirAt (numbers dirs) after_dirs dirs i e (sym (length_numbers dirs)) is) [
     | inl m ↦ subst (RowAt i) m.gives (number_is dirs i m.at m.is)
     | inr b ↦ in_made i b.at e b.place b.is
   ]
 
-  module _ (each_agent : Once crew) (each_name : Once spots) where
+  module _ (each_hand : Once hands) (each_name : Once spots) where
     same_row : (i j : ℕ) (e : Entity) → RowAt i e → RowAt j e → i ≡ j
     same_row i j (DirAt d) a b = a ∙ sym b
-    same_row i j (MadeBy m) a b = a.1 ∙ ap (λ p. dirs + p) (each_agent a.0 b.0 m a.2 b.2) ∙ sym b.1
-    same_row i j (LandingOf m) a b = a.1 ∙ ap (λ p. dirs + (n + p)) (each_agent a.0 b.0 m a.2 b.2) ∙ sym b.1
-    same_row i j (DropsOf m) a b = a.1 ∙ ap (λ p. dirs + (n + (n + p))) (each_agent a.0 b.0 m a.2 b.2) ∙ sym b.1
-    same_row i j Makers a b = a ∙ sym b
-    same_row i j (NameAt s) a b = a.1 ∙ ap (λ p. dirs + (n + (n + (n + suc p)))) (each_name a.0 b.0 s a.2 b.2) ∙ sym b.1
+    same_row i j (MadeBy m) a b = a.1 ∙ ap (λ p. dirs + p) (each_hand a.0 b.0 m a.2 b.2) ∙ sym b.1
+    same_row i j (LandingOf m) a b = a.1 ∙ ap (λ p. dirs + (n + p)) (each_hand a.0 b.0 m a.2 b.2) ∙ sym b.1
+    same_row i j (DropsOf m) a b = a.1 ∙ ap (λ p. dirs + (n + (n + p))) (each_hand a.0 b.0 m a.2 b.2) ∙ sym b.1
+    same_row i j (NameAt s) a b = a.1 ∙ ap (λ p. dirs + (n + (n + (n + p)))) (each_name a.0 b.0 s a.2 b.2) ∙ sym b.1
 
 module _ (crew : List ProcessState) (guarded : List ℕ) where
   abbrev ColumnAt : ℕ → Column → Type 0
@@ -221,7 +215,8 @@ module _ (crew : List ProcessState) (guarded : List ℕ) where
     same_word (Turns a y) i j bit other c e at_i at_j one two = by_agent a i j bit other 19 c e at_i at_j one two
     same_word (Taken dir name) i j bit other c e at_i at_j one two =
         (subst (ColumnAt i) one.0 at_i ∙ sym (subst (ColumnAt j) two.0 at_j), one.1 ∙ sym two.1)
-    same_word (Creates a new) i j bit other c e at_i at_j one two = by_agent a i j bit other (new_bit new) c e at_i at_j one two
+    same_word (Creates b new) i j bit other c e at_i at_j one two =
+        (subst (ColumnAt i) one.0 at_i ∙ sym (subst (ColumnAt j) two.0 at_j), one.1 ∙ sym two.1)
     same_word (Drops b a k) i j bit other c e at_i at_j one two = by_agent a i j bit other (cover_bit k) c e at_i at_j one two
     same_word (Carries (Row spot) a) i j bit other c e at_i at_j one two = by_agent a i j bit other 0 c e at_i at_j one two
     same_word (Carries (Maker new m) a) i j bit other c e at_i at_j one two =
@@ -244,18 +239,18 @@ said es cs at bit x says = by (slice_get es (at / length cs)) (slice_get cs (at 
     by (Some e) None at_e at_c is = absurd (None≢Some x is)
     by (Some e) (Some c) at_e at_c is = record { entity = e; column = c; in_rows = at_e; in_columns = at_c; in_word = word_says e c bit x is }
 
-pub one_place : (crew : List ProcessState) (dirs : ℕ) (spots : List Spot) (guarded : List ℕ) → Once crew → Once spots →
-    Once guarded → let says = table_says (entities crew dirs spots) (columns crew guarded) in
+pub one_place : (crew : List ProcessState) (hands : List Hand) (dirs : ℕ) (spots : List Spot) (guarded : List ℕ) → Once crew → Once hands → Once spots →
+    Once guarded → let says = table_says (entities hands dirs spots) (columns crew guarded) in
     (at other bit more : ℕ) (x : Kept) → says at bit ≡ Some x → says other more ≡ Some x → (at ≡ other) × (bit ≡ more)
-one_place crew dirs spots guarded each_agent each_name each_watched at other bit more x first second =
-    let es : List Entity = entities crew dirs spots in
+one_place crew hands dirs spots guarded each_agent each_hand each_name each_watched at other bit more x first second =
+    let es : List Entity = entities hands dirs spots in
     let cs : List Column = columns crew guarded in
     let a = said es cs at bit x first in
     let b = said es cs other more x second in
-    let row : at / length cs ≡ other / length cs = same_row crew dirs spots each_agent each_name (at / length cs) (other / length cs) a.entity
-    (row_at crew dirs spots (at / length cs) a.entity a.in_rows)
-    (subst (RowAt crew dirs spots (other / length cs)) (sym b.in_word.0 ∙ a.in_word.0)
-    (row_at crew dirs spots (other / length cs) b.entity b.in_rows)) in
+    let row : at / length cs ≡ other / length cs = same_row hands dirs spots each_hand each_name (at / length cs) (other / length cs) a.entity
+    (row_at hands dirs spots (at / length cs) a.entity a.in_rows)
+    (subst (RowAt hands dirs spots (other / length cs)) (sym b.in_word.0 ∙ a.in_word.0)
+    (row_at hands dirs spots (other / length cs) b.entity b.in_rows)) in
     let column : (at % length cs ≡ other % length cs) × (bit ≡ more) = same_word crew guarded each_agent each_watched x
     (at % length cs) (other % length cs) bit more a.column b.column (column_at crew guarded (at % length cs) a.column a.in_columns)
     (column_at crew guarded (other % length cs) b.column b.in_columns) a.in_word.1 b.in_word.1 in

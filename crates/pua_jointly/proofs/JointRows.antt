@@ -5,8 +5,9 @@ use Rattle.std.specs.Prelude.{slice_get, ◌+◌}
 use Rattle.std.proofs.lemmas.Bool.{cases_lt}
 use Rattle.std.proofs.lemmas.List.{length-append, length-map}
 use Rattle.std.proofs.lemmas.Option.{slice_get-map}
-use Rattle.pua_jointly.specs.JointTable.{Entity, DirAt, MadeBy, LandingOf, DropsOf, Makers, NameAt, Column, ByAgent, Common, Watching, numbers}
+use Rattle.pua_jointly.specs.JointTable.{Entity, DirAt, MadeBy, LandingOf, DropsOf, NameAt, Column, ByAgent, Common, Watching, numbers}
 use Rattle.pua_jointly.specs.JointTable.{entities, columns}
+use Rattle.pua_jointly.specs.Jointly.{Hand}
 
 pub left : {X : Type 0} (xs ys : List X) (i : ℕ) → i < length xs → slice_get (xs ++ ys) i ≡ slice_get xs i
 left [] ys i low = absurd (omega (arith, low))
@@ -34,24 +35,24 @@ number_at (suc n) i low = by (cases_lt i n) (number_at n i)
         let here : n ≡ i = omega (arith, low, more) in
         right (numbers n) (n ∷ []) i 0 (omega (arith, many, here)) ∙ ap Some here
 
-module _ (crew : List ProcessState) (dirs : ℕ) (spots : List Spot) where
+module _ (hands : List Hand) (dirs : ℕ) (spots : List Spot) where
   abbrev n : ℕ
-  n = length crew
+  n = length hands
 
   abbrev es : List Entity
-  es = entities crew dirs spots
+  es = entities hands dirs spots
 
   abbrev after_drops : List Entity
-  after_drops = Makers ∷ map NameAt spots
+  after_drops = map NameAt spots
 
   abbrev after_landings : List Entity
-  after_landings = map DropsOf crew ++ after_drops
+  after_landings = map DropsOf hands ++ after_drops
 
   abbrev after_made : List Entity
-  after_made = map LandingOf crew ++ after_landings
+  after_made = map LandingOf hands ++ after_landings
 
   abbrev after_dirs : List Entity
-  after_dirs = map MadeBy crew ++ after_made
+  after_dirs = map MadeBy hands ++ after_made
 
   many_dirs : length (map DirAt (numbers dirs)) ≡ dirs
   many_dirs = length-map (numbers dirs) DirAt ∙ length_numbers dirs
@@ -64,32 +65,28 @@ module _ (crew : List ProcessState) (dirs : ℕ) (spots : List Spot) where
   from_dirs i = let many = many_dirs in right (map DirAt (numbers dirs)) after_dirs (dirs + i) i (omega (arith, many))
 
   from_made : (i : ℕ) → slice_get after_dirs (n + i) ≡ slice_get after_made i
-  from_made i = let many = length-map crew MadeBy in right (map MadeBy crew) after_made (n + i) i (omega (arith, many))
+  from_made i = let many = length-map hands MadeBy in right (map MadeBy hands) after_made (n + i) i (omega (arith, many))
 
   from_landings : (i : ℕ) → slice_get after_made (n + i) ≡ slice_get after_landings i
-  from_landings i = let many = length-map crew LandingOf in right (map LandingOf crew) after_landings (n + i) i (omega (arith, many))
+  from_landings i = let many = length-map hands LandingOf in right (map LandingOf hands) after_landings (n + i) i (omega (arith, many))
 
   from_drops : (i : ℕ) → slice_get after_landings (n + i) ≡ slice_get after_drops i
-  from_drops i = let many = length-map crew DropsOf in right (map DropsOf crew) after_drops (n + i) i (omega (arith, many))
+  from_drops i = let many = length-map hands DropsOf in right (map DropsOf hands) after_drops (n + i) i (omega (arith, many))
 
-  pub made_row : (i : ℕ) → i < n → slice_get es (dirs + i) ≡ option_map MadeBy (slice_get crew i)
+  pub made_row : (i : ℕ) → i < n → slice_get es (dirs + i) ≡ option_map MadeBy (slice_get hands i)
   made_row i low = from_dirs i
-      ∙ left (map MadeBy crew) after_made i (subst (λ m. i < m) (sym (length-map crew MadeBy)) low) ∙ slice_get-map MadeBy crew i
+      ∙ left (map MadeBy hands) after_made i (subst (λ m. i < m) (sym (length-map hands MadeBy)) low) ∙ slice_get-map MadeBy hands i
 
-  pub landing_row : (i : ℕ) → i < n → slice_get es (dirs + (n + i)) ≡ option_map LandingOf (slice_get crew i)
+  pub landing_row : (i : ℕ) → i < n → slice_get es (dirs + (n + i)) ≡ option_map LandingOf (slice_get hands i)
   landing_row i low = from_dirs (n + i) ∙ from_made i
-      ∙ left (map LandingOf crew) after_landings i (subst (λ m. i < m) (sym (length-map crew LandingOf)) low) ∙ slice_get-map LandingOf crew i
+      ∙ left (map LandingOf hands) after_landings i (subst (λ m. i < m) (sym (length-map hands LandingOf)) low) ∙ slice_get-map LandingOf hands i
 
-  pub drops_row : (i : ℕ) → i < n → slice_get es (dirs + (n + (n + i))) ≡ option_map DropsOf (slice_get crew i)
+  pub drops_row : (i : ℕ) → i < n → slice_get es (dirs + (n + (n + i))) ≡ option_map DropsOf (slice_get hands i)
   drops_row i low = from_dirs (n + (n + i)) ∙ from_made (n + i) ∙ from_landings i
-      ∙ left (map DropsOf crew) after_drops i (subst (λ m. i < m) (sym (length-map crew DropsOf)) low) ∙ slice_get-map DropsOf crew i
+      ∙ left (map DropsOf hands) after_drops i (subst (λ m. i < m) (sym (length-map hands DropsOf)) low) ∙ slice_get-map DropsOf hands i
 
-  pub makers_row : slice_get es (dirs + (n + (n + (n + 0)))) ≡ Some Makers
-  makers_row = from_dirs (n + (n + (n + 0))) ∙ from_made (n + (n + 0)) ∙ from_landings (n + 0) ∙ from_drops 0
-
-  pub name_row : (i : ℕ) → slice_get es (dirs + (n + (n + (n + suc i)))) ≡ option_map NameAt (slice_get spots i)
-  name_row i = from_dirs (n + (n + (n + suc i))) ∙ from_made (n + (n + suc i)) ∙ from_landings (n + suc i) ∙ from_drops (suc i)
-      ∙ slice_get-map NameAt spots i
+  pub name_row : (i : ℕ) → slice_get es (dirs + (n + (n + (n + i)))) ≡ option_map NameAt (slice_get spots i)
+  name_row i = from_dirs (n + (n + (n + i))) ∙ from_made (n + (n + i)) ∙ from_landings (n + i) ∙ from_drops i ∙ slice_get-map NameAt spots i
 
 module _ (crew : List ProcessState) (guarded : List ℕ) where
   abbrev cs : List Column

@@ -1,16 +1,20 @@
 -- What the code finds for a place of a crew's table is what follows there.
 use Rattle.pua_jointly.proofs.Common.{◌≡◌, ◌∙◌, ◌==◌, ◌||◌, ℕ, Bool, true, false, List, length, sym, ap, subst, false≢true, or_left, or_right}
 use Rattle.pua_jointly.proofs.Common.{Option, Some, None, ProcessState, Spot, Tree, WellFormed, CallTable}
-use Rattle.std.specs.Prelude.{slice_get, ◌+◌, ◌/◌, ◌%◌}
+use Rattle.std.specs.Prelude.{slice_get, ◌/◌, ◌%◌}
 use Rattle.std.specs.Int.{bit_at}
 use Rattle.std.specs.Int.Bits.{bit_or}
 use Rattle.std.proofs.lemmas.Nat.Bits.{bit_at-zero}
 use Rattle.pua_jointly.specs.Closing.{has_bit}
-use Rattle.pua_jointly.specs.JointTable.{entities, columns, table_says, FollowsAt}
+use Rattle.pua_jointly.specs.Jointly.{Hand}
+use Rattle.pua_jointly.specs.JointGround.{Ground, ground_of}
+use Rattle.pua_jointly.specs.JointTable.{Entity, bit_says, entities, columns, hands_of, table_says, FollowsAt}
 use Rattle.pua_jointly.specs.JointShape.{entity_of, column_of}
-use Rattle.pua_jointly.specs.JointRounds.{by_agent_at_once, by_agent_word, flag, part_at_once, part_word}
-use Rattle.pua_jointly.specs.JointSetup.{IsCrew, dirs_of}
+use Rattle.pua_jointly.specs.JointRounds.{by_agent_at_once, by_agent_word, flag, part_at_once, part_word, side_at_once, side_word}
+use Rattle.pua_jointly.specs.JointSetup.{HasSide, IsCrew, dirs_of, side_of}
 use Rattle.pua_jointly.specs.declared.crew.Crew.{Crew}
+use Rattle.pua_jointly.specs.declared.crew.Side.{Side}
+use Rattle.pua_jointly.proofs.Common.{None≢Some, refl}
 use Rattle.pua_jointly.specs.declared.shape.Row.{Row}
 use Rattle.pua_jointly.specs.declared.shape.Row.TheVariants as rows
 use Rattle.pua_jointly.specs.declared.shape.Part.TheVariants as parts
@@ -31,61 +35,87 @@ enters_once covers true other turns bit held =
     ∙ or_right (bit_at covers bit == 1) (bit_at (bit_or (flag true 18) turns) bit == 1)
     (has_or (flag true 18) turns bit ∙ or_left (bit_at (flag true 18) bit == 1) (bit_at turns bit == 1) held)
 
-agent_of_once : (t : Tree) (c : Crew) (told : List ℕ) (at : ℕ) (about : Row) (o : Option Agent) (bit : ℕ) →
+agent_of_once : (t : Tree) (c : Ground) (told : List ℕ) (at : ℕ) (about : Row) (o : Option Agent) (bit : ℕ) →
     has_bit (by_agent_at_once c told about o) bit → has_bit (by_agent_word t c told at about o) bit
 agent_of_once t c told at about None bit held = held
 agent_of_once t c told at (rows.Dir dir) (Some of) bit held = enters_once _ _ _ _ bit held
 agent_of_once t c told at (rows.Made i) (Some of) bit held = absurd (no_bit bit held)
 agent_of_once t c told at (rows.Landing i) (Some of) bit held = absurd (no_bit bit held)
 agent_of_once t c told at (rows.Drops i) (Some of) bit held = absurd (no_bit bit held)
-agent_of_once t c told at rows.Makers (Some of) bit held = absurd (no_bit bit held)
 agent_of_once t c told at (rows.Name i) (Some of) bit held = absurd (no_bit bit held)
 
-pub part_of_once : (t : Tree) (c : Crew) (told : List ℕ) (at : ℕ) (about : Row) (p : Part) (bit : ℕ) →
+part_of_once : (t : Tree) (c : Ground) (told : List ℕ) (at : ℕ) (about : Row) (p : Part) (bit : ℕ) →
     has_bit (part_at_once c told about p) bit → has_bit (part_word t c told at about p) bit
-part_of_once t c told at about (parts.Agent i) bit held = agent_of_once t c told at about (slice_get c.agents.items i) bit held
+part_of_once t c told at about (parts.Agent i) bit held = agent_of_once t c told at about (slice_get c.agents i) bit held
 part_of_once t c told at about parts.Common bit held = absurd (no_bit bit held)
 part_of_once t c told at about (parts.Watched i) bit held = absurd (no_bit bit held)
 
-module _ (t : Tree) (well : WellFormed t) (table : CallTable) (crew : List ProcessState) (watched : ℕ → Bool) (spots : List Spot)
-    (guarded : List ℕ) (c : Crew) (is : IsCrew t table crew watched spots guarded c) (told : List ℕ) where
+pub side_of_once : (t : Tree) (c : Crew) (told : List ℕ) (at : ℕ) (about : Row) (p : Part) (o : Option Side) (bit : ℕ) →
+    has_bit (side_at_once c told about p o) bit → has_bit (side_word t c told at about p o) bit
+side_of_once t c told at about p None bit held = held
+side_of_once t c told at about p (Some side) bit held = part_of_once t (ground_of c side) told at about p bit held
+
+module _ (t : Tree) (well : WellFormed t) (table : CallTable) (crew : List ProcessState) (devices : List ℕ) (watched : ℕ → Bool)
+    (spots : List Spot) (guarded : List ℕ) (c : Crew) (is : IsCrew t table crew devices watched spots guarded c) (told : List ℕ) where
   abbrev dirs : ℕ
   dirs = dirs_of c
 
   abbrev many : ℕ
   many = length (columns crew guarded)
 
+  abbrev hands : List Hand
+  hands = hands_of crew devices
+
   -- with what it is said to hold in place of what it holds
-  same : c ≡ record c {
-    shape = record { agents = length crew; last = c.shape.last };
-    columns = many;
-    makers = dirs + (length crew + (length crew + (length crew + 0)));
-  }
-  same = λ z. record c {
-    shape = record { agents = is.many z; last = c.shape.last };
-    columns = is.columns z;
-    makers = is.makers z;
-  }
+  same : (side : Side) → ground_of c side ≡ record (ground_of c side) { columns = many; common = length crew }
+  same side = λ z. record (ground_of c side) { columns = is.columns z; common = is.many z }
 
   module _ (place : ℕ) (about : Row) (p : Part)
-      (rows : slice_get (entities crew dirs spots) (place / c.columns) ≡ entity_of crew spots about)
+      (in_rows : slice_get (entities hands dirs spots) (place / c.columns) ≡ entity_of hands spots about)
       (parts : slice_get (columns crew guarded) (place % c.columns) ≡ column_of crew guarded p) where
-    rows_now : slice_get (entities crew dirs spots) (place / many) ≡ entity_of crew spots about
-    rows_now = (λ z. slice_get (entities crew dirs spots) (place / sym is.columns z)) ∙ rows
+    rows_now : slice_get (entities hands dirs spots) (place / many) ≡ entity_of hands spots about
+    rows_now = (λ z. slice_get (entities hands dirs spots) (place / sym is.columns z)) ∙ in_rows
 
     parts_now : slice_get (columns crew guarded) (place % many) ≡ column_of crew guarded p
     parts_now = (λ z. slice_get (columns crew guarded) (place % sym is.columns z)) ∙ parts
 
-    pub step_only : (bit : ℕ) → has_bit (part_word t c told (place / c.columns) about p) bit →
-        FollowsAt t table crew watched (table_says (entities crew dirs spots) (columns crew guarded)) told place bit
-    step_only bit held =
-        whole_only t well table crew watched dirs spots guarded is.fits is.each_agent is.each_name is.each_watched told c is.agents is.seats is.entries
-        is.marks is.watches is.only_watched is.watch_columns place about p rows_now parts_now bit
-        (subst (λ (k : Crew). has_bit (part_word t k told (place / k.columns) about p) bit) same held)
+    abbrev Here : ℕ → Type 0
+    Here bit = FollowsAt t table crew watched (table_says (entities hands dirs spots) (columns crew guarded)) told place bit
 
-    pub step_all : (bit : ℕ) → FollowsAt t table crew watched (table_says (entities crew dirs spots) (columns crew guarded)) told place bit →
-        has_bit (part_word t c told (place / c.columns) about p) bit
-    step_all bit new =
-        subst (λ (k : Crew). has_bit (part_word t k told (place / k.columns) about p) bit) (sym same)
-        (whole_all t well table crew watched dirs spots guarded is.fits is.each_agent is.each_name is.each_watched told c is.agents is.seats is.entries
-        is.marks is.watches is.only_watched is.watch_columns place about p rows_now parts_now bit new)
+    abbrev found : Option Side → ℕ
+    found o = side_word t c told (place / c.columns) about p o
+
+    side_only : (e : Entity) → entity_of hands spots about ≡ Some e → HasSide t table crew hands dirs spots c about e → (bit : ℕ) →
+        has_bit (found (side_of c about)) bit → Here bit
+    side_only e is_about at bit held =
+        whole_only t well table crew devices watched dirs spots guarded is.fits is.each_agent is.each_hand is.each_name is.each_watched told c
+        at.side at.on at.is is.agents is.entries is.watches is.only_watched is.watch_columns place about p e (rows_now ∙ is_about) is_about at.here
+        parts_now bit
+        (subst (λ n. has_bit (part_word t (record (ground_of c at.side) { columns = many; common = length crew }) told (place / n) about p) bit)
+        is.columns (subst (λ (k : Ground). has_bit (part_word t k told (place / c.columns) about p) bit) (same at.side)
+        (subst (λ o. has_bit (found o) bit) at.of held)))
+
+    side_all : (e : Entity) → entity_of hands spots about ≡ Some e → HasSide t table crew hands dirs spots c about e → (bit : ℕ) →
+        Here bit → has_bit (found (side_of c about)) bit
+    side_all e is_about at bit new =
+        subst (λ o. has_bit (found o) bit) (sym at.of)
+        (subst (λ (k : Ground). has_bit (part_word t k told (place / c.columns) about p) bit) (sym (same at.side))
+        (subst (λ n. has_bit (part_word t (record (ground_of c at.side) { columns = many; common = length crew }) told (place / n) about p) bit)
+        (sym is.columns)
+        (whole_all t well table crew devices watched dirs spots guarded is.fits is.each_agent is.each_hand is.each_name is.each_watched told c
+        at.side at.on at.is is.agents is.entries is.watches is.only_watched is.watch_columns place about p e (rows_now ∙ is_about) is_about at.here
+        parts_now bit new)))
+
+    pub step_only : (bit : ℕ) → has_bit (found (side_of c about)) bit → Here bit
+    step_only bit held = by (entity_of hands spots about) refl
+      where
+        by : (o : Option Entity) → entity_of hands spots about ≡ o → Here bit
+        by None none = absurd (no_bit bit (subst (λ o. has_bit (found o) bit) (is.only_rows about none) held))
+        by (Some e) some = side_only e some (is.rows (place / c.columns) about e (in_rows ∙ some) some) bit held
+
+    pub step_all : (bit : ℕ) → Here bit → has_bit (found (side_of c about)) bit
+    step_all bit new = by (entity_of hands spots about) refl
+      where
+        by : (o : Option Entity) → entity_of hands spots about ≡ o → has_bit (found (side_of c about)) bit
+        by None none = absurd (None≢Some new.fact ((λ z. bit_says (sym (rows_now ∙ none) z) (slice_get (columns crew guarded) (place % many)) bit) ∙ new.says))
+        by (Some e) some = side_all e some (is.rows (place / c.columns) about e (in_rows ∙ some) some) bit new

@@ -3,7 +3,7 @@ use Rattle.pua_jointly.proofs.Common.{◌≡◌, ◌∙◌, ℕ, Bool, List, len
 use Rattle.std.specs.Prelude.{◌*◌}
 use Rattle.pua_jointly.specs.Closing.{IsClosed, Reached, reached, AreReached}
 use Rattle.pua_jointly.specs.JointFacts.{Kept, Means, IsOfCrew, WatchesEnough, Follows, watches}
-use Rattle.pua_jointly.specs.JointTable.{Layout, IsTold, FollowsAt, HasBit, HasFacts, TableFits, TableLaw, table_says, entities, columns}
+use Rattle.pua_jointly.specs.JointTable.{Layout, IsTold, FollowsAt, HasBit, HasFacts, TableFits, TableLaw, table_says, entities, columns, hands_of}
 use Rattle.pua_jointly.proofs.JointFound.{sound, complete}
 use Rattle.pua_jointly.proofs.JointPlaced.{follows_bit}
 use Rattle.pua_jointly.proofs.JointWatched.{watches_enough}
@@ -36,22 +36,22 @@ module _ (t : Tree) (well : WellFormed t) (table : CallTable) (crew : List Proce
       }
 
 -- so the least table that has room for all has all facts
-module _ (t : Tree) (well : WellFormed t) (table : CallTable) (crew : List ProcessState) (watched : ℕ → Bool)
+module _ (t : Tree) (well : WellFormed t) (table : CallTable) (crew : List ProcessState) (devices : List ℕ) (watched : ℕ → Bool)
     (enough : WatchesEnough t table crew watched) (dirs : ℕ) (spots : List Spot) (guarded : List ℕ)
-    (fits : TableFits t crew watched dirs spots guarded) where
+    (fits : TableFits t crew devices watched dirs spots guarded) where
   abbrev says : Layout
-  says = table_says (entities crew dirs spots) (columns crew guarded)
+  says = table_says (entities (hands_of crew devices) dirs spots) (columns crew guarded)
 
-  pub has_facts : (told : List ℕ) → length told ≡ length (columns crew guarded) * length (entities crew dirs spots) →
+  pub has_facts : (told : List ℕ) → length told ≡ length (columns crew guarded) * length (entities (hands_of crew devices) dirs spots) →
       IsClosed (FollowsAt t table crew watched says) told → AreReached (FollowsAt t table crew watched says) told →
       HasFacts t table crew watched says told
   has_facts told full closed all = record {
     all = complete t well table crew watched enough (IsTold says told) (table_closed t well table crew watched enough says told closed
         (λ x of_crew new. subst (λ n. HasBit says n x) (sym full)
-        (follows_bit t table crew watched dirs spots guarded fits told x of_crew new)));
+        (follows_bit t table crew devices watched dirs spots guarded fits told x of_crew new)));
     only = table_sound t well table crew watched enough says told all;
   }
 
 pub table_law : TableLaw
-table_law t well table crew dirs spots guarded fits told full closed all =
-    has_facts t well table crew (watches t crew) (watches_enough t well table crew) dirs spots guarded fits told full closed all
+table_law t well table crew devices dirs spots guarded fits told full closed all =
+    has_facts t well table crew devices (watches t crew) (watches_enough t well table crew) dirs spots guarded fits told full closed all

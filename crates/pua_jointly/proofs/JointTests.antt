@@ -86,9 +86,9 @@ module _ (t : Tree) (well : WellFormed t) (table : CallTable) (crew : List Proce
 
   lives : {fact : Fact} → Can t table crew fact → Lives fact
   lives (stays_in name at is) = is
-  lives (moved_in {d = Old d} a k among over can way apart) = lives over
-  lives (moved_in {d = Made m} a k among over can way apart) = tt
-  lives (born_in among makes way) = tt
+  lives (moved_in {d = Old d} a k among over can way apart near) = lives over
+  lives (moved_in {d = Made m} a k among over can way apart near) = tt
+  lives (born_in among makes way near) = tt
   lives (not_above_root other) = tt
   lives (not_above_up p other stands apart) = tt
   lives (not_above_made) = tt
@@ -105,13 +105,13 @@ module _ (t : Tree) (well : WellFormed t) (table : CallTable) (crew : List Proce
   lives (free_other a x k among may at is over c) = tt
   lives (way_in_by_c k over c) = tt
   lives (way_in_by_name name perms is own c free) = tt
-  lives (way_in_by_turn y perms other k stands own c free over can apart clear) = tt
+  lives (way_in_by_turn y perms other k stands own c free over can apart clear near same) = tt
   lives (writes_at k over c free) = tt
-  lives (makes_at d name k over free makes) = tt
+  lives (makes_at d name k over free makes near) = tt
   lives (stays_at x at other) = (x, at, other)
-  lives (moved_at {r = Row spot} a d name k among stands over can writes) = lives stands
-  lives (moved_at {r = Maker new m} a d name k among stands over can writes) = tt
-  lives (born_at among makes writes) = tt
+  lives (moved_at {r = Row spot} a d name k among stands over can writes near) = lives stands
+  lives (moved_at {r = Maker new m} a d name k among stands over can writes near) = tt
+  lives (born_at among makes writes near) = tt
 
   module _ (a : ProcessState) where
     -- what never shows itself has no calls
@@ -173,7 +173,7 @@ module _ (t : Tree) (table : CallTable) (crew : List ProcessState) (facts : Fact
   on_dir : (d : ℕ) (way : Way) → Known (Stands (At (Whole d way)))
   on_dir d way = by (is_dir t d) refl
     where
-      standing : is_dir t d ≡ true → (zero_is stays : Bool) → (d == 0) ≡ zero_is → list_any (held_in c words d) c.entries.items ≡ stays →
+      standing : is_dir t d ≡ true → (zero_is stays : Bool) → (d == 0) ≡ zero_is → list_any (held_in c.columns c.shape.agents words d) c.entries.items ≡ stays →
           Known (Stands (At (Whole d way)))
       standing lives true stays root held =
           let one = under (told_by.dir_word t table crew facts a of is d) lasting_dir in (
@@ -196,7 +196,7 @@ module _ (t : Tree) (table : CallTable) (crew : List ProcessState) (facts : Fact
 
       by : (b : Bool) → is_dir t d ≡ b → Known (Stands (At (Whole d way)))
       by false none = (0, no_dir t well table crew a d way none)
-      by true lives = standing lives (d == 0) (list_any (held_in c words d) c.entries.items) refl refl
+      by true lives = standing lives (d == 0) (list_any (held_in c.columns c.shape.agents words d) c.entries.items) refl refl
 
   on_others : (d : ℕ) → Known (Stands (Others d))
   on_others d = by (is_dir t d) refl
@@ -274,12 +274,12 @@ module _ (t : Tree) (table : CallTable) (crew : List ProcessState) (facts : Fact
       own = free dir name
 
       taken : is_dir t dir ≡ true → (x : ℕ) → look t dir name ≡ Some x → Known (Stands (At (Slot dir name None)))
-      taken lives x here = held (is_taken c words there.entry.row) refl
+      taken lives x here = held (is_taken c.columns c.shape.agents words there.entry.row) refl
         where
           there : EntryThere t table crew facts a of is dir name x
           there = entry_there t table crew facts a of is dir name x here
 
-          held : (b : Bool) → is_taken c words there.entry.row ≡ b → Known (Stands (At (Slot dir name None)))
+          held : (b : Bool) → is_taken c.columns c.shape.agents words there.entry.row ≡ b → Known (Stands (At (Slot dir name None)))
           held true e = (
             own.0,
             told_by.as_freed t table crew facts a of is dir name there.entry there.among (λ z. (there.dir_is z, there.name_is z)) e lives own.0 own.1,

@@ -27,7 +27,7 @@ use Rattle.pua_jointly.specs.Jointly.{shows_dir, shows_emptied, shows_others, sh
 use Rattle.pua_jointly.specs.Jointly.{shows_new_link, shows_new_sock, shows_new_fifo, free_none}
 use Rattle.pua_jointly.specs.JointRounds.{is_taken, stays_in}
 use Rattle.pua_jointly.specs.JointSetting.{entry_of}
-use Rattle.pua_jointly.specs.JointSetup.{crew_told, dirs_of}
+use Rattle.pua_jointly.specs.JointSetup.{crew_told}
 use Rattle.pua_jointly.specs.JointWords.{IsAgent, covers_in, has_named, meets, word_at}
 use Rattle.pua_jointly.specs.declared.agent.Agent.{Agent}
 use Rattle.pua_jointly.specs.declared.crew.Crew.{Crew}
@@ -113,13 +113,13 @@ module _ (t : Tree) (table : CallTable) (crew : List ProcessState) (facts : Fact
       (λ k shows. show.dir_has t table c are.worked told are.full are.closed are.has is.at a of is.got is.process d k (allow.shown t table all a shows).0)
 
   -- something stays in a directory
-  pub held_is : (d : ℕ) → is_dir t d ≡ true → get_or facts.held.items d false ≡ list_any (stays_in c told d) c.entries.items
+  pub held_is : (d : ℕ) → is_dir t d ≡ true → get_or facts.held.items d false ≡ list_any (stays_in c.columns c.shape.agents told d) c.entries.items
   held_is d lives =
       are.held d (show.dir_low t table c are.worked told are.full are.closed are.has is.at a of is.got is.process d lives)
 
   -- of a directory that stays
   pub lasting_calls : (d : ℕ) (way : Way) (calls : ℕ) → is_dir t d ≡ true →
-      (d ≢ 0 → not (list_any (stays_in c told d) c.entries.items) ≡ true → ⊥) → AreUnder table a (dir_word d) lasting_dir calls →
+      (d ≢ 0 → not (list_any (stays_in c.columns c.shape.agents told d) c.entries.items) ≡ true → ⊥) → AreUnder table a (dir_word d) lasting_dir calls →
       AreCallsOf t table crew a (Stands (At (Whole d way))) calls
   lasting_calls d way calls lives stays under =
       plain_crew (Stands (At (Whole d way))) calls (λ none. none)
@@ -129,7 +129,7 @@ module _ (t : Tree) (table : CallTable) (crew : List ProcessState) (facts : Fact
 
   -- of one that can be emptied
   pub emptied_calls : (d : ℕ) (way : Way) (first second calls : ℕ) → is_dir t d ≡ true → d ≢ 0 →
-      not (list_any (stays_in c told d) c.entries.items) ≡ true → AreUnder table a (dir_word d) lasting_dir first →
+      not (list_any (stays_in c.columns c.shape.agents told d) c.entries.items) ≡ true → AreUnder table a (dir_word d) lasting_dir first →
       AreUnder table a (dir_word d) removable_dir second → ((call : Call) → has calls call ≡ (has first call || has second call)) →
       AreCallsOf t table crew a (Stands (At (Whole d way))) calls
   emptied_calls d way first second calls lives other free under_first under_second both =
@@ -331,14 +331,14 @@ module _ (t : Tree) (table : CallTable) (crew : List ProcessState) (facts : Fact
         starts = ap may_start_at (sym kind) ∙ turn.file
 
     -- once it is taken away
-    pub freed_calls : is_taken c told entry.row ≡ true → is_dir t entry.dir ≡ true → (calls : ℕ) →
+    pub freed_calls : is_taken c.columns c.shape.agents told entry.row ≡ true → is_dir t entry.dir ≡ true → (calls : ℕ) →
         AreFreeCalls table a entry.dir entry.name.now calls → AreCallsOf t table crew a (at_name None) calls
     freed_calls taken lives calls free =
         plain_crew (at_name None) calls (λ none. none)
         (allow.free_tells t table all a entry.dir entry.name.now calls lives
         (show.taken_means t table c are.worked told are.full are.closed are.has is.at a of is.got is.process e_at entry got taken) free)
 
-    pub held_calls : is_taken c told entry.row ≡ false → (calls : ℕ) → ((call : Call) → has calls call ≡ false) →
+    pub held_calls : is_taken c.columns c.shape.agents told entry.row ≡ false → (calls : ℕ) → ((call : Call) → has calls call ≡ false) →
         AreCallsOf t table crew a (at_name None) calls
     held_calls held calls none =
         plain_crew (at_name None) calls (λ none. none)
@@ -368,14 +368,14 @@ module _ (t : Tree) (table : CallTable) (crew : List ProcessState) (facts : Fact
         subst (λ o. AreCallsOf t table crew a (Stands (At (Slot dir name o))) calls) (sym found_there)
         (subst (λ (s : Spot). AreCallsOf t table crew a (Stands (At (Slot s.0 s.1 (Some entry.node)))) calls) spot tells)
 
-    pub as_freed : is_taken c told entry.row ≡ true → is_dir t dir ≡ true → (calls : ℕ) → AreFreeCalls table a dir name calls →
+    pub as_freed : is_taken c.columns c.shape.agents told entry.row ≡ true → is_dir t dir ≡ true → (calls : ℕ) → AreFreeCalls table a dir name calls →
         AreCallsOf t table crew a (Stands (At (Slot dir name None))) calls
     as_freed taken lives calls free =
         subst (λ (s : Spot). AreCallsOf t table crew a (Stands (At (Slot s.0 s.1 None))) calls) spot
         (freed_calls entry_got.at entry entry_got.is taken (ap (λ (s : Spot). is_dir t s.0) spot ∙ lives) calls
         (subst (λ (s : Spot). AreFreeCalls table a s.0 s.1 calls) (sym spot) free))
 
-    pub as_held : is_taken c told entry.row ≡ false → (calls : ℕ) → ((call : Call) → has calls call ≡ false) →
+    pub as_held : is_taken c.columns c.shape.agents told entry.row ≡ false → (calls : ℕ) → ((call : Call) → has calls call ≡ false) →
         AreCallsOf t table crew a (Stands (At (Slot dir name None))) calls
     as_held held calls none =
         subst (λ (s : Spot). AreCallsOf t table crew a (Stands (At (Slot s.0 s.1 None))) calls) spot
@@ -452,7 +452,7 @@ module _ (t : Tree) (table : CallTable) (crew : List ProcessState) (facts : Fact
   abbrev ones : List ProcessState
   ones = crew_told facts.crew
 
-  agent_by : (b : Agent) (at : ℕ) → slice_get k.agents.items at ≡ Some b → IsAgent table (dirs_of k) ones at b.process.now b
+  agent_by : (b : Agent) (at : ℕ) → slice_get k.agents.items at ≡ Some b → IsAgent table ones at b.process.now b
   agent_by b at got = show.is_agent t table k are.worked words are.full are.closed are.has at b.process.now b got refl
 
   module _ (b : Agent) (agent_at : ℕ) (agent_got : slice_get k.agents.items agent_at ≡ Some b) (e_at : ℕ) (entry : Entry)

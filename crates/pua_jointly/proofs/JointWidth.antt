@@ -1,7 +1,7 @@
 -- Which words of the table of a crew can ever have a fact: of a number at which no directory stands none can, if it isn't watched.
 use Rattle.pua_jointly.proofs.Common.{◌≡◌, ◌<◌, ◌≤◌, ◌∙◌, ap, arith, Bool, CallTable, contained, false, false≢true, is_dir}
 use Rattle.pua_jointly.proofs.Common.{length, List, None, None≢Some, Option, option_map, ProcessState, refl, row_says, Some, sound_from}
-use Rattle.pua_jointly.proofs.Common.{subst, suc, sym, Tree, true, WellFormed, zero, ℕ}
+use Rattle.pua_jointly.proofs.Common.{subst, suc, sym, Tree, true, WellFormed, ℕ}
 use Rattle.std.specs.Prelude.{⊤, ◌+◌, ◌-◌, ◌*◌, ◌/◌, ◌%◌, get_or, slice_get, IsTrue}
 use Rattle.std.specs.List.{Contains}
 use Rattle.std.proofs.lemmas.Nat.{div-mul-add, mod-mul-add}
@@ -9,15 +9,15 @@ use Rattle.pua_jointly.specs.Closing.{Reached, reached, Step}
 use Rattle.pua_jointly.specs.Jointly.{Fact, StandsIn, NotAbove, DirCover, WayIn, Made, Maker, Old, Row, is_standing}
 use Rattle.pua_jointly.specs.JointFacts.{Kept, Covers, Enters, Lands, Clear, LandsClear, Turns, Taken, Creates, Drops, Carries, Follows, Means}
 use Rattle.pua_jointly.specs.JointFacts.{WatchesEnough, turns_by, watches}
-use Rattle.pua_jointly.specs.JointSetup.{AreStanding, FollowsTold, IsWorkedOut, crew_told, dirs_of, guarded_told, layout_told, spots_told}
-use Rattle.pua_jointly.specs.JointTable.{Entity, DirAt, MadeBy, LandingOf, DropsOf, Makers, NameAt, Column, ByAgent, Common, Watching, bit_says}
+use Rattle.pua_jointly.specs.JointSetup.{AreStanding, FollowsTold, IsWorkedOut, crew_told, devices_told, dirs_of, guarded_told, hands_told, layout_told, spots_told}
+use Rattle.pua_jointly.specs.JointTable.{Entity, DirAt, MadeBy, LandingOf, DropsOf, NameAt, Column, ByAgent, Watching, bit_says}
 use Rattle.pua_jointly.specs.JointTable.{IsTold, columns, entities}
 use Rattle.pua_jointly.specs.declared.crew.Crew.{Crew}
 use Rattle.pua_jointly.specs.declared.crew.Watch.{Watch}
 use Rattle.pua_objects.proofs.ForCallers.{Among, among_contained, map_among}
 use Rattle.pua_jointly.proofs.JointPlaced.{column_fits, entity_fits, got_among}
 use Rattle.pua_jointly.proofs.JointPlaces.{Says, said}
-use Rattle.pua_jointly.proofs.JointRows.{common_column, guarded_column}
+use Rattle.pua_jointly.proofs.JointRows.{guarded_column}
 use Rattle.pua_jointly.proofs.JointTabled.{means_reached}
 use Rattle.pua_jointly.proofs.JointWatched.{watches_enough}
 use Rattle.pua_jointly.proofs.JointlyClosed.{Closed, least}
@@ -33,8 +33,8 @@ OfStanding t _ = ⊤
 of_standing : (t : Tree) → WellFormed t → (table : CallTable) (crew : List ProcessState) → Closed t table crew (OfStanding t)
 of_standing t well table crew = record {
   stays_in = λ {dir} {d} name at is. (is, (row_says t (sound_from t well) (dir, name) d at).0);
-  moved_in = λ a k among cover can way apart. (cover, way);
-  born_in = λ among makes way. (refl, way);
+  moved_in = λ a k among cover can way apart near. (cover, way);
+  born_in = λ among makes way near. (refl, way);
   not_above_root = λ other. well.root;
   not_above_up = λ p other stands above. stands.0;
   not_above_made = tt;
@@ -49,53 +49,28 @@ of_standing t well table crew = record {
   free_other = λ a x k among may at is cover has. tt;
   way_in_by_c = λ k cover has. cover;
   way_in_by_name = λ name perms stands own has free. stands;
-  way_in_by_turn = λ y perms other k stands own has empty cover can differs above. stands.1;
+  way_in_by_turn = λ y perms other k stands own has empty cover can differs above here near. stands.1;
   writes_at = λ k cover has free. tt;
-  makes_at = λ d name k cover free made. tt;
+  makes_at = λ d name k cover free made near. tt;
   stays_at = λ x at is. tt;
-  moved_at = λ a d name k among stands cover can writes. tt;
-  born_at = λ among makes writes. tt;
+  moved_at = λ a d name k among stands cover can writes near. tt;
+  born_at = λ among makes writes near. tt;
 }
 
--- behind the words of processes stand those of all and of watched directories
-abbrev IsPast : Column → Type 0
-IsPast (ByAgent a) = ⊥
-IsPast _ = ⊤
-
--- nothing is said there of where a process puts things, and of what each can make
-abbrev pub IsOfAgents : Option Entity → Type 0
-IsOfAgents None = ⊤
-IsOfAgents (Some (DropsOf b)) = ⊤
-IsOfAgents (Some Makers) = ⊤
-IsOfAgents _ = ⊥
-
-no_bits_past : (e : Option Entity) (k : Column) → IsOfAgents e → IsPast k → (bit : ℕ) → bit_says e (Some k) bit ≡ None
-no_bits_past None k of past bit = refl
-no_bits_past (Some (DropsOf b)) Common of past bit = refl
-no_bits_past (Some (DropsOf b)) (Watching y) of past bit = refl
-no_bits_past (Some Makers) Common of past bit = refl
-no_bits_past (Some Makers) (Watching y) of past bit = refl
-no_bits_past (Some (DropsOf b)) (ByAgent a) of past bit = absurd past
-no_bits_past (Some Makers) (ByAgent a) of past bit = absurd past
-no_bits_past (Some (DirAt d)) k of past bit = absurd of
-no_bits_past (Some (MadeBy m)) k of past bit = absurd of
-no_bits_past (Some (LandingOf m)) k of past bit = absurd of
-no_bits_past (Some (NameAt s)) k of past bit = absurd of
-
--- and of a name nothing beside watched directories
+-- behind the words of processes and of all nothing is said of where a process puts things that are no directories, and of a name
 abbrev pub IsOfName : Option Entity → Type 0
 IsOfName None = ⊤
+IsOfName (Some (DropsOf b)) = ⊤
 IsOfName (Some (NameAt s)) = ⊤
 IsOfName _ = ⊥
 
 no_bits_watch : (e : Option Entity) (y : ℕ) → IsOfName e → (bit : ℕ) → bit_says e (Some (Watching y)) bit ≡ None
 no_bits_watch None y of bit = refl
+no_bits_watch (Some (DropsOf b)) y of bit = refl
 no_bits_watch (Some (NameAt s)) y of bit = refl
 no_bits_watch (Some (DirAt d)) y of bit = absurd of
 no_bits_watch (Some (MadeBy m)) y of bit = absurd of
 no_bits_watch (Some (LandingOf m)) y of bit = absurd of
-no_bits_watch (Some (DropsOf m)) y of bit = absurd of
-no_bits_watch (Some Makers) y of bit = absurd of
 
 no_column : (e : Option Entity) (bit : ℕ) → bit_says e None bit ≡ None
 no_column None bit = refl
@@ -117,7 +92,7 @@ module _ (t : Tree) (table : CallTable) (c : Crew) (out : IsWorkedOut t table c)
   watched = watches t crew
 
   abbrev es : List Entity
-  es = entities crew (dirs_of c) (spots_told c)
+  es = entities (hands_told c) (dirs_of c) (spots_told c)
 
   abbrev cs : List Column
   cs = columns crew (guarded_told c)
@@ -143,7 +118,7 @@ module _ (t : Tree) (table : CallTable) (c : Crew) (out : IsWorkedOut t table c)
     never (Clear y (Old e)) column bit in_word by means new = away e in_word.0 (least t table crew (OfStanding t) (of_standing t out.0 table crew) means)
     never (Clear y (Made m)) column bit in_word by means new = false≢true (ap is_dir_row in_word.0)
     never (LandsClear b y) column bit in_word by means new = false≢true (ap is_dir_row in_word.0)
-    never (Turns a y) column bit in_word by means (turns_by perms other k own has empty cover can differs clear) =
+    never (Turns a y) column bit in_word by means (turns_by perms other k own has empty cover can differs clear near) =
         false≢true (sym unwatched ∙ ap watched (sym (ap dir_of_row in_word.0)) ∙ enough.turned y a perms (by a in_word.1.0) own has)
     never (Taken dir name) column bit in_word by means new = false≢true (ap is_dir_row in_word.0)
     never (Creates a new_one) column bit in_word by means new = false≢true (ap is_dir_row in_word.0)
@@ -179,14 +154,14 @@ module _ (t : Tree) (table : CallTable) (c : Crew) (out : IsWorkedOut t table c)
     pub no_dir : (standing : List Bool) → AreStanding t (dirs_of c) standing → (d : ℕ) → slice_get es row ≡ Some (DirAt d) →
         get_or standing d false ≡ false → get_or c.watch_columns.items d None ≡ None → IsVoid row column
     no_dir standing are d is unmarked none count bit (reached told full all low_at new) =
-        let below = entity_fits t table crew watched (dirs_of c) (spots_told c) (guarded_told c) out.1.fits (DirAt d) (got_among es row (DirAt d) is) in
+        let below = entity_fits t table crew (devices_told c) watched (dirs_of c) (spots_told c) (guarded_told c) out.1.fits (DirAt d) (got_among es row (DirAt d) is) in
         let absent : is_dir t d ≡ false = sym (are d below) ∙ unmarked in
         let place : ℕ = row * c.columns + column in
         let s = said es cs place bit new.fact new.says in
         let here : s.entity ≡ DirAt d = same_some (sym s.in_rows ∙ (λ z. slice_get es (at_row z)) ∙ is) in
         never d absent (unwatched_by d none) (IsTold (layout_told c) told) new.fact s.column bit
         (subst (λ e. Says e s.column bit new.fact) here s.in_word) (λ a is_agent.
-        contained crew a (column_fits t table crew watched (dirs_of c) (spots_told c) (guarded_told c) out.1.fits (ByAgent a)
+        contained crew a (column_fits t table crew (devices_told c) watched (dirs_of c) (spots_told c) (guarded_told c) out.1.fits (ByAgent a)
         (subst (Among cs) is_agent (got_among cs (place % length cs) s.column s.in_columns))))
         (means_reached t out.0 table crew watched enough (layout_told c) count (reached told full all low_at new) new.fact new.says)
         new.follows
@@ -219,17 +194,3 @@ module _ (t : Tree) (table : CallTable) (c : Crew) (out : IsWorkedOut t table c)
 
     pub past_common : IsOfName e → length crew + 1 ≤ column → IsVoid row column
     past_common of more = past_watch (column - (length crew + 1)) (omega (arith, more)) of
-
-    past_any : (i : ℕ) → column ≡ length crew + i → IsOfAgents e → IsVoid row column
-    past_any zero at of = no_bits row column low e (Some Common) is (ap (slice_get cs) at ∙ common_column crew (guarded_told c))
-        (no_bits_past e Common of tt)
-    past_any (suc i) at of = by (slice_get (guarded_told c) i) refl
-      where
-        by : (o : Option ℕ) → slice_get (guarded_told c) i ≡ o → IsVoid row column
-        by None none = no_bits row column low e None is (ap (slice_get cs) at ∙ guarded_column crew (guarded_told c) i ∙ ap (option_map Watching) none)
-            (no_column e)
-        by (Some y) some = no_bits row column low e (Some (Watching y)) is
-            (ap (slice_get cs) at ∙ guarded_column crew (guarded_told c) i ∙ ap (option_map Watching) some) (no_bits_past e (Watching y) of tt)
-
-    pub past_agents : IsOfAgents e → length crew ≤ column → IsVoid row column
-    past_agents of more = past_any (column - length crew) (omega (arith, more)) of

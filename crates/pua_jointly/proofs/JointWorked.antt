@@ -14,7 +14,7 @@ use Rattle.std.specs.Ordering.{is_lt, ordering_reverse}
 use Rattle.std.specs.declared.cmp.Ordering.{Ordering}
 use Rattle.std.specs.declared.cmp.Ordering.TheVariants.{Equal, Greater, Less}
 use Rattle.pua_tree.proofs.ForCallers.{all_from_found}
-use Rattle.pua_tree.specs.Tree.{is_within}
+use Rattle.pua_tree.specs.Tree.{device, is_within}
 use Rattle.pua_policy.proofs.ForCallers.{climb_root}
 use Rattle.pua_policy.specs.declared.place.Place.{Place}
 use Rattle.pua_policy.specs.declared.place.Place.TheVariants as place
@@ -23,10 +23,15 @@ use Rattle.pua_ever.specs.Laws.{dir_of_place}
 use Rattle.pua_jointly.specs.JointFacts.{watches, watches_by}
 use Rattle.pua_jointly.specs.JointMembers.{AreSmall, Each}
 use Rattle.pua_jointly.specs.JointPlace.{Once}
-use Rattle.pua_jointly.specs.JointSetting.{AreColumns, AreInOrder, AreMarksOf, AreWatched, IsEntryAt, IsMarkOf, IsRowIn, IsSize, entry_of, is_watched}
-use Rattle.pua_jointly.specs.JointSetup.{AreMarks, AreWatches, IsEntry, IsMark, IsRowOf, IsWatch, IsWorkedOut, count_told, crew_told, dirs_of}
+use Rattle.pua_jointly.specs.JointSetting.{AreColumns, AreDevices, AreInOrder, AreMarksOf, AreWatched, IsEntryAt, IsMarkOf, IsRowIn, IsShape, IsSize, entry_of}
+use Rattle.pua_jointly.specs.JointSetting.{is_watched}
+use Rattle.pua_jointly.specs.JointSides.{IsPart}
+use Rattle.pua_jointly.specs.declared.setup.Parts.{Parts}
+use Rattle.pua_jointly.proofs.JointSides.{hands_length, hands_once, no_rows, rows_have, side_among}
+use Rattle.std.proofs.Math.Nat.{mul_comm}
+use Rattle.pua_jointly.specs.JointSetup.{AreEntries, AreWatches, IsEntry, IsRowOf, IsWatch, IsWorkedOut, count_told, crew_told, devices_told, dirs_of, hands_told}
 use Rattle.pua_jointly.specs.JointSetup.{guarded_told, spots_told}
-use Rattle.pua_jointly.specs.JointTable.{TableFits, columns, entities, numbers, ByAgent, Common, Watching, DirAt, MadeBy, LandingOf, DropsOf, Makers, NameAt}
+use Rattle.pua_jointly.specs.JointTable.{TableFits, columns, entities, numbers, ByAgent, Common, Watching, DirAt, MadeBy, LandingOf, DropsOf, NameAt}
 use Rattle.pua_jointly.specs.JointWords.{AreAgents, IsAgent}
 use Rattle.pua_jointly.specs.declared.agent.Agent.{Agent}
 use Rattle.pua_jointly.specs.declared.crew.Crew.{Crew}
@@ -36,7 +41,7 @@ use Rattle.pua_jointly.specs.declared.crew.Watch.{Watch}
 use Rattle.pua_jointly.specs.declared.shape.Shape.{Shape}
 use Rattle.pua_jointly.specs.declared.size.Size.{Size}
 use Rattle.pua_jointly.proofs.JointOlds.{if_some}
-use Rattle.pua_jointly.proofs.JointPlaced.{among_got, got_among}
+use Rattle.pua_jointly.proofs.JointPlaced.{among_got, entity_fits, got_among}
 use Rattle.pua_jointly.proofs.JointWatched.{kept_among}
 use Rattle.pua_jointly.proofs.Once.{mapped}
 use Rattle.pua_ever.proofs.ForCallers.{below_up, way_up}
@@ -128,18 +133,22 @@ all_of P [] x all a = absurd a
 all_of P (y ∷ xs) x all (inl e) = subst P e all.0
 all_of P (y ∷ xs) x all (inr a) = all_of P xs x all.1 a
 
-module _ (t : Tree) (well : WellFormed t) (table : CallTable) (c : Crew) (all : List (Place × ℕ)) (size : Size)
-    (once : Once (crew_told c)) (all_are : all ≡ flat_map veils (crew_told c)) (small : AreSmall all)
+module _ (t : Tree) (well : WellFormed t) (table : CallTable) (c : Crew) (all : List (Place × ℕ)) (size : Size) (parts : Parts)
+    (all_marks : List Mark) (once : Once (crew_told c)) (all_are : all ≡ flat_map veils (crew_told c)) (small : AreSmall all)
     (rows_low : (row : Spot × ℕ) → Among t.rows row → (row.0.0 ≤ c.shape.last) × (row.1 ≤ c.shape.last))
     (veils_low : (veil : Place × ℕ) → Among all veil → dir_of_place veil.0 ≤ c.shape.last)
-    (many : c.shape.agents ≡ length (crew_told c)) (sized : IsSize c.shape (length t.rows) (length c.watches.items) size)
-    (columns_are : c.columns ≡ size.columns) (makers_are : c.makers ≡ size.makers)
-    (agents : Each (λ i agent. IsAgent table (dirs_of c) (crew_told c) i agent.process.now agent) c.agents.items)
+    (many : c.shape.agents ≡ length (crew_told c)) (shaped : IsShape (length (crew_told c)) (length (devices_told c)) c.shape.last c.shape)
+    (sized : IsSize c.shape (length t.rows) (length c.watches.items) size) (columns_are : c.columns ≡ size.columns)
+    (agents : Each (λ i agent. IsAgent table (crew_told c) i agent.process.now agent) c.agents.items)
     (rows_are : spots_told c ≡ map (λ row. row.0) t.rows) (rows_once : Once (spots_told c))
-    (entries : Each (IsEntryAt t (size.makers + 1)) c.entries.items)
-    (marks : AreMarksOf t c.entries.items all c.marks.items)
+    (entries : Each (IsEntryAt t size.names) c.entries.items)
+    (marks : AreMarksOf t c.entries.items all all_marks)
     (guards : AreWatched t c.shape.agents (dirs_of c) all c.watches.items)
-    (watch_columns : AreColumns c.watches.items c.watch_columns.items) (seats_are : c.seats.items ≡ numbers size.seats)
+    (watch_columns : AreColumns c.watches.items c.watch_columns.items) (devices : AreDevices t (dirs_of c) c.devices.items)
+    (kinds_once : Once (devices_told c)) (kinds_all : (on : ℕ) → Contains c.devices.items on → Contains (devices_told c) on)
+    (size_is : parts.size ≡ size) (agents_is : parts.agents.now ≡ c.agents.items) (devices_is : parts.devices.now ≡ c.devices.items)
+    (seats_is : parts.seats.now ≡ numbers size.seats) (marks_is : parts.marks.now ≡ all_marks)
+    (watches_is : parts.watches.now ≡ c.watches.items) (sides : Each (IsPart parts) c.sides.items)
     (ordered : AreInOrder c.entries.items) where
   abbrev crew : List ProcessState
   crew = crew_told c
@@ -153,12 +162,19 @@ module _ (t : Tree) (well : WellFormed t) (table : CallTable) (c : Crew) (all : 
   abbrev n : ℕ
   n = length crew
 
-  -- where rows are
-  after_made : size.seats ≡ dirs_of c + c.shape.agents
-  after_made = subst (λ (s : Shape). size.seats ≡ (s.last + 1) + s.agents) sized.same size.after_made
+  abbrev h : ℕ
+  h = length (hands_told c)
 
-  after_drops : size.makers ≡ size.seats + (c.shape.agents + c.shape.agents)
-  after_drops = subst (λ (s : Shape). size.makers ≡ size.seats + (s.agents + s.agents)) sized.same size.after_drops
+  hands_are : c.shape.hands ≡ h
+  hands_are =
+      shaped.hands_are ∙ mul_comm (length crew) (length (devices_told c)) ∙ sym (hands_length crew (devices_told c))
+
+  -- where rows are
+  after_made : size.seats ≡ dirs_of c + c.shape.hands
+  after_made = subst (λ (s : Shape). size.seats ≡ (s.last + 1) + s.hands) sized.same size.after_made
+
+  after_drops : size.names ≡ size.seats + (c.shape.hands + c.shape.hands)
+  after_drops = subst (λ (s : Shape). size.names ≡ size.seats + (s.hands + s.hands)) sized.same size.after_drops
 
   kept_in : (a : ProcessState) (at : Place) (perms : ℕ) → Contains crew a → perms_kept a at ≡ Some perms → Among all (at, perms)
   kept_in a at perms among own =
@@ -206,9 +222,11 @@ module _ (t : Tree) (well : WellFormed t) (table : CallTable) (c : Crew) (all : 
   in_guarded : (w : Watch) → Among c.watches.items w → Among guarded w.dir
   in_guarded w among = among_map (λ w. w.dir) c.watches.items w among
 
-  fits : TableFits t crew (watches t crew) (dirs_of c) spots guarded
+  fits : TableFits t crew (devices_told c) (watches t crew) (dirs_of c) spots guarded
   fits = record {
     root = omega arith;
+    on_device = λ d low.
+        kinds_all (device t d) (contained c.devices.items (device t d) (got_among c.devices.items d (device t d) (devices.each d low)));
     perms = λ a at perms among own. all_of (λ veil. veil.1 < 16) all (at, perms) small (kept_in a at perms among own);
     veiled = λ a d perms among own. low_veil a (place.Dir d) perms among own;
     named = λ a d name perms among own. low_veil a (place.Slot d name) perms among own;
@@ -225,18 +243,18 @@ module _ (t : Tree) (well : WellFormed t) (table : CallTable) (c : Crew) (all : 
 
   -- each piece
   each_row : (i : ℕ) (spot : Spot) → slice_get spots i ≡ Some spot → (entry : Entry) × (slice_get c.entries.items i ≡ Some entry)
-      × IsEntry t (dirs_of c) n i spot entry
+      × IsEntry t (dirs_of c) h i spot entry
   each_row i spot e = let m = mapped entry_of c.entries.items i spot e in (m.at, m.is, is_entry i spot m.at m.is m.gives)
     where
       is_entry : (i : ℕ) (spot : Spot) (entry : Entry) → slice_get c.entries.items i ≡ Some entry → entry_of entry ≡ spot →
-          IsEntry t (dirs_of c) n i spot entry
+          IsEntry t (dirs_of c) h i spot entry
       is_entry i spot entry is gives =
           let at = entries i entry is in
           let one = at.row in
           let two = after_made in
           let three = after_drops in
           record {
-            row = omega (arith, one, two, three, many);
+            row = omega (arith, one, two, three, hands_are);
             dir = ap (λ s. s.0) gives;
             name = ap (λ s. s.1) gives;
             at = subst (λ (s : Spot). look t s.0 s.1 ≡ Some entry.node) gives at.at;
@@ -247,19 +265,19 @@ module _ (t : Tree) (well : WellFormed t) (table : CallTable) (c : Crew) (all : 
   at_spot i entry e = slice_get-map entry_of c.entries.items i ∙ ap (option_map entry_of) e
 
   only_row : (i : ℕ) (entry : Entry) → slice_get c.entries.items i ≡ Some entry → (spot : Spot) × (slice_get spots i ≡ Some spot)
-      × IsEntry t (dirs_of c) n i spot entry
+      × IsEntry t (dirs_of c) h i spot entry
   only_row i entry e =
       let one = each_row i (entry_of entry) (at_spot i entry e) in (
         entry_of entry,
         at_spot i entry e,
-        subst (IsEntry t (dirs_of c) n i (entry_of entry)) (same_Some one.0 entry (sym one.1 ∙ e)) one.2,
+        subst (IsEntry t (dirs_of c) h i (entry_of entry)) (same_Some one.0 entry (sym one.1 ∙ e)) one.2,
       )
 
   is_agent : (i : ℕ) (a : ProcessState) (agent : Agent) → slice_get c.agents.items i ≡ Some agent → agent.process.now ≡ a →
-      IsAgent table (dirs_of c) crew i a agent
-  is_agent i a agent is gives = subst (λ b. IsAgent table (dirs_of c) crew i b agent) gives (agents i agent is)
+      IsAgent table crew i a agent
+  is_agent i a agent is gives = subst (λ b. IsAgent table crew i b agent) gives (agents i agent is)
 
-  are_agents : AreAgents table crew (dirs_of c) c.agents.items
+  are_agents : AreAgents table crew c.agents.items
   are_agents = record {
     each = λ i a e.
         let m = mapped (λ (agent : Agent). agent.process.now) c.agents.items i a e in
@@ -288,7 +306,7 @@ module _ (t : Tree) (well : WellFormed t) (table : CallTable) (c : Crew) (all : 
       let m = map_among entry_of c.entries.items spot in_spots in
       absurd (never m.0 (contained c.entries.items m.0 m.1) m.2)
 
-  row_is : (spot : Spot) (row : Option ℕ) → IsRowIn c.entries.items spot row → IsRowOf t (dirs_of c) n spots spot row
+  row_is : (spot : Spot) (row : Option ℕ) → IsRowIn c.entries.items spot row → IsRowOf t (dirs_of c) h spots spot row
   row_is spot None never = no_row spot never (look t spot.0 spot.1) refl
   row_is spot (Some row) found =
       let g = among_got c.entries.items found.0 (among_contained c.entries.items found.0 found.1) in
@@ -296,28 +314,27 @@ module _ (t : Tree) (well : WellFormed t) (table : CallTable) (c : Crew) (all : 
       let here : entry_of found.0 ≡ one.0 = same_Some (entry_of found.0) one.0 (sym (at_spot g.at found.0 g.is) ∙ one.1) in
       (g.at, one.1 ∙ ap Some (sym here ∙ found.2), sym found.3 ∙ one.2.row)
 
-  is_mark : (mark : Mark) (at : Place) (perms : ℕ) → Among all (at, perms) → IsMarkOf t c.entries.items at mark → IsMark t (dirs_of c) n spots mark
+  abbrev Marked : Mark → Type 0
+  Marked mark = (is_dir t mark.dir ≡ true) × (mark.dir < dirs_of c) × IsRowOf t (dirs_of c) h spots (mark.dir, mark.name.now) mark.row
+
+  is_mark : (mark : Mark) (at : Place) (perms : ℕ) → Among all (at, perms) → IsMarkOf t c.entries.items at mark → Marked mark
   is_mark mark (place.Dir d) perms among is = absurd (None≢Some (mark.dir, mark.name.now) is.spot)
   is_mark mark (place.Slot d name) perms among is =
       let two = if_some (is_dir t d) (d, name) (mark.dir, mark.name.now) is.spot in
       let here : d ≡ mark.dir = ap (λ s. s.0) two.1 in
       let low = veils_low (place.Slot d name, perms) among in
-      record {
-        stands = ap (is_dir t) (sym here) ∙ two.0;
-        low = omega (arith, here, low);
-        row = row_is (mark.dir, mark.name.now) mark.row is.row;
-      }
+      (ap (is_dir t) (sym here) ∙ two.0, omega (arith, here, low), row_is (mark.dir, mark.name.now) mark.row is.row)
 
-  are_marks : AreMarks t crew (dirs_of c) spots c.marks.items
-  are_marks = record {
-    each = λ a dir name perms among own stands.
-        let m = marks.each (place.Slot dir name, perms) (dir, name)
-        (contained all (place.Slot dir name, perms) (kept_in a (place.Slot dir name) perms among own))
-        (ap (λ b. if b then Some (dir, name) else None) stands) in
-        (m.0, m.1, ap (λ s. s.0) m.2, ap (λ s. s.1) m.2);
-    only = λ mark among.
-        let m = marks.only mark among in is_mark mark m.0.0 m.0.1 (among_contained all m.0 m.1) m.2;
-  }
+  each_mark : (a : ProcessState) (dir : ℕ) (name : List ℕ) (perms : ℕ) → Contains crew a → perms_kept a (place.Slot dir name) ≡ Some perms →
+      is_dir t dir ≡ true → (mark : Mark) × Contains all_marks mark × (mark.dir ≡ dir) × (mark.name.now ≡ name)
+  each_mark a dir name perms among own stands =
+      let m = marks.each (place.Slot dir name, perms) (dir, name)
+      (contained all (place.Slot dir name, perms) (kept_in a (place.Slot dir name) perms among own))
+      (ap (λ b. if b then Some (dir, name) else None) stands) in
+      (m.0, m.1, ap (λ s. s.0) m.2, ap (λ s. s.1) m.2)
+
+  only_marks : (mark : Mark) → Contains all_marks mark → Marked mark
+  only_marks mark among = let m = marks.only mark among in is_mark mark m.0.0 m.0.1 (among_contained all m.0 m.1) m.2
 
   is_watch : (i y : ℕ) (watch : Watch) → slice_get c.watches.items i ≡ Some watch → watch.dir ≡ y → IsWatch (dirs_of c) n i y watch
   is_watch i y watch is gives =
@@ -352,26 +369,47 @@ module _ (t : Tree) (well : WellFormed t) (table : CallTable) (c : Crew) (all : 
       let five : length (Common ∷ map Watching guarded) ≡ suc (length (map Watching guarded)) = refl in
       omega (arith, one, two, three, four, five)
 
+  low_watches : (watch : Watch) → Contains c.watches.items watch → watch.dir < dirs_of c
+  low_watches watch has = let g = among_got c.watches.items watch (among_contained c.watches.items watch has) in (guards.each g.at watch g.is).0
+
+  shape_is : parts.size.shape ≡ c.shape
+  shape_is = ap (λ (s : Size). s.shape) size_is ∙ sized.same
+
+  all_seats : parts.seats.now ≡ numbers (dirs_of c + h)
+  all_seats = seats_is ∙ ap numbers (after_made ∙ ap (λ k. dirs_of c + k) hands_are)
+
+  are_entries : AreEntries t (dirs_of c) h spots c.entries.items
+  are_entries = record { each = each_row; only = only_row }
+
   pub worked_out : IsWorkedOut t table c
   worked_out = (
     well,
     record {
       fits = fits;
       each_agent = once;
+      each_hand = hands_once crew (devices_told c) once kinds_once;
       each_name = rows_once;
       each_watched = guards.once;
       only_watched = only_watched;
       many = many;
+      hands = hands_are;
       columns = columns_are ∙ (let wide = sized.columns in omega (arith, wide, many, many_columns));
-      makers = makers_are ∙ (let one = after_made in let two = after_drops in omega (arith, one, two, many));
-      seats = seats_are ∙ ap numbers (after_made ∙ ap (λ k. dirs_of c + k) many);
       agents = are_agents;
-      entries = record { each = each_row; only = only_row };
+      entries = are_entries;
       in_order = ordered;
       low_nodes = low_nodes;
-      marks = are_marks;
       watches = are_watches;
       watch_columns = watch_columns;
+      rows = rows_have t well table c parts all_marks once kinds_once kinds_all devices many is_agent hands_are shape_is agents_is devices_is
+          all_seats marks_is watches_is sides each_mark only_marks low_watches are_entries
+          (λ row d in_rows. entity_fits t table crew (devices_told c) (watches t crew) (dirs_of c) spots guarded fits (DirAt d)
+          (got_among (entities (hands_told c) (dirs_of c) spots) row (DirAt d) in_rows)) fits.above;
+      only_rows = no_rows t well table c parts all_marks once kinds_once kinds_all devices many is_agent hands_are shape_is agents_is devices_is
+          all_seats marks_is watches_is sides each_mark only_marks low_watches are_entries
+          (λ row d in_rows. entity_fits t table crew (devices_told c) (watches t crew) (dirs_of c) spots guarded fits (DirAt d)
+          (got_among (entities (hands_told c) (dirs_of c) spots) row (DirAt d) in_rows)) fits.above;
+      each_side = λ side has. side_among t well table c parts all_marks once kinds_once kinds_all devices many is_agent hands_are shape_is agents_is
+          devices_is all_seats marks_is watches_is sides each_mark only_marks low_watches side (among_contained c.sides.items side has);
     },
   )
 
@@ -381,27 +419,27 @@ numbered zero = refl
 numbered (suc n) = let one = length-append (numbers n) (n ∷ []) in let rest = numbered n in omega (arith, one, rest)
 
 pub count_is : (t : Tree) (table : CallTable) (c : Crew) → IsWorkedOut t table c →
-    c.columns * (c.makers + 1 + length c.entries.items) ≡ count_told c
+    c.columns * (dirs_of c + (c.shape.hands + (c.shape.hands + (c.shape.hands + length c.entries.items)))) ≡ count_told c
 count_is t table c out = λ z. out.1.columns z * many_rows z
   where
-    many_rows : c.makers + 1 + length c.entries.items ≡ length (entities (crew_told c) (dirs_of c) (spots_told c))
+    many_rows : dirs_of c + (c.shape.hands + (c.shape.hands + (c.shape.hands + length c.entries.items)))
+        ≡ length (entities (hands_told c) (dirs_of c) (spots_told c))
     many_rows =
-        let crew = crew_told c in
-        let names = Makers ∷ map NameAt (spots_told c) in
-        let drops = map DropsOf crew ++ names in
-        let landings = map LandingOf crew ++ drops in
-        let made = map MadeBy crew ++ landings in
+        let hands = hands_told c in
+        let names = map NameAt (spots_told c) in
+        let drops = map DropsOf hands ++ names in
+        let landings = map LandingOf hands ++ drops in
+        let made = map MadeBy hands ++ landings in
         let a = length-append (map DirAt (numbers (dirs_of c))) made in
-        let b = length-append (map MadeBy crew) landings in
-        let d = length-append (map LandingOf crew) drops in
-        let e = length-append (map DropsOf crew) names in
-        let f : length names ≡ suc (length (map NameAt (spots_told c))) = refl in
+        let b = length-append (map MadeBy hands) landings in
+        let d = length-append (map LandingOf hands) drops in
+        let e = length-append (map DropsOf hands) names in
         let g = length-map (numbers (dirs_of c)) DirAt in
-        let h = length-map crew MadeBy in
-        let i = length-map crew LandingOf in
-        let j = length-map crew DropsOf in
+        let h = length-map hands MadeBy in
+        let i = length-map hands LandingOf in
+        let j = length-map hands DropsOf in
         let k = length-map (spots_told c) NameAt in
         let l = length-map c.entries.items entry_of in
         let m = numbered (dirs_of c) in
-        let n = out.1.makers in
-        omega (arith, a, b, d, e, f, g, h, i, j, k, l, m, n)
+        let n = out.1.hands in
+        omega (arith, a, b, d, e, g, h, i, j, k, l, m, n)

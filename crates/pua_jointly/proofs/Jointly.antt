@@ -12,17 +12,19 @@ use Rattle.pua_objects.proofs.ForCallers.{covers_descend}
 use Rattle.pua_objects.specs.Laws.{own_or}
 use Rattle.pua_objects.specs.Objects.{cover_in}
 use Rattle.pua_script.specs.Confinement.{UncoveredStay}
-use Rattle.pua_tree.specs.Tree.{is_living, node_at, is_empty, has_no_row}
+use Rattle.pua_tree.specs.Tree.{device, is_living, is_mount, node_at, is_empty, has_no_row}
+use Rattle.pua_tree.specs.Laws.{KeepsDevices}
+use Rattle.pua_jointly.proofs.Devices.{device_up, keeps, was_near}
 use Rattle.std.proofs.lemmas.Bool.{not-true}
 use Rattle.std.specs.List.{Contains}
-use Rattle.pua_tree.proofs.ForCallers.{Sound, above_dir, is_living_dir, none_found, same_dir}
+use Rattle.pua_tree.proofs.ForCallers.{Sound, above_dir, above_is, is_living_dir, none_found, same_dir}
 use Rattle.pua_policy.specs.States.{new_process}
 use Rattle.pua_policy.specs.declared.answer.Cover.TheVariants.{Nothing}
 use Rattle.pua_policy.specs.declared.place.Place.TheVariants as place
-use Rattle.pua_ever.proofs.ForCallers.{Grown, Written, by_name, by_turn, From, is_new, is_moved, is_linked, Born, name_cover, new_kind}
+use Rattle.pua_ever.proofs.ForCallers.{Grown, Written, by_name, by_turn, From, IsNear, TurnsNear, is_new, is_moved, is_linked, Born, name_cover, new_kind}
 use Rattle.pua_ever.proofs.ForCallers.{file_no_dir, given_or_new, dir_row, slot_row, own_dir, under_dir, below_next}
 use Rattle.pua_ever.proofs.ForCallers.{below_self, below_up, above_row, root_below, not_empty, way_up}
-use Rattle.pua_jointly.specs.Jointly.{Seat, Source, Old, Made, Row, Maker, Fact, StandsIn, NotAbove, DirCover, NameCover, Free, WayIn, Writes}
+use Rattle.pua_jointly.specs.Jointly.{Hand, seat_device, source_device, Seat, Source, Old, Made, Row, Maker, Fact, StandsIn, NotAbove, DirCover, NameCover, Free, WayIn, Writes}
 use Rattle.pua_jointly.specs.Jointly.{Makes, StandsAt, may_take, is_standing, own_veil, name_veil, kind_of_source, Can, stays_in, moved_in, born_in}
 use Rattle.pua_jointly.specs.Jointly.{not_above_root, not_above_up, not_above_made, dir_own, dir_root, dir_within, name_own, name_within}
 use Rattle.pua_jointly.specs.Jointly.{free_none, free_made, free_dir, free_other, way_in_by_c, way_in_by_name, way_in_by_turn, writes_at}
@@ -85,7 +87,7 @@ module _ (v : Tree) (well : WellFormed v) where
 -- where what is no directory came from: a row of the beginning, the one in which it stands now if it stood there then, or it was made
 pub data Known (t0 : Tree) (s : Spot) (x : ℕ) : Source → Type 0 where
   of_then : (row : Spot) → look t0 row.0 row.1 ≡ Some x → (look t0 s.0 s.1 ≡ Some x → row ≡ s) → Known t0 s x (Row row)
-  of_maker : (new : New) (maker : ProcessState) → t0.next ≤ x → Known t0 s x (Maker new maker)
+  of_maker : (new : New) (maker : Hand) → t0.next ≤ x → Known t0 s x (Maker new maker)
 
 known_elsewhere : (t0 : Tree) (s r : Spot) (x : ℕ) → (look t0 s.0 s.1 ≡ Some x → ⊥) → {source : Source} → Known t0 r x source →
     Known t0 s x source
@@ -104,15 +106,17 @@ module _ (table : CallTable) (t0 : Tree) (crew : List ProcessState) (well0 : Wel
     pub known : Known t0 s x source
     pub kinds : kind_at u x ≡ kind_of_source t0 table source
     pub can_stand : Can0 (StandsAt source (seat s.0) s.1)
+    pub near : source_device t0 source ≡ device u s.0
 
   pub record Seated (u : Tree) (seat : ℕ → Seat) : Type 0 where
     pub old : (d : ℕ) → d < t0.next → seat d ≡ Old d
-    pub new : (d : ℕ) → t0.next ≤ d → is_living u d ≡ true → (maker : ProcessState) × (seat d ≡ Made maker)
+    pub new : (d : ℕ) → t0.next ≤ d → is_living u d ≡ true → (maker : Hand) × (seat d ≡ Made maker)
 
   pub record Knows (u : Tree) : Type 0 where
     pub well : WellFormed u
     pub seat : ℕ → Seat
     pub seated : Seated u seat
+    pub on : (d : ℕ) → is_dir u d ≡ true → seat_device t0 (seat d) ≡ device u d
     pub dirs : (s : Spot) (x : ℕ) → look u s.0 s.1 ≡ Some x → is_dir u x ≡ true → Can0 (StandsIn (seat x) (seat s.0))
     pub others : (s : Spot) (x : ℕ) → look u s.0 s.1 ≡ Some x → is_dir u x ≡ false → Came u seat s x
     pub old : (x : ℕ) → x < t0.next → is_living u x ≡ true → node_at u x ≡ node_at t0 x
@@ -131,12 +135,14 @@ module _ (table : CallTable) (t0 : Tree) (crew : List ProcessState) (well0 : Wel
     well = well0;
     seat = Old;
     seated = record { old = λ d below. refl; new = λ d from lives. let below = below_first d lives in absurd (omega arith) };
+    on = λ d is. refl;
     dirs = λ s x e is. stays_in s.1 e is;
     others = λ s x e other. record {
       source = Row s;
       known = of_then s e (λ same. refl);
       kinds = row_kind t0 table s x e;
       can_stand = stays_at x e other;
+      near = refl;
     };
     old = λ x below lives. refl;
     gone = λ s y e. inl e;
@@ -299,13 +305,16 @@ module _ (table : CallTable) (t0 : Tree) (crew : List ProcessState) (well0 : Wel
     st : Sound t
     st = sound_from t k.well
 
+    sound_u : Sound u
+    sound_u = sound_from u well
+
     abbrev seat : ℕ → Seat
-    seat x = cond (x == t.next) (Made a) (k.seat x)
+    seat x = cond (x == t.next) (Made (a, device u x)) (k.seat x)
 
     same_seat : (x : ℕ) → x < t.next → seat x ≡ k.seat x
     same_seat x below = by (x == t.next) refl
       where
-        by : (b : Bool) → (x == t.next) ≡ b → cond b (Made a) (k.seat x) ≡ k.seat x
+        by : (b : Bool) → (x == t.next) ≡ b → cond b (Made (a, device u x)) (k.seat x) ≡ k.seat x
         by false e = refl
         by true e = let same = eqb-true x t.next e in absurd (omega (arith, below, same))
 
@@ -315,8 +324,8 @@ module _ (table : CallTable) (t0 : Tree) (crew : List ProcessState) (well0 : Wel
     dir_seat : (d : ℕ) → is_dir t d ≡ true → seat d ≡ k.seat d
     dir_seat d is = lives_seat d (is_living_dir t d is)
 
-    born_seat : (x : ℕ) → x ≡ t.next → seat x ≡ Made a
-    born_seat x new = ap (λ b. cond b (Made a) (k.seat x)) (eq-eqb x t.next new)
+    born_seat : (x : ℕ) → x ≡ t.next → seat x ≡ Made (a, device u x)
+    born_seat x new = ap (λ b. cond b (Made (a, device u x)) (k.seat x)) (eq-eqb x t.next new)
 
     seated : Seated u seat
     seated = record {
@@ -324,7 +333,7 @@ module _ (table : CallTable) (t0 : Tree) (crew : List ProcessState) (well0 : Wel
       new = λ d from lives. elim (grown.nodes d lives) [
         | inl same ↦ (let was : is_living t d ≡ true = sym (ap is_some same) ∙ lives in
             let one = k.seated.new d from was in (one.0, lives_seat d was ∙ one.1))
-        | inr born ↦ (a, born_seat d born.new)
+        | inr born ↦ ((a, device u d), born_seat d born.new)
       ];
     }
 
@@ -336,6 +345,38 @@ module _ (table : CallTable) (t0 : Tree) (crew : List ProcessState) (well0 : Wel
 
     lives_in : (s : Spot) (x : ℕ) → look u s.0 s.1 ≡ Some x → is_living u x ≡ true
     lives_in s x e = (row_says u (sound_from u well) s x e).2
+
+    over_in : (s : Spot) (x : ℕ) → look u s.0 s.1 ≡ Some x → is_dir u s.0 ≡ true
+    over_in s x e = (row_says u (sound_from u well) s x e).0
+
+    -- a directory that moves is on the device of the directory into which it moves
+    dir_near : (to x : ℕ) → is_dir t x ≡ true → (from : From table t a x) → IsNear table t a to x from → device t x ≡ device t to
+    dir_near to x dir (is_new new) near = let below = below_next t a k.well x (is_living_dir t x dir) in absurd (omega (arith, below, new))
+    dir_near to x dir (is_moved r er can) near = sym (ap (λ b. cond b (device t x) (device t r.0)) dir) ∙ near
+    dir_near to x dir (is_linked r er plain can) near = absurd (false≢true (sym plain ∙ dir))
+
+    -- so it keeps its device
+    keep : KeepsDevices t u
+    keep = keeps t u st sound_u (λ d was is. same_node d (is_living_dir t d was) (is_living_dir u d is))
+        (λ s d was is row. elim (grown.rows s d row) [
+          | inl there ↦ was_near t st s d was there
+          | inr put ↦ (put.lives, λ none. sym (dir_near s.0 d was put.from put.near))
+        ])
+
+    on_then : (d : ℕ) → is_dir u d ≡ true → seat_device t0 (seat d) ≡ device u d
+    on_then d is = elim (grown.nodes d (is_living_dir u d is)) [
+      | inl same ↦
+          (let was : is_dir t d ≡ true = sym (same_dir t u d same) ∙ is in
+          ap (seat_device t0) (dir_seat d was) ∙ k.on d was ∙ sym (keep d was is))
+      | inr born ↦ ap (seat_device t0) (born_seat d born.new)
+    ]
+
+    -- what is made is on the device of the directory in which it is made
+    new_device : (s : Spot) (x : ℕ) → look u s.0 s.1 ≡ Some x → is_dir u x ≡ true → is_mount u x ≡ false → is_dir t s.0 ≡ true →
+        device u x ≡ device t s.0
+    new_device s x e is none over =
+        let other = (row_says u sound_u s x e).3 in
+        device_up u sound_u x is other none ∙ ap (device u) (above_is u x s other (sound_u.once x is other) e) ∙ keep s.0 over (over_in s x e)
 
     dir_cover_t : (d : ℕ) → is_dir t d ≡ true → Can0 (DirCover a (k.seat d) (cover_in t a d))
     dir_cover_t = dir_cover_all t k a stand
@@ -421,7 +462,7 @@ module _ (table : CallTable) (t0 : Tree) (crew : List ProcessState) (well0 : Wel
 
     -- a directory that gives way
     module _ (s : Spot) (x y : ℕ) (at : look t s.0 s.1 ≡ Some y) (empty : is_empty t y ≡ true) (has : has_c (cover_in t a y) ≡ true)
-        (is : is_dir t x ≡ true) (differs : (x == y) ≡ false) where
+        (is : is_dir t x ≡ true) (differs : (x == y) ≡ false) (turns : device t y ≡ device t s.0) (near : device t x ≡ device t s.0) where
       told : (is_dir t s.0 ≡ true) × (is_living t y ≡ true) × (y ≢ 0)
       told = let told = row_says t st s y at in (told.0, told.2, told.3)
 
@@ -456,10 +497,13 @@ module _ (table : CallTable) (t0 : Tree) (crew : List ProcessState) (well0 : Wel
               (ap has_c (sym (own_dir t a k.well y perms parts.0 told.2 own)) ∙ has) (free_emptied t k y empty)
               (dir_cover_t x is) (ap (can_move table a) (sym (dir_row t a k.well r x is)) ∙ can) other
               (subst (λ q. Can0 (NotAbove q (k.seat x))) old_y (not_above_t x is y told.1 outside))
+              (k.on s.0 told.0 ∙ sym turns ∙ sym (k.on y parts.0) ∙ ap (seat_device t0) old_y)
+              (k.on x is ∙ near ∙ sym turns ∙ sym (k.on y parts.0) ∙ ap (seat_device t0) old_y)
 
     -- what made it
-    born_makes : (x : ℕ) → (born : Born table t a u x) → Can0 (Makes a born.made)
-    born_makes x born =
+    born_makes : (s : Spot) (x : ℕ) → look u s.0 s.1 ≡ Some x → (born : Born table t a u x) → (v : ℕ) → device t s.0 ≡ v →
+        Can0 (Makes (a, v) born.made)
+    born_makes s x e born v here =
         let makes = born.makes in
         let named : name_cover table t a makes.spot ≡ own_or (perms_kept a (place.Slot makes.spot.0 makes.spot.1)) (cover_in t a makes.spot.0) =
         (covers_descend t a k.well).at_name makes.spot.0 makes.spot.1 None in
@@ -468,32 +512,38 @@ module _ (table : CallTable) (t0 : Tree) (crew : List ProcessState) (well0 : Wel
         (makes.makes (λ maker. is_allowed (covered_verdict empty_tree table a maker
         (own_or (perms_kept a (place.Slot makes.spot.0 makes.spot.1)) (cover_in t a makes.spot.0)) IsMissing))
         (ap (λ c. is_allowed (covered_verdict empty_tree table a makes.maker c IsMissing)) (sym named) ∙ makes.allowed))
+        (k.on makes.spot.0 makes.lives ∙ ap (λ (r : Spot). device t r.0) (sym (born.only s e)) ∙ here)
 
     -- where it writes a directory's row is a way in
-    way_in : (s : Spot) (x : ℕ) → is_dir t s.0 ≡ true → Written table t a s x → From table t a x → Can0 (Free (k.seat s.0) s.1) →
+    way_in : (s : Spot) (x : ℕ) → is_dir t s.0 ≡ true → (written : Written table t a s x) → TurnsNear table t a s x written →
+        (from : From table t a x) → IsNear table t a s.0 x from → Can0 (Free (k.seat s.0) s.1) →
         (look t s.0 s.1 ≡ Some x) ⊎ Can0 (WayIn a (k.seat s.0))
-    way_in s x over (by_name has) from free = inr (by (perms_kept a (place.Slot s.0 s.1)) refl (named_c s has))
+    way_in s x over (by_name has) turns from near free = inr (by (perms_kept a (place.Slot s.0 s.1)) refl (named_c s has))
       where
         by : (o : Option ℕ) → perms_kept a (place.Slot s.0 s.1) ≡ o → has_c (own_or o (cover_in t a s.0)) ≡ true → Can0 (WayIn a (k.seat s.0))
         by (Some perms) e has = way_in_by_name s.1 perms (seat_stands t k a stand s.0 over) (own_name t k a stand s.0 s.1 perms e) has free
         by None e has = way_in_by_c (cover_in t a s.0) (dir_cover_t s.0 over) has
-    way_in s x over (by_turn y at empty has is) from free = by (x == y) refl from
+    way_in s x over (by_turn y at empty has is) turns from near free = by (x == y) refl from
       where
         by : (b : Bool) → (x == y) ≡ b → From table t a x → (look t s.0 s.1 ≡ Some x) ⊎ Can0 (WayIn a (k.seat s.0))
-        by true same from = inl (at ∙ ap Some (sym (eqb-true x y same)))
+        by true same other = inl (at ∙ ap Some (sym (eqb-true x y same)))
         by false differs (is_new new) = let below = below_next t a k.well x (is_living_dir t x is) in absurd (omega (arith, new))
         by false differs (is_linked r er plain can) = absurd (false≢true (sym plain ∙ is))
-        by false differs (is_moved r er can) = inr (turn s x y at empty has is differs r er can)
+        by false differs (is_moved r er can) = inr (turn s x y at empty has is differs turns (dir_near s.0 x is from near) r er can)
 
-    made_dir : (x : ℕ) → x ≡ t.next → is_living u x ≡ true → is_dir u x ≡ true → Can0 (Makes a NewDir)
-    made_dir x new lives is = elim (grown.nodes x lives) [
-      | inl same ↦ (let below = below_next t a k.well x (sym (ap is_some same) ∙ lives) in absurd (omega (arith, below, new)))
-      | inr born ↦ by born.made (sym (ap is_dir_kind born.kinds) ∙ is) (born_makes x born)
+    made_dir : (s : Spot) (x : ℕ) → look u s.0 s.1 ≡ Some x → is_dir t s.0 ≡ true → x ≡ t.next → is_dir u x ≡ true →
+        Can0 (Makes (a, device u x) NewDir) × (device u x ≡ device t s.0)
+    made_dir s x e over new is = elim (grown.nodes x (lives_in s x e)) [
+      | inl same ↦ (let below = below_next t a k.well x (sym (ap is_some same) ∙ lives_in s x e) in absurd (omega (arith, below, new)))
+      | inr born ↦
+          (let here = new_device s x e is born.unmarked over in
+          (by born.made (sym (ap is_dir_kind born.kinds) ∙ is) (born_makes s x e born (device u x) (sym here)), here))
     ]
       where
-        by : (made : New) → is_dir_kind (Some (new_kind table made)) ≡ true → Can0 (Makes a made) → Can0 (Makes a NewDir)
+        by : (made : New) → is_dir_kind (Some (new_kind table made)) ≡ true → Can0 (Makes (a, device u x) made) →
+            Can0 (Makes (a, device u x) NewDir)
         by NewDir dir can = can
-        by NewOthers dir (makes_at d name c over free makes) = makes_at d name c over free makes
+        by NewOthers dir (makes_at d name c over free makes at) = makes_at d name c over free makes at
         by NewFile dir can = absurd (false≢true (sym (file_no_dir table.whose) ∙ dir))
         by NewLink dir can = absurd (false≢true dir)
         by NewSock dir can = absurd (false≢true dir)
@@ -505,9 +555,9 @@ module _ (table : CallTable) (t0 : Tree) (crew : List ProcessState) (well0 : Wel
       | inl there ↦ kept there
       | inr put ↦ elim (free_or_same s x e put.lives) [
         | inl there ↦ kept there
-        | inr free ↦ elim (way_in s x put.lives put.written put.from free) [
+        | inr free ↦ elim (way_in s x put.lives put.written put.turns put.from put.near free) [
           | inl there ↦ kept there
-          | inr enter ↦ placed put.lives enter put.from
+          | inr enter ↦ placed put.lives enter put.from put.near
         ]
       ]
     ]
@@ -521,20 +571,24 @@ module _ (table : CallTable) (t0 : Tree) (crew : List ProcessState) (well0 : Wel
             subst (λ q. Can0 (StandsIn q (seat s.0))) (sym (lives_seat x told.2))
             (subst (λ q. Can0 (StandsIn (k.seat x) q)) (sym (dir_seat s.0 told.0)) (k.dirs s x there (was_dir told.2)))
 
-        placed : is_dir t s.0 ≡ true → Can0 (WayIn a (k.seat s.0)) → From table t a x → Can0 (StandsIn (seat x) (seat s.0))
-        placed over enter (is_new new) =
+        placed : is_dir t s.0 ≡ true → Can0 (WayIn a (k.seat s.0)) → (from : From table t a x) → IsNear table t a s.0 x from →
+            Can0 (StandsIn (seat x) (seat s.0))
+        placed over enter (is_new new) near =
+            let made = made_dir s x e over new is in
             subst (λ q. Can0 (StandsIn q (seat s.0))) (sym (born_seat x new))
-            (subst (λ q. Can0 (StandsIn (Made a) q)) (sym (dir_seat s.0 over)) (born_in among (made_dir x new (lives_in s x e) is) enter))
-        placed over enter (is_linked r er plain can) =
+            (subst (λ q. Can0 (StandsIn (Made (a, device u x)) q)) (sym (dir_seat s.0 over))
+            (born_in among made.0 enter (k.on s.0 over ∙ sym made.1)))
+        placed over enter (is_linked r er plain can) near =
             absurd (false≢true (sym plain ∙ was_dir (row_says t st r x er).2))
-        placed over enter (is_moved r er can) =
+        placed over enter (is_moved r er can) near =
             let lives = (row_says t st r x er).2 in
             let dir = was_dir lives in
             subst (λ q. Can0 (StandsIn q (seat s.0))) (sym (lives_seat x lives))
             (subst (λ q. Can0 (StandsIn (k.seat x) q)) (sym (dir_seat s.0 over))
             (moved_in a (cover_in t a x) among (dir_cover_t x dir) (ap (can_move table a) (sym (dir_row t a k.well r x dir)) ∙ can) enter
             (subst (λ q. Can0 (NotAbove q (k.seat s.0))) (lives_seat x lives)
-            (subst (λ q. Can0 (NotAbove (seat x) q)) (dir_seat s.0 over) clear))))
+            (subst (λ q. Can0 (NotAbove (seat x) q)) (dir_seat s.0 over) clear))
+            (k.on x dir ∙ dir_near s.0 x dir (is_moved r er can) near ∙ sym (k.on s.0 over))))
 
     -- where it writes the row of something else
     writes : (s : Spot) (x : ℕ) → is_dir t s.0 ≡ true → Written table t a s x → is_dir t x ≡ false → Can0 (Free (k.seat s.0) s.1) →
@@ -565,7 +619,7 @@ module _ (table : CallTable) (t0 : Tree) (crew : List ProcessState) (well0 : Wel
       | inl there ↦ kept there
       | inr put ↦ elim (free_or_same s x e put.lives) [
         | inl there ↦ kept there
-        | inr free ↦ by (look t0 s.0 s.1) refl put.lives put.written put.from free
+        | inr free ↦ by (look t0 s.0 s.1) refl put.lives put.written put.from put.near free
       ]
     ]
       where
@@ -584,12 +638,13 @@ module _ (table : CallTable) (t0 : Tree) (crew : List ProcessState) (well0 : Wel
               known = came.known;
               kinds = same_kind told.2 ∙ came.kinds;
               can_stand = subst (λ q. Can0 (StandsAt came.source q s.1)) (sym (dir_seat s.0 told.0)) came.can_stand;
+              near = came.near ∙ sym (keep s.0 told.0 (over_in s x e));
             }
 
         moved : (look t0 s.0 s.1 ≡ Some x → ⊥) → is_dir t s.0 ≡ true → Written table t a s x → Can0 (Free (k.seat s.0) s.1) → (r : Spot) →
             look t r.0 r.1 ≡ Some x → (can_move table a (row_cover t a r x) || can_link table a (kind_at t x) (row_cover t a r x)) ≡ true →
-            Came u seat s x
-        moved never over written free r er can =
+            device t r.0 ≡ device t s.0 → Came u seat s x
+        moved never over written free r er can near =
             let lives = (row_says t st r x er).2 in
             let was = was_other lives in
             let came = k.others r x er was in
@@ -600,27 +655,31 @@ module _ (table : CallTable) (t0 : Tree) (crew : List ProcessState) (well0 : Wel
               can_stand = subst (λ q. Can0 (StandsAt came.source q s.1)) (sym (dir_seat s.0 over))
                   (moved_at a (k.seat r.0) r.1 (row_cover t a r x) among came.can_stand (row_name_cover r x er was)
                   (ap (λ o. can_move table a (row_cover t a r x) || can_link table a o (row_cover t a r x)) (sym came.kinds) ∙ can)
-                  (writes s x over written was free));
+                  (writes s x over written was free) (came.near ∙ near ∙ sym (k.on s.0 over)));
+              near = came.near ∙ near ∙ sym (keep s.0 over (over_in s x e));
             }
 
         made : is_dir t s.0 ≡ true → Written table t a s x → Can0 (Free (k.seat s.0) s.1) → x ≡ t.next → Came u seat s x
         made over written free new = elim (grown.nodes x (lives_in s x e)) [
           | inl same ↦ (let below = below_next t a k.well x (sym (ap is_some same) ∙ lives_in s x e) in absurd (omega (arith, below, new)))
           | inr born ↦ record {
-            source = Maker born.made a;
-            known = of_maker born.made a (let from = k.next in omega (arith, from, new));
+            source = Maker born.made (a, device t s.0);
+            known = of_maker born.made (a, device t s.0) (let from = k.next in omega (arith, from, new));
             kinds = born.kinds;
-            can_stand = subst (λ q. Can0 (StandsAt (Maker born.made a) q s.1)) (sym (dir_seat s.0 over))
-                (born_at among (born_makes x born) (writes s x over written (next_dir x new) free));
+            can_stand = subst (λ q. Can0 (StandsAt (Maker born.made (a, device t s.0)) q s.1)) (sym (dir_seat s.0 over))
+                (born_at among (born_makes s x e born (device t s.0) refl) (writes s x over written (next_dir x new) free) (k.on s.0 over));
+            near = sym (keep s.0 over (over_in s x e));
           }
         ]
 
-        away : (look t0 s.0 s.1 ≡ Some x → ⊥) → is_dir t s.0 ≡ true → Written table t a s x → From table t a x →
-            Can0 (Free (k.seat s.0) s.1) → Came u seat s x
-        away never over written (is_new new) free = made over written free new
-        away never over written (is_moved r er can) free = moved never over written free r er (or_left (can_move table a (row_cover t a r x)) _ can)
-        away never over written (is_linked r er plain can) free =
-            moved never over written free r er (or_right (can_move table a (row_cover t a r x)) _ can)
+        away : (look t0 s.0 s.1 ≡ Some x → ⊥) → is_dir t s.0 ≡ true → Written table t a s x → (from : From table t a x) →
+            IsNear table t a s.0 x from → Can0 (Free (k.seat s.0) s.1) → Came u seat s x
+        away never over written (is_new new) near free = made over written free new
+        away never over written (is_moved r er can) near free =
+            moved never over written free r er (or_left (can_move table a (row_cover t a r x)) _ can)
+            (sym (ap (λ b. cond b (device t x) (device t r.0)) (was_other (row_says t st r x er).2)) ∙ near)
+        away never over written (is_linked r er plain can) near free =
+            moved never over written free r er (or_right (can_move table a (row_cover t a r x)) _ can) near
 
         here : look t0 s.0 s.1 ≡ Some x → Came u seat s x
         here then =
@@ -632,14 +691,15 @@ module _ (table : CallTable) (t0 : Tree) (crew : List ProcessState) (well0 : Wel
               kinds = ap (option_map (λ n. n.kind)) same ∙ row_kind t0 table s x then;
               can_stand = subst (λ q. Can0 (StandsAt (Row s) q s.1)) (sym (seated.old s.0 (below_dir s.0 told0.0)))
                   (stays_at x then (sym (same_dir t0 u x same) ∙ other));
+              near = sym (ap (seat_device t0) (seated.old s.0 (below_dir s.0 told0.0))) ∙ on_then s.0 (over_in s x e);
             }
 
-        by : (o : Option ℕ) → look t0 s.0 s.1 ≡ o → is_dir t s.0 ≡ true → Written table t a s x → From table t a x →
-            Can0 (Free (k.seat s.0) s.1) → Came u seat s x
+        by : (o : Option ℕ) → look t0 s.0 s.1 ≡ o → is_dir t s.0 ≡ true → Written table t a s x → (from : From table t a x) →
+            IsNear table t a s.0 x from → Can0 (Free (k.seat s.0) s.1) → Came u seat s x
         by None is = away (λ same. Some≢None x (sym same ∙ is))
-        by (Some y) is = elim (y == x) as (λ b. (y == x) ≡ b → is_dir t s.0 ≡ true → Written table t a s x → From table t a x →
-            Can0 (Free (k.seat s.0) s.1) → Came u seat s x) [
-              | true ↦ λ same over written from free. here (is ∙ ap Some (eqb-true y x same))
+        by (Some y) is = elim (y == x) as (λ b. (y == x) ≡ b → is_dir t s.0 ≡ true → Written table t a s x → (from : From table t a x) →
+            IsNear table t a s.0 x from → Can0 (Free (k.seat s.0) s.1) → Came u seat s x) [
+              | true ↦ λ same over written from near free. here (is ∙ ap Some (eqb-true y x same))
               | false ↦ λ differs. away (λ same. false≢true (sym differs ∙ eq-eqb y x (same_Some y x (sym is ∙ same))))
             ] refl
 
@@ -648,6 +708,7 @@ module _ (table : CallTable) (t0 : Tree) (crew : List ProcessState) (well0 : Wel
       well = well;
       seat = seat;
       seated = seated;
+      on = on_then;
       dirs = stands_in_all u well seat seated stands_in;
       others = others_then;
       old = old_then;

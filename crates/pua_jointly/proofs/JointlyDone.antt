@@ -21,9 +21,8 @@ use Rattle.pua_path.proofs.ForCallers.{resolutions_fit}
 use Rattle.pua_path.specs.declared.found.Found.{Found}
 use Rattle.pua_path.specs.declared.found.Way.TheVariants.{Named, Top, Dot, DotDot}
 use Rattle.pua_path.specs.declared.found.Last.TheVariants.{Followed}
-use Rattle.pua_calls.specs.declared.fits.Misfit.TheVariants.{IsNotEmpty}
-use Rattle.pua_policy.specs.Misfits.{misfit_errno}
-use Rattle.pua_tree.specs.Tree.{is_empty}
+use Rattle.pua_policy.specs.Misfits.{misfit_errno, named_misfit}
+use Rattle.pua_tree.specs.Tree.{is_empty, is_mount}
 use Rattle.std.proofs.lemmas.Bool.{not-true}
 use Rattle.pua_ever.specs.Ever.{EverLine, all_new, has_ever_calls, own_spot, Thing, is_yes}
 use Rattle.pua_ever.specs.Laws.{IsForeseenIn, ActsWithin, NoExecLoosens, IsLineOf, of_dir, of_new_dir, of_row, of_new_file, of_new_link, of_new_sock, of_new_fifo, EditsNeedC}
@@ -172,11 +171,12 @@ module _ (table : CallTable) (t0 : Tree) (crew : List ProcessState) (well0 : Wel
   emptied d Dot named e = cc
   emptied d DotDot named e = cc
   emptied d Top named e = cc
-  emptied d (Named over name) named e = ((row_says u su (over, name) d named.1).3, by (is_empty u d) e)
+  emptied d (Named over name) named e = ((row_says u su (over, name) d named.1).3, by (is_mount u d) (is_empty u d) e)
     where
-      by : (b : Bool) → option_map misfit_errno (cond b None (Some IsNotEmpty)) ≡ None → b ≡ true
-      by true e = refl
-      by false e = cc
+      by : (m b : Bool) → option_map misfit_errno (named_misfit m b) ≡ None → b ≡ true
+      by m true e = refl
+      by true false e = cc
+      by false false e = cc
 
   hit_dir : (d : ℕ) (w : Way) → is_dir u d ≡ true → StandsAsNamed u (Whole d w) → verdict u table a c (Whole d w) ≡ Allowed → Hit (Whole d w)
   hit_dir d w is named e =

@@ -24,8 +24,8 @@ use Rattle.pua_jointly.specs.Jointly.{can_send, sends_to_set, sets_received, tur
 module _ (t : Tree) (table : CallTable) (crew more : List ProcessState) (within : (a : ProcessState) → Contains crew a → Contains more a) where
   pub grows : {fact : Fact} → Can t table crew fact → Can t table more fact
   grows (stays_in name h1 h2) = stays_in name h1 h2
-  grows (moved_in a k h1 h2 h3 h4 h5) = moved_in a k (within _ h1) (grows h2) h3 (grows h4) (grows h5)
-  grows (born_in h1 h2 h3) = born_in (within _ h1) (grows h2) (grows h3)
+  grows (moved_in a k h1 h2 h3 h4 h5 h6) = moved_in a k (within _ h1) (grows h2) h3 (grows h4) (grows h5) h6
+  grows (born_in h1 h2 h3 h4) = born_in (within _ h1) (grows h2) (grows h3) h4
   grows (not_above_root h1) = not_above_root h1
   grows (not_above_up p h1 h2 h3) = not_above_up p h1 (grows h2) (grows h3)
   grows (not_above_made) = not_above_made
@@ -40,13 +40,13 @@ module _ (t : Tree) (table : CallTable) (crew more : List ProcessState) (within 
   grows (free_other a x k h1 h2 h3 h4 h5 h6) = free_other a x k (within _ h1) h2 h3 h4 (grows h5) h6
   grows (way_in_by_c k h1 h2) = way_in_by_c k (grows h1) h2
   grows (way_in_by_name name perms h1 h2 h3 h4) = way_in_by_name name perms h1 h2 h3 (grows h4)
-  grows (way_in_by_turn y perms other k h1 h2 h3 h4 h5 h6 h7 h8) =
-      way_in_by_turn y perms other k (grows h1) h2 h3 (λ name x at. grows (h4 name x at)) (grows h5) h6 h7 (grows h8)
+  grows (way_in_by_turn y perms other k h1 h2 h3 h4 h5 h6 h7 h8 h9 h10) =
+      way_in_by_turn y perms other k (grows h1) h2 h3 (λ name x at. grows (h4 name x at)) (grows h5) h6 h7 (grows h8) h9 h10
   grows (writes_at k h1 h2 h3) = writes_at k (grows h1) h2 (grows h3)
-  grows (makes_at d name k h1 h2 h3) = makes_at d name k (grows h1) (grows h2) h3
+  grows (makes_at d name k h1 h2 h3 h4) = makes_at d name k (grows h1) (grows h2) h3 h4
   grows (stays_at x h1 h2) = stays_at x h1 h2
-  grows (moved_at a d name k h1 h2 h3 h4 h5) = moved_at a d name k (within _ h1) (grows h2) (grows h3) h4 (grows h5)
-  grows (born_at h1 h2 h3) = born_at (within _ h1) (grows h2) (grows h3)
+  grows (moved_at a d name k h1 h2 h3 h4 h5 h6) = moved_at a d name k (within _ h1) (grows h2) (grows h3) h4 (grows h5) h6
+  grows (born_at h1 h2 h3 h4) = born_at (within _ h1) (grows h2) (grows h3) h4
 
   pub shows_more : {a : ProcessState} {thing : Thing} {cover : Cover} {object : Object} → Shows t table crew a thing cover object →
       Shows t table more a thing cover object

@@ -1,31 +1,34 @@
 -- The worked rows of processes with veils of their own.
-use Rattle.pua_jointly.proofs.Common.{◌∷◌, ◌==◌, [], ap, Bool, contained, false, false≢true, inl, inr, lasting_dir, List, Only, ProcessState, refl, sym, true}
-use Rattle.std.specs.Prelude.{◌+◌, codes}
+use Rattle.pua_jointly.proofs.Common.{◌≡◌, ◌⊎◌, ◌∷◌, ◌==◌, [], ap, Bool, CallTable, contained, false, false≢true, inl, inr, lasting_dir, List, look, None≢Some, Only, ProcessState, refl, Some}
+use Rattle.pua_jointly.proofs.Common.{sym, Tree, true, ℕ}
+use Rattle.std.specs.Prelude.{⊤, ◌+◌, codes}
+use Rattle.pua_tree.specs.Tree.{device}
 use Rattle.std.specs.List.{Contains}
 use Rattle.pua_policy.specs.Verdict.{IsFile, IsMissing}
 use Rattle.pua_calls.specs.Calls.{openbsd_table, standard_table}
 use Rattle.pua_calls.specs.Promises.{fattr, sendfd, reading, writing, executing, creating}
 use Rattle.pua_calls.specs.declared.call.Call.TheVariants as call
-use Rattle.pua_ever.specs.Ever.{turning_calls}
+use Rattle.pua_ever.specs.Ever.{NewLink, turning_calls}
 use Rattle.pua_tree.specs.declared.node.Kind.TheVariants as kind
-use Rattle.pua_jointly.specs.Jointly.{Can, Seat, Old, Made, Row, StandsIn, StandsAt, stays_in, moved_in, not_above_root, not_above_up}
-use Rattle.pua_jointly.specs.Jointly.{dir_own, dir_within, name_own, name_within, free_none, free_other, way_in_by_c, writes_at}
-use Rattle.pua_jointly.specs.Jointly.{stays_at, moved_at, shows_dir, shows_row, shows_name, IsJointlyStarted, turning_by}
+use Rattle.pua_jointly.specs.Jointly.{Can, Fact, Seat, Old, Made, Maker, Row, StandsIn, StandsAt, seat_device, source_device, stays_in, moved_in, born_in, not_above_root, not_above_up}
+use Rattle.pua_jointly.specs.Jointly.{not_above_made, dir_own, dir_root, dir_within, name_own, name_within, free_none, free_made, free_dir, free_other, way_in_by_c, way_in_by_name}
+use Rattle.pua_jointly.specs.Jointly.{way_in_by_turn, writes_at, makes_at}
+use Rattle.pua_jointly.specs.Jointly.{stays_at, moved_at, born_at, shows_dir, shows_row, shows_name, IsJointlyStarted, turning_by}
 use Rattle.pua_jointly.specs.JointlyExamples.{mover, reader, writer, opener, remover, binder, placer, crew, three, opened, JointlyRows}
-use Rattle.pua_jointly.specs.JointlyExamples.{executer, file_in, opening, sender, sending}
+use Rattle.pua_jointly.specs.JointlyExamples.{executer, file_in, mounted_tree, opening, sender, sending}
 use Rattle.pua_ever.specs.ThroughExamples.{started_tree}
 
 -- the mover brings s from /in to /out
 moved : (all : List ProcessState) → Contains all mover → Can started_tree standard_table all (StandsAt (Row (1, codes "s")) (Old 2) (codes "s"))
 moved all among =
     moved_at mover (Old 1) (codes "s") (Only creating) among (stays_at 3 refl refl) (name_within refl (dir_own refl refl)) refl
-    (writes_at (Only creating) (name_within refl (dir_own refl refl)) refl (free_none refl))
+    (writes_at (Only creating) (name_within refl (dir_own refl refl)) refl (free_none refl)) refl
 
 -- the placer brings it to the name k there
 placed_at : Can started_tree standard_table (placer ∷ reader ∷ []) (StandsAt (Row (1, codes "s")) (Old 2) (codes "k"))
 placed_at =
     moved_at placer (Old 1) (codes "s") (Only creating) (contained (placer ∷ reader ∷ []) placer (inl refl)) (stays_at 3 refl refl)
-    (name_within refl (dir_own refl refl)) refl (writes_at (Only creating) (name_own refl refl) refl (free_none refl))
+    (name_within refl (dir_own refl refl)) refl (writes_at (Only creating) (name_own refl refl) refl (free_none refl)) refl
 
 -- and the mover moves /in into /out
 abbrev is_in : Seat → Bool
@@ -36,7 +39,7 @@ dir_moved : Can started_tree standard_table crew (StandsIn (Old 1) (Old 2))
 dir_moved =
     moved_in mover (Only creating) (contained crew mover (inl refl)) (dir_own refl refl) refl (way_in_by_c (Only creating) (dir_own refl refl) refl)
     (not_above_up (Old 0) (λ e. false≢true (ap is_in e)) (stays_in (codes "out") refl refl)
-    (not_above_root (λ e. false≢true (sym (ap (λ n. n == 1) e)))))
+    (not_above_root (λ e. false≢true (sym (ap (λ n. n == 1) e))))) refl
 
 -- who executes in /in starts s there, were it a program
 executed : (all : List ProcessState) → IsJointlyStarted started_tree openbsd_table all executer file_in
@@ -47,6 +50,47 @@ executed all = record {
   shows = shows_row (Old 1) (codes "s") refl (stays_at 3 refl refl) (name_within refl (dir_own refl refl));
   allowed = refl;
 }
+
+-- what is no directory is at names of its device alone, and a directory stays in those of its device, or where it stood
+abbrev OnDevice : Tree → Fact → Type 0
+OnDevice t (StandsAt r d name) = source_device t r ≡ seat_device t d
+OnDevice t (StandsIn (Old d) (Old p)) = ((name : List ℕ) × (look t p name ≡ Some d)) ⊎ (device t d ≡ device t p)
+OnDevice t _ = ⊤
+
+module _ (t : Tree) (table : CallTable) (all : List ProcessState) where
+  on_device : {fact : Fact} → Can t table all fact → OnDevice t fact
+  on_device (stays_in name at is) = inl (name, at)
+  on_device (moved_in {d = Old d} {p = Old p} a k among over can way apart near) = inr near
+  on_device (moved_in {d = Old d} {p = Made m} a k among over can way apart near) = tt
+  on_device (moved_in {d = Made m} a k among over can way apart near) = tt
+  on_device (born_in among makes way near) = tt
+  on_device (not_above_root other) = tt
+  on_device (not_above_up p other stands apart) = tt
+  on_device (not_above_made) = tt
+  on_device (dir_own is own) = tt
+  on_device (dir_root none) = tt
+  on_device (dir_within p none stands over) = tt
+  on_device (name_own is own) = tt
+  on_device (name_within none over) = tt
+  on_device (free_none none) = tt
+  on_device (free_made) = tt
+  on_device (free_dir a d k among may at is over c) = tt
+  on_device (free_other a x k among may at is over c) = tt
+  on_device (way_in_by_c k over c) = tt
+  on_device (way_in_by_name name perms is own c free) = tt
+  on_device (way_in_by_turn y perms other k stands own c free over can apart clear near same) = tt
+  on_device (writes_at k over c free) = tt
+  on_device (makes_at d name k over free makes near) = tt
+  on_device (stays_at x at other) = refl
+  on_device (moved_at a d name k among stands over can writes near) = near
+  on_device (born_at among makes writes near) = sym near
+
+-- the mover makes a link on /out where another file system is mounted
+made_there : Can mounted_tree standard_table crew (StandsAt (Maker NewLink (mover, 2)) (Old 2) (codes "n"))
+made_there =
+    born_at (contained crew mover (inl refl))
+    (makes_at (Old 2) (codes "n") (Only creating) (name_within refl (dir_own refl refl)) (free_none refl) refl refl)
+    (writes_at (Only creating) (name_within refl (dir_own refl refl)) refl (free_none refl)) refl
 
 pub jointly_rows : JointlyRows
 jointly_rows = record {
@@ -172,4 +216,14 @@ jointly_rows = record {
   counts = refl;
   silent = refl;
   all_open = refl;
+  stays = λ all d name stands. sym (on_device mounted_tree standard_table all stands);
+  apart = λ all name stands. false≢true (ap (λ n. n == 2) (on_device mounted_tree standard_table all stands));
+  made = made_there;
+  made_moved = moved_at mover (Old 2) (codes "n") (Only creating) (contained crew mover (inl refl)) made_there
+      (name_within refl (dir_own refl refl)) refl (writes_at (Only creating) (name_within refl (dir_own refl refl)) refl (free_none refl)) refl;
+  made_apart = λ all name stands. false≢true (ap (λ n. n == 0) (on_device mounted_tree standard_table all stands));
+  out_of_it = λ all stands. elim (on_device mounted_tree standard_table all stands) [
+    | inl at ↦ None≢Some 1 at.1
+    | inr near ↦ false≢true (ap (λ n. n == 2) near)
+  ];
 }

@@ -1,4 +1,5 @@
 pub mod Common
+pub mod Devices
 pub mod Gaining
 pub mod Untaken
 pub mod Jointly
@@ -26,6 +27,7 @@ pub mod JointSorted
 pub mod JointSteps
 pub mod JointWidth
 pub mod JointMembers
+pub mod JointSides
 pub mod JointWorked
 pub mod JointGathered
 pub mod JointWatches

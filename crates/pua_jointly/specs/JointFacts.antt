@@ -1,10 +1,10 @@
 -- What is kept of the facts of a crew while they are found: finitely many, which the others follow from. What can come to stand where
--- is asked by who can bring it: a process that can move something brings it wherever it can come in. That a directory can't come to
+-- is asked by who can bring it: a process that can move something brings it wherever it can come in on the same device. That a directory can't come to
 -- stand in itself is asked of some directories alone, the **watched** ones: where no veil is below another one, this changes nothing.
 -- Names at which no veil is are as one.
 use Rattle.std.specs.Prelude.{◌≡◌, ◌≢◌, ◌⊎◌, ⊤, ◌||◌, ◌==◌, false, ℕ, Bool, if◌then◌else◌, List, Some, None, IsTrue, IsFalse}
 use Rattle.std.specs.List.{Contains, list_any}
-use Rattle.pua_tree.specs.Tree.{Tree, is_dir, is_within, look, empty_tree}
+use Rattle.pua_tree.specs.Tree.{Tree, device, is_dir, is_within, look, empty_tree}
 use Rattle.pua_calls.specs.Calls.{CallTable}
 use Rattle.pua_policy.specs.States.{ProcessState, has_veil, perms_kept, veils}
 use Rattle.pua_policy.specs.Verdict.{IsFile, IsMissing, covered_verdict, is_allowed}
@@ -14,26 +14,26 @@ use Rattle.pua_policy.specs.declared.place.Place.{Place}
 use Rattle.pua_policy.specs.declared.place.Place.TheVariants as place
 use Rattle.pua_script.specs.Confinement.{has_c}
 use Rattle.pua_ever.specs.Ever.{New, NewDir, is_made_by, can_move, can_link}
-use Rattle.pua_jointly.specs.Jointly.{Seat, Old, Made, Source, Row, Maker, Fact, StandsIn, NotAbove, DirCover, NameCover, Free, WayIn, Writes}
+use Rattle.pua_jointly.specs.Jointly.{Hand, seat_device, source_device, Seat, Old, Made, Source, Row, Maker, Fact, StandsIn, NotAbove, DirCover, NameCover, Free, WayIn, Writes}
 use Rattle.pua_jointly.specs.Jointly.{Makes, StandsAt, may_take, is_standing, own_veil, name_veil, kind_of_source, Can, turning_by}
 
 pub data Kept : Type 0 where
   -- a cover that can come over a directory by the veils of a process, and a directory into which it can come to put another
   Covers : ProcessState → Seat → Cover → Kept
   Enters : ProcessState → Seat → Kept
-  -- it can put a directory where it comes under this cover of another process's
-  Lands : ProcessState → ProcessState → Cover → Kept
-  -- a watched directory can come to be neither the other one nor above it, and where a process can put another one
+  -- it can put a directory of this device where it comes under this cover of another process's
+  Lands : Hand → ProcessState → Cover → Kept
+  -- a watched directory can come to be neither the other one nor above it, and where a process can put another one of this device
   Clear : ℕ → Seat → Kept
-  LandsClear : ProcessState → ℕ → Kept
-  -- a process can put another directory in the place of this one, wherever it stands
+  LandsClear : Hand → ℕ → Kept
+  -- a process can put another directory in the place of this one, wherever it stands on its own device
   Turns : ProcessState → ℕ → Kept
   -- what stands at a name can be taken away
   Taken : ℕ → List ℕ → Kept
-  -- a process can come to make such a thing
-  Creates : ProcessState → New → Kept
-  -- it can put what is no directory where it comes under this cover of another process's
-  Drops : ProcessState → ProcessState → Cover → Kept
+  -- a process can come to make such a thing on this device
+  Creates : Hand → New → Kept
+  -- it can put what is no directory and on this device where it comes under this cover of another process's
+  Drops : Hand → ProcessState → Cover → Kept
   -- it can come to move such a thing, or to give it a further name
   Carries : Source → ProcessState → Kept
 
@@ -41,10 +41,11 @@ pub data Kept : Type 0 where
 abbrev pub can_carry : Tree → CallTable → Source → ProcessState → Cover → Bool
 can_carry t table r a k = can_move table a k || can_link table a (kind_of_source t table r) k
 
-pub record CanDrop (t : Tree) (table : CallTable) (crew : List ProcessState) (b a : ProcessState) (k : Cover) : Type 0 where
+pub record CanDrop (t : Tree) (table : CallTable) (crew : List ProcessState) (by : Hand) (a : ProcessState) (k : Cover) : Type 0 where
   pub dir : Seat
   pub name : List ℕ
-  pub writes : Can t table crew (Writes b dir name)
+  pub near : seat_device t dir ≡ by.1
+  pub writes : Can t table crew (Writes by.0 dir name)
   pub over : Can t table crew (NameCover a dir name k)
 
 pub record CanCarry (t : Tree) (table : CallTable) (crew : List ProcessState) (r : Source) (a : ProcessState) : Type 0 where
@@ -68,26 +69,29 @@ turns_under table a sends k = list_any (λ call. is_allowed (covered_verdict emp
 abbrev pub Means : Tree → CallTable → List ProcessState → Kept → Type 0
 Means t table crew (Covers a d k) = Can t table crew (DirCover a d k)
 Means t table crew (Enters a d) = Can t table crew (WayIn a d)
-Means t table crew (Lands b a k) = (d : Seat) × Can t table crew (WayIn b d) × Can t table crew (DirCover a d k)
+Means t table crew (Lands by a k) =
+    (d : Seat) × (seat_device t d ≡ by.1) × Can t table crew (WayIn by.0 d) × Can t table crew (DirCover a d k)
 Means t table crew (Clear y d) = Can t table crew (NotAbove (Old y) d)
-Means t table crew (LandsClear b y) = (d : Seat) × Can t table crew (WayIn b d) × Can t table crew (NotAbove (Old y) d)
-Means t table crew (Turns a y) = (d : Seat) → Can t table crew (StandsIn (Old y) d) → Can t table crew (WayIn a d)
+Means t table crew (LandsClear by y) =
+    (d : Seat) × (seat_device t d ≡ by.1) × Can t table crew (WayIn by.0 d) × Can t table crew (NotAbove (Old y) d)
+Means t table crew (Turns a y) =
+    (d : Seat) → seat_device t d ≡ device t y → Can t table crew (StandsIn (Old y) d) → Can t table crew (WayIn a d)
 Means t table crew (Taken dir name) = Can t table crew (Free (Old dir) name)
-Means t table crew (Creates a new) = Can t table crew (Makes a new)
-Means t table crew (Drops b a k) = CanDrop t table crew b a k
+Means t table crew (Creates by new) = Can t table crew (Makes by new)
+Means t table crew (Drops by a k) = CanDrop t table crew by a k
 Means t table crew (Carries r a) = CanCarry t table crew r a
 
 -- the processes that it speaks of are of the crew
 abbrev pub IsOfCrew : List ProcessState → Kept → Type 0
 IsOfCrew crew (Covers a d k) = Contains crew a
 IsOfCrew crew (Enters a d) = Contains crew a
-IsOfCrew crew (Lands b a k) = Contains crew b × Contains crew a
+IsOfCrew crew (Lands by a k) = Contains crew by.0 × Contains crew a
 IsOfCrew crew (Clear y d) = ⊤
-IsOfCrew crew (LandsClear b y) = Contains crew b
+IsOfCrew crew (LandsClear by y) = Contains crew by.0
 IsOfCrew crew (Turns a y) = Contains crew a
 IsOfCrew crew (Taken dir name) = ⊤
-IsOfCrew crew (Creates a new) = Contains crew a
-IsOfCrew crew (Drops b a k) = Contains crew b × Contains crew a
+IsOfCrew crew (Creates by new) = Contains crew by.0
+IsOfCrew crew (Drops by a k) = Contains crew by.0 × Contains crew a
 IsOfCrew crew (Carries r a) = Contains crew a
 
 -- the directories are watched that a veil of the crew is below, and those that another one can replace
@@ -142,15 +146,16 @@ module _ (t : Tree) (table : CallTable) (crew : List ProcessState) (watched : �
   -- a directory can come to stand in another, and what is no directory at a name
   pub data Sits : Seat → Seat → Type 0 where
     sits_now : {dir d : ℕ} (name : List ℕ) → look t dir name ≡ Some d → IsTrue (is_dir t d) → Sits (Old d) (Old dir)
-    sits_moved : {d p : Seat} (a : ProcessState) → Moves a d → T (Enters a p) → IsClear d p → Sits d p
-    sits_born : {a : ProcessState} {p : Seat} → Contains crew a → T (Creates a NewDir) → T (Enters a p) → Sits (Made a) p
+    sits_moved : {d p : Seat} (a : ProcessState) → Moves a d → T (Enters a p) → IsClear d p → seat_device t d ≡ seat_device t p → Sits d p
+    sits_born : {by : Hand} {p : Seat} → Contains crew by.0 → T (Creates by NewDir) → T (Enters by.0 p) → seat_device t p ≡ by.1 →
+        Sits (Made by) p
 
   pub data Lies : Source → Seat → List ℕ → Type 0 where
     lies_now : {dir : ℕ} {name : List ℕ} (x : ℕ) → look t dir name ≡ Some x → IsFalse (is_dir t x) → Lies (Row (dir, name)) (Old dir) name
-    lies_born : {a : ProcessState} {new : New} {p : Seat} {other : List ℕ} → Contains crew a → T (Creates a new) → Puts a p other →
-        Lies (Maker new a) p other
+    lies_born : {by : Hand} {new : New} {p : Seat} {other : List ℕ} → Contains crew by.0 → T (Creates by new) → Puts by.0 p other →
+        seat_device t p ≡ by.1 → Lies (Maker new by) p other
     lies_moved : {r : Source} {p : Seat} {other : List ℕ} (a : ProcessState) → Contains crew a → T (Carries r a) → Puts a p other →
-        Lies r p other
+        source_device t r ≡ seat_device t p → Lies r p other
 
   -- one more that follows
   pub data Follows : Kept → Type 0 where
@@ -161,48 +166,52 @@ module _ (t : Tree) (table : CallTable) (crew : List ProcessState) (watched : �
     covers_within : {a : ProcessState} {dir d : ℕ} {k : Cover} (name : List ℕ) → own_veil a (Old d) ≡ None → look t dir name ≡ Some d →
         IsTrue (is_dir t d) → T (Covers a (Old dir) k) → Follows (Covers a (Old d) k)
     covers_moved : {a : ProcessState} {d : Seat} {k : Cover} (b : ProcessState) → Contains crew a → own_veil a d ≡ None → IsPlain d →
-        Moves b d → T (Lands b a k) → Follows (Covers a d k)
+        Moves b d → T (Lands (b, seat_device t d) a k) → Follows (Covers a d k)
     covers_apart : {a : ProcessState} {d : ℕ} {k : Cover} (b : ProcessState) (p : Seat) → own_veil a (Old d) ≡ None → IsTrue (watched d) →
-        Moves b (Old d) → T (Enters b p) → T (Clear d p) → T (Covers a p k) → Follows (Covers a (Old d) k)
-    covers_born : {a b : ProcessState} {k : Cover} → Contains crew b → T (Creates b NewDir) → T (Lands b a k) → Follows (Covers a (Made b) k)
-    lands_in : {a b : ProcessState} {k : Cover} (p : Seat) → T (Enters b p) → T (Covers a p k) → Follows (Lands b a k)
+        Moves b (Old d) → T (Enters b p) → T (Clear d p) → T (Covers a p k) → seat_device t p ≡ device t d → Follows (Covers a (Old d) k)
+    covers_born : {a : ProcessState} {by : Hand} {k : Cover} → Contains crew by.0 → T (Creates by NewDir) → T (Lands by a k) →
+        Follows (Covers a (Made by) k)
+    lands_in : {a : ProcessState} {by : Hand} {k : Cover} (p : Seat) → seat_device t p ≡ by.1 → T (Enters by.0 p) → T (Covers a p k) →
+        Follows (Lands by a k)
     clear_root : {y : ℕ} → IsTrue (watched y) → y ≢ 0 → Follows (Clear y (Old 0))
     clear_within : {y dir d : ℕ} (name : List ℕ) → IsTrue (watched y) → Old d ≢ Old y → look t dir name ≡ Some d → IsTrue (is_dir t d) →
         T (Clear y (Old dir)) → Follows (Clear y (Old d))
-    clear_moved : {y : ℕ} {d : Seat} (b : ProcessState) → IsTrue (watched y) → d ≢ Old y → IsPlain d → Moves b d → T (LandsClear b y) →
+    clear_moved : {y : ℕ} {d : Seat} (b : ProcessState) → IsTrue (watched y) → d ≢ Old y → IsPlain d → Moves b d → T (LandsClear (b, seat_device t d) y) →
         Follows (Clear y d)
     clear_apart : {y d : ℕ} (b : ProcessState) (p : Seat) → IsTrue (watched y) → Old d ≢ Old y → IsTrue (watched d) → Moves b (Old d) →
-        T (Enters b p) → T (Clear d p) → T (Clear y p) → Follows (Clear y (Old d))
-    clear_born : {y : ℕ} {b : ProcessState} → IsTrue (watched y) → Contains crew b → T (Creates b NewDir) → T (LandsClear b y) →
-        Follows (Clear y (Made b))
-    lands_clear : {b : ProcessState} {y : ℕ} (p : Seat) → IsTrue (watched y) → T (Enters b p) → T (Clear y p) → Follows (LandsClear b y)
+        T (Enters b p) → T (Clear d p) → T (Clear y p) → seat_device t p ≡ device t d → Follows (Clear y (Old d))
+    clear_born : {y : ℕ} {by : Hand} → IsTrue (watched y) → Contains crew by.0 → T (Creates by NewDir) → T (LandsClear by y) →
+        Follows (Clear y (Made by))
+    lands_clear : {by : Hand} {y : ℕ} (p : Seat) → IsTrue (watched y) → seat_device t p ≡ by.1 → T (Enters by.0 p) → T (Clear y p) →
+        Follows (LandsClear by y)
     enters_by_c : {a : ProcessState} {d : Seat} (k : Cover) → T (Covers a d k) → IsTrue (has_c k) → Follows (Enters a d)
     enters_by_name : {a : ProcessState} {dir : ℕ} (name : List ℕ) → Puts a (Old dir) name → Follows (Enters a (Old dir))
     enters_by_turn : {a : ProcessState} {y dir : ℕ} (name : List ℕ) → IsTrue (watched y) → T (Turns a y) → look t dir name ≡ Some y → IsTrue (is_dir t y) →
-        Follows (Enters a (Old dir))
+        device t dir ≡ device t y → Follows (Enters a (Old dir))
     enters_by_moved : {a : ProcessState} {y : ℕ} {p : Seat} (b : ProcessState) → IsTrue (watched y) → T (Turns a y) → Moves b (Old y) →
-        T (Enters b p) → T (Clear y p) → Follows (Enters a p)
+        T (Enters b p) → T (Clear y p) → seat_device t p ≡ device t y → Follows (Enters a p)
     turns_by : {a : ProcessState} {y : ℕ} (perms : ℕ) (other : Seat) (k : Cover) → perms_kept a (place.Dir y) ≡ Some perms →
         IsTrue (has_c (Only perms)) → ((name : List ℕ) (x : ℕ) → look t y name ≡ Some x → IsFreed (Old y) name) → T (Covers a other k) →
-        IsTrue (can_move table a k) → other ≢ Old y → T (Clear y other) → Follows (Turns a y)
+        IsTrue (can_move table a k) → other ≢ Old y → T (Clear y other) → seat_device t other ≡ device t y →
+        Follows (Turns a y)
     taken_dir : {dir : ℕ} {name : List ℕ} (a : ProcessState) (d : ℕ) (k : Cover) → Contains crew a → IsTrue (may_take table a) →
         look t dir name ≡ Some d → IsTrue (is_dir t d) → T (Covers a (Old d) k) → IsTrue (has_c k) → Follows (Taken dir name)
     taken_other : {dir : ℕ} {name : List ℕ} (a : ProcessState) (x : ℕ) (k : Cover) → Contains crew a → IsTrue (may_take table a) →
         look t dir name ≡ Some x → IsFalse (is_dir t x) → IsOver a (Old dir) name k → IsTrue (has_c k) → Follows (Taken dir name)
-    creates_within : {a : ProcessState} {new : New} (d : Seat) (k : Cover) → T (Covers a d k) → IsTrue (makes_under table a new k) →
-        Follows (Creates a new)
-    creates_at : {a : ProcessState} {new : New} (dir : ℕ) (name : List ℕ) (k : Cover) → IsOver a (Old dir) name k →
-        IsFreed (Old dir) name → IsTrue (makes_under table a new k) → Follows (Creates a new)
-    drops_within : {a b : ProcessState} {k : Cover} (d : Seat) (j : Cover) → T (Covers b d j) → IsTrue (has_c j) → T (Covers a d k) →
-        Follows (Drops b a k)
-    drops_at : {a b : ProcessState} {k : Cover} (dir : ℕ) (name : List ℕ) → Puts b (Old dir) name → IsOver a (Old dir) name k →
-        Follows (Drops b a k)
+    creates_within : {by : Hand} {new : New} (d : Seat) (k : Cover) → seat_device t d ≡ by.1 → T (Covers by.0 d k) →
+        IsTrue (makes_under table by.0 new k) → Follows (Creates by new)
+    creates_at : {by : Hand} {new : New} (dir : ℕ) (name : List ℕ) (k : Cover) → device t dir ≡ by.1 → IsOver by.0 (Old dir) name k →
+        IsFreed (Old dir) name → IsTrue (makes_under table by.0 new k) → Follows (Creates by new)
+    drops_within : {a : ProcessState} {by : Hand} {k : Cover} (d : Seat) (j : Cover) → seat_device t d ≡ by.1 → T (Covers by.0 d j) →
+        IsTrue (has_c j) → T (Covers a d k) → Follows (Drops by a k)
+    drops_at : {a : ProcessState} {by : Hand} {k : Cover} (dir : ℕ) (name : List ℕ) → device t dir ≡ by.1 → Puts by.0 (Old dir) name →
+        IsOver a (Old dir) name k → Follows (Drops by a k)
     carries_row : {a : ProcessState} {dir : ℕ} {name : List ℕ} (x : ℕ) (k : Cover) → Contains crew a → look t dir name ≡ Some x →
         IsFalse (is_dir t x) → IsOver a (Old dir) name k → IsTrue (can_carry t table (Row (dir, name)) a k) → Follows (Carries (Row (dir, name)) a)
-    carries_born : {a b : ProcessState} {new : New} (k : Cover) → Contains crew a → Contains crew b → T (Creates b new) →
-        T (Drops b a k) → IsTrue (can_carry t table (Maker new b) a k) → Follows (Carries (Maker new b) a)
+    carries_born : {a : ProcessState} {by : Hand} {new : New} (k : Cover) → Contains crew a → Contains crew by.0 → T (Creates by new) →
+        T (Drops by a k) → IsTrue (can_carry t table (Maker new by) a k) → Follows (Carries (Maker new by) a)
     carries_on : {a : ProcessState} {r : Source} (b : ProcessState) (k : Cover) → Contains crew a → Contains crew b → T (Carries r b) →
-        T (Drops b a k) → IsTrue (can_carry t table r a k) → Follows (Carries r a)
+        T (Drops (b, source_device t r) a k) → IsTrue (can_carry t table r a k) → Follows (Carries r a)
 
   -- the facts that follow at once
   abbrev pub Tells : Fact → Type 0
@@ -213,5 +222,5 @@ module _ (t : Tree) (table : CallTable) (crew : List ProcessState) (watched : �
   Tells (Free d name) = IsFreed d name
   Tells (WayIn a d) = Contains crew a → T (Enters a d)
   Tells (Writes a d name) = Contains crew a → Puts a d name
-  Tells (Makes a new) = Contains crew a → T (Creates a new)
+  Tells (Makes by new) = Contains crew by.0 → T (Creates by new)
   Tells (StandsAt r d name) = Lies r d name

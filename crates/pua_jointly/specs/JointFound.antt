@@ -1,5 +1,5 @@
 -- The covers of things that the table of a crew has, and what is found of several processes.
-use Rattle.std.specs.Prelude.{◌≡◌, ◌<◌, ◌+◌, ◌&&◌, ◌||◌, ◌==◌, ℕ, Bool, List, false, get_or, length, nat_lt, if◌then◌else◌}
+use Rattle.std.specs.Prelude.{◌≡◌, ◌<◌, ◌+◌, ◌&&◌, ◌||◌, ◌==◌, ℕ, Bool, List, Option, Some, None, false, get_or, length, if◌then◌else◌}
 use Rattle.std.specs.Int.Bits.{bit_or}
 use Rattle.std.specs.List.{fold, list_any}
 use Rattle.std.specs.BTreeSet.{contains}
@@ -14,46 +14,55 @@ use Rattle.pua_jointly.specs.JointOld.{asked_word}
 use Rattle.pua_jointly.specs.JointPlace.{new_bit}
 use Rattle.pua_jointly.specs.JointRounds.{has_one, stays_in}
 use Rattle.pua_jointly.specs.Closing.{IsClosed}
-use Rattle.pua_jointly.specs.JointSetup.{FollowsTold, IsWorkedOut, count_told, crew_told, dirs_of, layout_told}
+use Rattle.pua_jointly.specs.JointSetup.{FollowsTold, IsWorkedOut, dir_side, count_told, crew_told, dirs_of, layout_told}
 use Rattle.pua_jointly.specs.JointTable.{HasFacts}
 use Rattle.pua_jointly.specs.JointWords.{covers_in, meets, word_at}
 use Rattle.pua_jointly.specs.declared.agent.Agent.{Agent}
 use Rattle.pua_jointly.specs.declared.crew.Crew.{Crew}
 use Rattle.pua_jointly.specs.declared.crew.Entry.{Entry}
+use Rattle.pua_jointly.specs.declared.crew.Side.{Side}
+use Rattle.pua_jointly.specs.declared.mover.Mover.{Mover}
 use Rattle.pua_jointly.specs.declared.facts.Facts.{Facts}
 
 -- of the directories that processes make
-abbrev pub made_in : Crew → List ℕ → Agent → ℕ → ℕ
-made_in c told of seat = if nat_lt c.shape.last seat then covers_in (word_at told c.columns seat of.place) else 0
+abbrev pub made_in : Crew → List ℕ → Agent → Mover → ℕ
+made_in c told of maker = covers_in (word_at told c.columns maker.made of.place)
+
+abbrev pub made_on : Crew → List ℕ → Agent → Side → ℕ
+made_on c told of side = fold (λ word maker. bit_or word (made_in c told of maker)) 0 side.movers.items
 
 abbrev pub made_words : Crew → List ℕ → Agent → ℕ
-made_words c told of = fold (λ word seat. bit_or word (made_in c told of seat)) 0 c.seats.items
+made_words c told of = fold (λ word side. bit_or word (made_on c told of side)) 0 c.sides.items
 
--- of what others carry, by the row and the bit that say so
-abbrev pub carried_by : Crew → List ℕ → Agent → ℕ → ℕ → Agent → ℕ
+-- of what others carry on a device, by the row and the bit that say so
+abbrev pub carried_by : Crew → List ℕ → Agent → ℕ → ℕ → Mover → ℕ
 carried_by c told of row bit by =
     if has_one (word_at told c.columns row by.place) bit then covers_in (word_at told c.columns by.drops of.place) else 0
 
-abbrev pub carried_covers : Crew → List ℕ → Agent → ℕ → ℕ → ℕ
-carried_covers c told of row bit = fold (λ word by. bit_or word (carried_by c told of row bit by)) 0 c.agents.items
+abbrev pub carried_covers : Crew → List ℕ → Agent → ℕ → ℕ → Side → ℕ
+carried_covers c told of row bit side = fold (λ word by. bit_or word (carried_by c told of row bit by)) 0 side.movers.items
+
+abbrev pub side_covers : Crew → List ℕ → Agent → ℕ → ℕ → Option Side → ℕ
+side_covers c told of row bit None = 0
+side_covers c told of row bit (Some side) = carried_covers c told of row bit side
 
 -- of what stands at a name
 abbrev pub entry_word : Crew → List ℕ → Agent → Entry → ℕ
 entry_word c told of entry =
-    bit_or (asked_word of.named of.process.now told c.columns entry.dir entry.name.now of.place) (carried_covers c told of entry.row 0)
+    bit_or (asked_word of.named of.process.now told c.columns entry.dir entry.name.now of.place)
+    (side_covers c told of entry.row 0 (dir_side c entry.dir))
 
--- of what processes make that is no directory
-abbrev pub born_in : Crew → List ℕ → Agent → New → Agent → ℕ
-born_in c told of new by =
-    if has_one (word_at told c.columns c.makers by.place) (new_bit new) then covers_in (word_at told c.columns by.drops of.place) else 0
+-- of what processes make that is no directory: where it is made, and where it is carried
+abbrev pub born_in : Crew → List ℕ → Agent → New → Side → Mover → ℕ
+born_in c told of new side by =
+    bit_or (if has_one (word_at told c.columns by.drops c.shape.agents) (new_bit new) then covers_in (word_at told c.columns by.drops of.place) else 0)
+    (carried_covers c told of by.made (19 + new_bit new) side)
 
-abbrev pub seat_carried : Crew → List ℕ → Agent → New → ℕ → ℕ
-seat_carried c told of new seat = if nat_lt c.shape.last seat then carried_covers c told of seat (19 + new_bit new) else 0
+abbrev pub born_on : Crew → List ℕ → Agent → New → Side → ℕ
+born_on c told of new side = fold (λ word by. bit_or word (born_in c told of new side by)) 0 side.movers.items
 
 abbrev pub new_covers : Crew → List ℕ → Agent → New → ℕ
-new_covers c told of new =
-    bit_or (fold (λ word by. bit_or word (born_in c told of new by)) 0 c.agents.items)
-    (fold (λ word seat. bit_or word (seat_carried c told of new seat)) 0 c.seats.items)
+new_covers c told of new = fold (λ word side. bit_or word (born_on c told of new side)) 0 c.sides.items
 
 -- a call by which the file at a name can come to be a program is allowed to one of the processes, or that holds it open so that it can
 abbrev pub turned_by : Crew → List ℕ → Entry → Agent → Bool
@@ -76,5 +85,5 @@ pub record AreFacts (t : Tree) (table : CallTable) (crew : List ProcessState) (f
   pub full : length facts.told.items ≡ count_told facts.crew
   pub closed : IsClosed (FollowsTold t table facts.crew) facts.told.items
   pub has : HasFacts t table (crew_told facts.crew) (watches t (crew_told facts.crew)) (layout_told facts.crew) facts.told.items
-  pub held : AreMarked (stays_in facts.crew facts.told.items) facts.crew.entries.items (dirs_of facts.crew) facts.held.items
+  pub held : AreMarked (stays_in facts.crew.columns facts.crew.shape.agents facts.told.items) facts.crew.entries.items (dirs_of facts.crew) facts.held.items
   pub turned : AreMarked (turns_in facts.crew facts.told.items) facts.crew.entries.items (dirs_of facts.crew) facts.turned.items

@@ -1,14 +1,13 @@
 -- What is worked out of a crew and a tree, piece by piece.
-use Rattle.std.specs.Prelude.{◌≡◌, ◌<◌, ◌+◌, ◌^◌, ◌==◌, ℕ, suc, Bool, false, List, Option, Some, None, get_or, nat_lt, ⊤, if◌then◌else◌, IsTrue, length, map}
+use Rattle.std.specs.Prelude.{◌≡◌, ◌<◌, ◌+◌, ◌*◌, ◌^◌, slice_get, ◌==◌, ℕ, suc, Bool, false, List, Option, Some, None, get_or, nat_lt, ⊤, if◌then◌else◌, IsTrue, length, map}
 use Rattle.std.specs.Borrow.{Bor}
 use Rattle.std.specs.List.{Contains, list_any}
 use Rattle.std.specs.List.Sorted.{IsNonDecreasingBy}
 use Rattle.std.specs.Ordering.{ordering_index}
-use Rattle.pua_tree.specs.Tree.{Tree, Spot, is_dir, kind_at, look, spot_cmp}
+use Rattle.pua_tree.specs.Tree.{Tree, Spot, device, is_dir, kind_at, look, spot_cmp}
 use Rattle.pua_tree.specs.declared.tree.LentRow.{LentRow}
 use Rattle.pua_policy.specs.declared.place.Place.{Place}
 use Rattle.pua_policy.specs.declared.place.Place.TheVariants as place
-use Rattle.pua_policy.specs.States.{ProcessState}
 use Rattle.pua_jointly.specs.JointFacts.{watches_by}
 use Rattle.pua_jointly.specs.JointMembers.{Each}
 use Rattle.pua_jointly.specs.JointPlace.{Once}
@@ -18,7 +17,6 @@ use Rattle.pua_ever.specs.Laws.{dir_of_place}
 use Rattle.pua_jointly.specs.declared.crew.Entry.{Entry}
 use Rattle.pua_jointly.specs.declared.crew.Mark.{Mark}
 use Rattle.pua_jointly.specs.declared.crew.Watch.{Watch}
-use Rattle.pua_jointly.specs.declared.setup.AgentRows.{AgentRows}
 use Rattle.pua_jointly.specs.declared.size.Size.{Size}
 use Rattle.pua_jointly.specs.declared.shape.Shape.{Shape}
 
@@ -32,16 +30,22 @@ row_number row = greater row.dir row.node
 abbrev pub veil_number : Bor Place × Bor ℕ → ℕ
 veil_number veil = dir_of_place veil.0.now
 
+-- how much a table is of
+pub record IsShape (agents devices last : ℕ) (shape : Shape) : Type 0 where
+  pub agents_are : shape.agents ≡ agents
+  pub hands_are : shape.hands ≡ agents * devices
+  pub last_is : shape.last ≡ last
+
 -- how many words a row has, and rows that can all be numbered
 pub record IsSize (shape : Shape) (names watched : ℕ) (size : Size) : Type 0 where
   pub same : size.shape ≡ shape
   pub columns : size.columns ≡ shape.agents + suc watched
-  pub rows : size.makers + 1 + names < 2 ^ 64
+  pub rows : size.names + names < 2 ^ 64
 
--- the rows of the process at a place of a crew
-pub record AreAgentRows (dirs : ℕ) (crew : List ProcessState) (rows : AgentRows) : Type 0 where
-  pub landing : rows.landing ≡ dirs + (length crew + rows.place)
-  pub drops : rows.drops ≡ dirs + (length crew + (length crew + rows.place))
+-- the devices of directories, by their numbers
+pub record AreDevices (t : Tree) (count : ℕ) (devices : List ℕ) : Type 0 where
+  pub each : (n : ℕ) → n < count → slice_get devices n ≡ Some (device t n)
+  pub full : length devices ≡ count
 
 -- a name at which something stands
 abbrev pub entry_of : Entry → Spot

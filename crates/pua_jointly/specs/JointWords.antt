@@ -1,5 +1,5 @@
 -- What follows from the table of a crew, word by word, as the code finds it.
-use Rattle.std.specs.Prelude.{◌≡◌, ◌<◌, ◌+◌, ◌*◌, ◌^◌, ◌==◌, ◌&&◌, ◌||◌, not, ℕ, Bool, true, false, List, Some, length, get_or, slice_get}
+use Rattle.std.specs.Prelude.{◌≡◌, ◌<◌, ◌+◌, ◌*◌, ◌^◌, ◌==◌, ◌&&◌, ◌||◌, not, ℕ, Bool, true, false, List, Some, get_or, slice_get}
 use Rattle.std.specs.Prelude.{if◌then◌else◌}
 use Rattle.std.specs.Int.{bit_at}
 use Rattle.std.specs.Int.Bits.{bit_and, bit_or}
@@ -21,6 +21,7 @@ use Rattle.pua_jointly.specs.JointCovers.{AreCallsByCover}
 use Rattle.pua_jointly.specs.JointFacts.{makes_under, turns_under}
 use Rattle.pua_jointly.specs.JointPlace.{cover_bit}
 use Rattle.pua_jointly.specs.declared.agent.Agent.{Agent}
+use Rattle.pua_jointly.specs.declared.mover.Mover.{Mover}
 
 -- the word at a row and a column of a table with so many columns
 abbrev pub word_at : List ℕ → ℕ → ℕ → ℕ → ℕ
@@ -83,13 +84,11 @@ has_named h = list_any (λ (veil : Place × ℕ). is_name veil.0) (veils h)
 abbrev pub IsOpenSet : Bool → ProcessState → BTreeSet ℕ → Type 0
 IsOpenSet sends b nodes = (node : ℕ) → contains nat_cmp nodes node ≡ is_turned_open sends b node
 
--- what is asked of a process of the crew, by its place: itself, the rows of where it can put directories and other things, the
--- covers under which it can do something, and what it has open so that programs can be made of it
-pub record IsAgent (table : CallTable) (dirs : ℕ) (crew : List ProcessState) (i : ℕ) (b : ProcessState) (agent : Agent) : Type 0 where
+-- what is asked of a process of the crew, by its place: itself, the covers under which it can do something, and what it has open so that
+-- programs can be made of it
+pub record IsAgent (table : CallTable) (crew : List ProcessState) (i : ℕ) (b : ProcessState) (agent : Agent) : Type 0 where
   pub process : agent.process.now ≡ b
   pub place : agent.place ≡ i
-  pub landing : agent.landing ≡ dirs + (length crew + i)
-  pub drops : agent.drops ≡ dirs + (length crew + (length crew + i))
   pub moving : AreCovers agent.moving (can_move table b)
   pub carries : (kind : Kind) → AreCovers (carrying agent kind) (λ k. can_move table b k || can_link table b (Some kind) k)
   pub makes : (new : New) → AreCovers (making agent new) (makes_under table b new)
@@ -100,23 +99,38 @@ pub record IsAgent (table : CallTable) (dirs : ℕ) (crew : List ProcessState) (
   pub calls : AreCallsByCover table b agent.calls.items
 
 -- of each process, by its place
-pub record AreAgents (table : CallTable) (crew : List ProcessState) (dirs : ℕ) (agents : List Agent) : Type 0 where
+pub record AreAgents (table : CallTable) (crew : List ProcessState) (agents : List Agent) : Type 0 where
   pub each : (i : ℕ) (b : ProcessState) → slice_get crew i ≡ Some b →
-      (agent : Agent) × (slice_get agents i ≡ Some agent) × IsAgent table dirs crew i b agent
+      (agent : Agent) × (slice_get agents i ≡ Some agent) × IsAgent table crew i b agent
   pub only : (i : ℕ) (agent : Agent) → slice_get agents i ≡ Some agent →
-      (b : ProcessState) × (slice_get crew i ≡ Some b) × IsAgent table dirs crew i b agent
+      (b : ProcessState) × (slice_get crew i ≡ Some b) × IsAgent table crew i b agent
+
+-- of a process on a device, by the number of the hands before those of the device: the rows of what it makes there, and of where it can
+-- put directories and other things
+pub record IsMover (table : CallTable) (dirs hands first i : ℕ) (b : ProcessState) (mover : Mover) : Type 0 where
+  pub place : mover.place ≡ i
+  pub moving : AreCovers mover.moving (can_move table b)
+  pub made : mover.made ≡ dirs + (first + i)
+  pub landing : mover.landing ≡ dirs + (hands + (first + i))
+  pub drops : mover.drops ≡ dirs + (hands + (hands + (first + i)))
+
+pub record AreMovers (table : CallTable) (crew : List ProcessState) (dirs hands first : ℕ) (movers : List Mover) : Type 0 where
+  pub each : (i : ℕ) (b : ProcessState) → slice_get crew i ≡ Some b →
+      (mover : Mover) × (slice_get movers i ≡ Some mover) × IsMover table dirs hands first i b mover
+  pub only : (i : ℕ) (mover : Mover) → slice_get movers i ≡ Some mover →
+      (b : ProcessState) × (slice_get crew i ≡ Some b) × IsMover table dirs hands first i b mover
 
 -- a process can move a directory
-abbrev pub moves_at : List ℕ → ℕ → ℕ → Agent → Bool
-moves_at told columns seat agent = meets (word_at told columns seat agent.place) agent.moving
+abbrev pub moves_at : List ℕ → ℕ → ℕ → Mover → Bool
+moves_at told columns seat mover = meets (word_at told columns seat mover.place) mover.moving
 
 -- the covers under which those come that can move a directory
-abbrev pub moved_at : List ℕ → ℕ → ℕ → ℕ → Agent → ℕ
-moved_at told columns seat of agent =
-    if moves_at told columns seat agent then covers_in (word_at told columns agent.landing of) else 0
+abbrev pub moved_at : List ℕ → ℕ → ℕ → ℕ → Mover → ℕ
+moved_at told columns seat of mover =
+    if moves_at told columns seat mover then covers_in (word_at told columns mover.landing of) else 0
 
-abbrev pub moved_word : List ℕ → ℕ → List Agent → ℕ → ℕ → ℕ
-moved_word told columns agents seat of = fold (λ word agent. bit_or word (moved_at told columns seat of agent)) 0 agents
+abbrev pub moved_word : List ℕ → ℕ → List Mover → ℕ → ℕ → ℕ
+moved_word told columns movers seat of = fold (λ word mover. bit_or word (moved_at told columns seat of mover)) 0 movers
 
 -- the same of a watched directory, whose column says where it can come to stand
 abbrev pub apart_at : List ℕ → ℕ → ℕ → ℕ → ℕ → ℕ → ℕ
@@ -124,14 +138,14 @@ apart_at told columns by watch of into =
     if (bit_at (word_at told columns into by) 18 == 1) && (bit_at (word_at told columns into watch) 0 == 1)
     then covers_in (word_at told columns into of) else 0
 
-abbrev pub apart_by : List ℕ → ℕ → List ℕ → ℕ → ℕ → ℕ → Agent → ℕ
-apart_by told columns seats seat watch of agent =
-    if moves_at told columns seat agent
-    then fold (λ word into. bit_or word (apart_at told columns agent.place watch of into)) 0 seats else 0
+abbrev pub apart_by : List ℕ → ℕ → List ℕ → ℕ → ℕ → ℕ → Mover → ℕ
+apart_by told columns seats seat watch of mover =
+    if moves_at told columns seat mover
+    then fold (λ word into. bit_or word (apart_at told columns mover.place watch of into)) 0 seats else 0
 
-abbrev pub apart_word : List ℕ → ℕ → List Agent → List ℕ → ℕ → ℕ → ℕ → ℕ
-apart_word told columns agents seats seat watch of =
-    fold (λ word agent. bit_or word (apart_by told columns seats seat watch of agent)) 0 agents
+abbrev pub apart_word : List ℕ → ℕ → List Mover → List ℕ → ℕ → ℕ → ℕ → ℕ
+apart_word told columns movers seats seat watch of =
+    fold (λ word mover. bit_or word (apart_by told columns seats seat watch of mover)) 0 movers
 
 -- whether one of those is one that another watched directory is not above, by the column of that
 abbrev pub clear_at : List ℕ → ℕ → ℕ → ℕ → ℕ → ℕ → Bool
@@ -139,18 +153,18 @@ clear_at told columns by watch of into =
     (bit_at (word_at told columns into by) 18 == 1)
     && ((bit_at (word_at told columns into watch) 0 == 1) && (bit_at (word_at told columns into of) 0 == 1))
 
-abbrev pub clear_by : List ℕ → ℕ → List ℕ → ℕ → ℕ → ℕ → Agent → Bool
-clear_by told columns seats seat watch of agent =
-    moves_at told columns seat agent && list_any (clear_at told columns agent.place watch of) seats
+abbrev pub clear_by : List ℕ → ℕ → List ℕ → ℕ → ℕ → ℕ → Mover → Bool
+clear_by told columns seats seat watch of mover =
+    moves_at told columns seat mover && list_any (clear_at told columns mover.place watch of) seats
 
--- the covers of what a process makes, by the row of what each can make: where it is made, and where it is moved
-abbrev pub born_at : List ℕ → ℕ → ℕ → Agent → ℕ → ℕ
-born_at told columns makers maker of =
-    if bit_at (word_at told columns makers maker.place) 0 == 1 then covers_in (word_at told columns maker.landing of) else 0
+-- the covers of what a process makes, by the column of what is so of all: where it is made, and where it is moved
+abbrev pub born_at : List ℕ → ℕ → ℕ → Mover → ℕ → ℕ
+born_at told columns common maker of =
+    if bit_at (word_at told columns maker.drops common) 0 == 1 then covers_in (word_at told columns maker.landing of) else 0
 
-abbrev pub made_word : List ℕ → ℕ → List Agent → ℕ → ℕ → Agent → ℕ → ℕ
-made_word told columns agents makers seat maker of =
-    bit_or (moved_word told columns agents seat of) (born_at told columns makers maker of)
+abbrev pub made_word : List ℕ → ℕ → List Mover → ℕ → ℕ → Mover → ℕ → ℕ
+made_word told columns movers common seat maker of =
+    bit_or (moved_word told columns movers seat of) (born_at told columns common maker of)
 
 -- the covers with `c`
 abbrev pub with_c : ℕ

@@ -4,9 +4,8 @@
 use Rattle.std.specs.Prelude.{true, false, ◌≡◌, ◌≢◌, ◌⊎◌, ⊤, ◌&&◌, ◌||◌, not, ℕ, Bool, if◌then◌else◌, List, [], ◌∷◌, ◌++◌, map, filter, flat_map}
 use Rattle.std.specs.Prelude.{is_some, Option, Some, None, Result, Ok, IsTrue, IsFalse}
 use Rattle.std.specs.List.{AllByRecursion, Contains, list_any}
-use Rattle.pua_tree.specs.Tree.{Tree, Spot, is_dir, look, kind_at, empty_tree}
+use Rattle.pua_tree.specs.Tree.{Tree, Spot, device, is_dir, look, kind_at, empty_tree}
 use Rattle.pua_tree.specs.declared.node.Kind.{Kind}
-use Rattle.pua_tree.specs.declared.node.Kind.TheVariants as kind
 use Rattle.pua_path.specs.Fits.{is_link_kind}
 use Rattle.pua_path.specs.Resolution.{resolution_of_text}
 use Rattle.pua_path.specs.declared.errno.Errno.{Errno}
@@ -43,15 +42,28 @@ use Rattle.pua_ever.specs.Through.{is_bounded, GoAlong}
 use Rattle.pua_ever.specs.Laws.{ForeseesIn, EditsNeedC, VeilsStand, ActsWithin, NoExecLoosens, IsLineOf}
 use Rattle.pua_path.specs.declared.found.Start.{Start}
 
--- a directory: one of the beginning, or any that this process makes
+-- a process on a device: what it makes there, and what it moves there, stays there
+abbrev pub Hand : Type 0
+Hand = ProcessState × ℕ
+
+-- a directory: one of the beginning, or any that this process makes on this device
 pub data Seat : Type 0 where
   Old : ℕ → Seat
-  Made : ProcessState → Seat
+  Made : Hand → Seat
 
--- what is no directory, by where it comes from: what stood in a row at the beginning, or any that this process makes
+-- what is no directory, by where it comes from: what stood in a row at the beginning, or any that this process makes on this device
 pub data Source : Type 0 where
   Row : Spot → Source
-  Maker : New → ProcessState → Source
+  Maker : New → Hand → Source
+
+-- the device of a directory, and that of what is none: no request takes it off there
+abbrev pub seat_device : Tree → Seat → ℕ
+seat_device t (Old dir) = device t dir
+seat_device t (Made by) = by.1
+
+abbrev pub source_device : Tree → Source → ℕ
+source_device t (Row spot) = device t spot.0
+source_device t (Maker new by) = by.1
 
 -- what can come to be
 pub data Fact : Type 0 where
@@ -67,8 +79,8 @@ pub data Fact : Type 0 where
   -- a directory into which a process can come to put another, and a name at which it can come to put anything else
   WayIn : ProcessState → Seat → Fact
   Writes : ProcessState → Seat → List ℕ → Fact
-  -- it can come to make such a thing
-  Makes : ProcessState → New → Fact
+  -- it can come to make such a thing on this device
+  Makes : Hand → New → Fact
   -- something else can come to stand at a name
   StandsAt : Source → Seat → List ℕ → Fact
 
@@ -102,17 +114,17 @@ may_take table h =
 
 -- the least facts that follow from the tree of the beginning
 pub data Can (t : Tree) (table : CallTable) (crew : List ProcessState) : Fact → Type 0 where
-  -- where it stood, where a process moves it that enters there, or where one makes it
+  -- where it stood, where a process moves it on its device that enters there, or where one makes it
   stays_in : {dir d : ℕ} (name : List ℕ) → look t dir name ≡ Some d → IsTrue (is_dir t d) → Can t table crew (StandsIn (Old d) (Old dir))
   moved_in : {d p : Seat} (a : ProcessState) (k : Cover) → Contains crew a → Can t table crew (DirCover a d k) → IsTrue (can_move table a k) →
-      Can t table crew (WayIn a p) → Can t table crew (NotAbove d p) → Can t table crew (StandsIn d p)
-  born_in : {a : ProcessState} {p : Seat} → Contains crew a → Can t table crew (Makes a NewDir) → Can t table crew (WayIn a p) →
-      Can t table crew (StandsIn (Made a) p)
+      Can t table crew (WayIn a p) → Can t table crew (NotAbove d p) → seat_device t d ≡ seat_device t p → Can t table crew (StandsIn d p)
+  born_in : {by : Hand} {p : Seat} → Contains crew by.0 → Can t table crew (Makes by NewDir) → Can t table crew (WayIn by.0 p) →
+      seat_device t p ≡ by.1 → Can t table crew (StandsIn (Made by) p)
   -- up from the second leads to the root, and not through the first
   not_above_root : {y : ℕ} → y ≢ 0 → Can t table crew (NotAbove (Old y) (Old 0))
   not_above_up : {y : ℕ} {d : Seat} (p : Seat) → d ≢ Old y → Can t table crew (StandsIn d p) → Can t table crew (NotAbove (Old y) p) →
       Can t table crew (NotAbove (Old y) d)
-  not_above_made : {maker : ProcessState} {d : Seat} → Can t table crew (NotAbove (Made maker) d)
+  not_above_made : {maker : Hand} {d : Seat} → Can t table crew (NotAbove (Made maker) d)
   -- its own veil, or what covers that in which it stands
   dir_own : {a : ProcessState} {d : Seat} {perms : ℕ} → IsTrue (is_standing t d) → own_veil a d ≡ Some perms →
       Can t table crew (DirCover a d (Only perms))
@@ -126,14 +138,15 @@ pub data Can (t : Tree) (table : CallTable) (crew : List ProcessState) : Fact �
       Can t table crew (NameCover a d name k)
   -- nothing stood there, or some process that may take names away comes to have `c` on what did
   free_none : {dir : ℕ} {name : List ℕ} → look t dir name ≡ None → Can t table crew (Free (Old dir) name)
-  free_made : {maker : ProcessState} {name : List ℕ} → Can t table crew (Free (Made maker) name)
+  free_made : {maker : Hand} {name : List ℕ} → Can t table crew (Free (Made maker) name)
   free_dir : {dir : ℕ} {name : List ℕ} (a : ProcessState) (d : ℕ) (k : Cover) → Contains crew a → IsTrue (may_take table a) →
       look t dir name ≡ Some d → IsTrue (is_dir t d) → Can t table crew (DirCover a (Old d) k) → IsTrue (has_c k) →
       Can t table crew (Free (Old dir) name)
   free_other : {dir : ℕ} {name : List ℕ} (a : ProcessState) (x : ℕ) (k : Cover) → Contains crew a → IsTrue (may_take table a) →
       look t dir name ≡ Some x → IsFalse (is_dir t x) → Can t table crew (NameCover a (Old dir) name k) → IsTrue (has_c k) →
       Can t table crew (Free (Old dir) name)
-  -- by `c`, by a name that has a veil with `c`, or in the place of a directory that has one, can be emptied and come there
+  -- by `c`, by a name that has a veil with `c`, or in the place of a directory of the same device that has one, can be emptied and come
+  -- there
   way_in_by_c : {a : ProcessState} {d : Seat} (k : Cover) → Can t table crew (DirCover a d k) → IsTrue (has_c k) → Can t table crew (WayIn a d)
   way_in_by_name : {a : ProcessState} {d : Seat} (name : List ℕ) (perms : ℕ) → IsTrue (is_standing t d) → name_veil a d name ≡ Some perms →
       IsTrue (has_c (Only perms)) → Can t table crew (Free d name) → Can t table crew (WayIn a d)
@@ -141,22 +154,22 @@ pub data Can (t : Tree) (table : CallTable) (crew : List ProcessState) : Fact �
       perms_kept a (place.Dir y) ≡ Some perms → IsTrue (has_c (Only perms)) →
       ((name : List ℕ) (x : ℕ) → look t y name ≡ Some x → Can t table crew (Free (Old y) name)) →
       Can t table crew (DirCover a other k) → IsTrue (can_move table a k) → other ≢ Old y → Can t table crew (NotAbove (Old y) other) →
-      Can t table crew (WayIn a d)
+      seat_device t d ≡ device t y → seat_device t other ≡ device t y → Can t table crew (WayIn a d)
   writes_at : {a : ProcessState} {d : Seat} {name : List ℕ} (k : Cover) → Can t table crew (NameCover a d name k) → IsTrue (has_c k) →
       Can t table crew (Free d name) → Can t table crew (Writes a d name)
-  makes_at : {a : ProcessState} {new : New} (d : Seat) (name : List ℕ) (k : Cover) → Can t table crew (NameCover a d name k) →
+  makes_at : {by : Hand} {new : New} (d : Seat) (name : List ℕ) (k : Cover) → Can t table crew (NameCover by.0 d name k) →
       Can t table crew (Free d name) →
-      IsTrue (is_made_by (λ maker. is_allowed (covered_verdict empty_tree table a maker k IsMissing)) new) →
-      Can t table crew (Makes a new)
-  -- where it stood, where a process moves it or gives it a further name, or where one makes it
+      IsTrue (is_made_by (λ maker. is_allowed (covered_verdict empty_tree table by.0 maker k IsMissing)) new) →
+      seat_device t d ≡ by.1 → Can t table crew (Makes by new)
+  -- where it stood, where a process moves it on its device or gives it a further name there, or where one makes it
   stays_at : {dir : ℕ} {name : List ℕ} (x : ℕ) → look t dir name ≡ Some x → IsFalse (is_dir t x) →
       Can t table crew (StandsAt (Row (dir, name)) (Old dir) name)
   moved_at : {r : Source} {p : Seat} {other : List ℕ} (a : ProcessState) (d : Seat) (name : List ℕ) (k : Cover) → Contains crew a →
       Can t table crew (StandsAt r d name) → Can t table crew (NameCover a d name k) →
       IsTrue (can_move table a k || can_link table a (kind_of_source t table r) k) → Can t table crew (Writes a p other) →
-      Can t table crew (StandsAt r p other)
-  born_at : {a : ProcessState} {new : New} {d : Seat} {name : List ℕ} → Contains crew a → Can t table crew (Makes a new) →
-      Can t table crew (Writes a d name) → Can t table crew (StandsAt (Maker new a) d name)
+      source_device t r ≡ seat_device t p → Can t table crew (StandsAt r p other)
+  born_at : {by : Hand} {new : New} {d : Seat} {name : List ℕ} → Contains crew by.0 → Can t table crew (Makes by new) →
+      Can t table crew (Writes by.0 d name) → seat_device t d ≡ by.1 → Can t table crew (StandsAt (Maker new by) d name)
 
 -- a thing can come under a cover by the veils of this process, and be such an object then
 pub data Shows (t : Tree) (table : CallTable) (crew : List ProcessState) (a : ProcessState) : Thing → Cover → Object → Type 0 where
@@ -172,17 +185,17 @@ pub data Shows (t : Tree) (table : CallTable) (crew : List ProcessState) (a : Pr
   shows_name : {d : ℕ} {name : List ℕ} {perms : ℕ} → IsTrue (is_dir t d) → perms_kept a (place.Slot d name) ≡ Some perms →
       Can t table crew (Free (Old d) name) →
       Shows t table crew a (Stands (At (Slot d name None))) (Only perms) IsMissing
-  shows_new_dir : {k : Cover} (maker : ProcessState) → Can t table crew (DirCover a (Made maker) k) →
+  shows_new_dir : {k : Cover} (maker : Hand) → Can t table crew (DirCover a (Made maker) k) →
       Shows t table crew a (Comes NewDir) k removable_dir
-  shows_new_others : {k : Cover} (maker : ProcessState) → Can t table crew (DirCover a (Made maker) k) →
+  shows_new_others : {k : Cover} (maker : Hand) → Can t table crew (DirCover a (Made maker) k) →
       Shows t table crew a (Comes NewOthers) k IsMissing
-  shows_new_file : {k : Cover} (maker : ProcessState) (d : Seat) (name : List ℕ) → Can t table crew (StandsAt (Maker NewFile maker) d name) →
+  shows_new_file : {k : Cover} (maker : Hand) (d : Seat) (name : List ℕ) → Can t table crew (StandsAt (Maker NewFile maker) d name) →
       Can t table crew (NameCover a d name k) → Shows t table crew a (Comes NewFile) k (new_object table NewFile)
-  shows_new_link : {k : Cover} (maker : ProcessState) (d : Seat) (name : List ℕ) → Can t table crew (StandsAt (Maker NewLink maker) d name) →
+  shows_new_link : {k : Cover} (maker : Hand) (d : Seat) (name : List ℕ) → Can t table crew (StandsAt (Maker NewLink maker) d name) →
       Can t table crew (NameCover a d name k) → Shows t table crew a (Comes NewLink) k IsLink
-  shows_new_sock : {k : Cover} (maker : ProcessState) (d : Seat) (name : List ℕ) → Can t table crew (StandsAt (Maker NewSock maker) d name) →
+  shows_new_sock : {k : Cover} (maker : Hand) (d : Seat) (name : List ℕ) → Can t table crew (StandsAt (Maker NewSock maker) d name) →
       Can t table crew (NameCover a d name k) → Shows t table crew a (Comes NewSock) k (new_object table NewSock)
-  shows_new_fifo : {k : Cover} (maker : ProcessState) (d : Seat) (name : List ℕ) → Can t table crew (StandsAt (Maker NewFifo maker) d name) →
+  shows_new_fifo : {k : Cover} (maker : Hand) (d : Seat) (name : List ℕ) → Can t table crew (StandsAt (Maker NewFifo maker) d name) →
       Can t table crew (NameCover a d name k) → Shows t table crew a (Comes NewFifo) k (new_object table NewFifo)
 
 -- a link has the calls alone that keep it

@@ -5,16 +5,17 @@ use Rattle.pua_path.specs.declared.found.Way.TheVariants.{Named}
 use Rattle.pua_calls.specs.Promises.{rpath, wpath, cpath, fattr, exec, recvfd, sendfd, unix, reading, writing, executing, creating}
 use Rattle.pua_calls.specs.Calls.{openbsd_table, standard_table}
 use Rattle.pua_calls.specs.declared.call.Call.TheVariants as call
+use Rattle.pua_tree.specs.Tree.{Tree}
 use Rattle.pua_tree.specs.declared.node.Kind.TheVariants.{File}
 use Rattle.pua_policy.specs.States.{ProcessState, new_process}
 use Rattle.pua_policy.specs.declared.place.Place.TheVariants as place
 use Rattle.pua_objects.specs.Objects.{At}
-use Rattle.pua_ever.specs.Ever.{Thing, Stands, is_turned_held}
-use Rattle.pua_ever.specs.ThroughExamples.{started_tree}
+use Rattle.pua_ever.specs.Ever.{NewLink, Thing, Stands, is_turned_held}
+use Rattle.pua_ever.specs.ThroughExamples.{directory, file, program, started_tree}
 use Rattle.pua_ever.specs.declared.lasting_list.ExecBound.TheVariants.{Bounded, Never, Open}
 use Rattle.pua_jointly.specs.JointRefusals.{first_refusal}
 use Rattle.pua_jointly.specs.JointPrograms.{agents_by, started_of, worst}
-use Rattle.pua_jointly.specs.Jointly.{IsJointlyAllowed, IsJointlyListed, as_started, sends_to_set}
+use Rattle.pua_jointly.specs.Jointly.{Can, IsJointlyAllowed, IsJointlyListed, Maker, Old, Row, Seat, StandsAt, StandsIn, as_started, seat_device, sends_to_set}
 use Rattle.pua_ever.specs.declared.refusal.EverRefusal.TheVariants.{CanUnveil}
 
 -- who moves from /in to /out and reads nothing, and who reads in /out and sees nothing else
@@ -92,6 +93,12 @@ starter = record runner { execpromises = Some rpath }
 abbrev pub file_in : Thing
 file_in = Stands (At (Slot 1 (codes "s") (Some 3)))
 
+-- the same tree, where another file system is mounted on /out
+abbrev pub mounted_tree : Tree
+mounted_tree = record started_tree {
+  nodes = (0, directory) ∷ (1, directory) ∷ (2, record directory { mount = true }) ∷ (3, file) ∷ (4, program) ∷ [];
+}
+
 pub record JointlyRows : Type 0 where
   -- the reader comes to read what the mover brings, which has no promise to read it
   pub brought : IsJointlyAllowed started_tree standard_table crew reader file_in call.OpenRead
@@ -125,3 +132,15 @@ pub record JointlyRows : Type 0 where
   pub silent : agents_by standard_table (record { process = starter; execs = Never }) ≡ starter ∷ []
   -- one alone makes the lists of all open
   pub all_open : worst (record { process = starter; execs = Bounded } ∷ record { process = runner; execs = Open } ∷ []) ≡ Open
+  -- where another file system is mounted on /out, nobody brings the file there, whoever helps
+  pub stays : (all : List ProcessState) (d : Seat) (name : List ℕ) →
+      Can mounted_tree standard_table all (StandsAt (Row (1, codes "s")) d name) → seat_device mounted_tree d ≡ 0
+  pub apart : (all : List ProcessState) (name : List ℕ) →
+      Can mounted_tree standard_table all (StandsAt (Row (1, codes "s")) (Old 2) name) → ⊥
+  -- the link that is made there is moved there, and only there
+  pub made : Can mounted_tree standard_table crew (StandsAt (Maker NewLink (mover, 2)) (Old 2) (codes "n"))
+  pub made_moved : Can mounted_tree standard_table crew (StandsAt (Maker NewLink (mover, 2)) (Old 2) (codes "m"))
+  pub made_apart : (all : List ProcessState) (name : List ℕ) →
+      Can mounted_tree standard_table all (StandsAt (Maker NewLink (mover, 2)) (Old 1) name) → ⊥
+  -- and the directory /in stays out of it
+  pub out_of_it : (all : List ProcessState) → Can mounted_tree standard_table all (StandsIn (Old 1) (Old 2)) → ⊥

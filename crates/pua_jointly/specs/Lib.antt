@@ -14,12 +14,14 @@ pub mod JointTable
 pub mod JointShape
 pub mod JointPlace
 pub mod JointWords
+pub mod JointGround
 pub mod JointOld
 pub mod JointRounds
 pub mod JointSetup
 pub mod JointCovers
 pub mod JointMembers
 pub mod JointSetting
+pub mod JointSides
 pub mod JointFound
 pub mod JointCalls
 pub mod JointList

@@ -21,10 +21,6 @@ pub(crate) struct Agent<'t> {
         perms_kept process.now (OnDir dir) ≡ None },
     /// Its place in the crew.
     pub(crate) place: usize,
-    /// The row of where it can put directories.
-    pub(crate) landing: usize,
-    /// The row of where it can put other things.
-    pub(crate) drops: usize,
     /// Whether it has a veil at a name.
     pub(crate) named: bool,
     /// Whether it may take a name away.

@@ -14,6 +14,7 @@ ghost use Rattle.pua_jointly.specs.JointWords.{carrying as carrying_of, making a
 
 use crate::agent::Agent;
 use crate::doing::{COUNT, cover_at};
+use crate::mover::Mover;
 use crate::shape::Shape;
 use crate::words::has;
 use pua_calls::{CallTable, Calls};
@@ -186,6 +187,23 @@ pub(crate) struct Watch {
     pub(crate) column: usize,
 }
 
+/// What stands on a device, and what processes do there.
+#[derive(Drop)]
+pub(crate) struct Side<'t> {
+    /// The device.
+    pub(crate) device: NodeId,
+    /// How many processes on other devices come before those on this one.
+    pub(crate) first: usize,
+    /// The processes on the device.
+    pub(crate) movers: Vec<Mover>,
+    /// The rows of its directories, and of those that each process makes there.
+    pub(crate) seats: Vec<usize>,
+    /// The names with veils.
+    pub(crate) marks: Vec<Mark<'t>>,
+    /// The watched directories.
+    pub(crate) watches: Vec<Watch>,
+}
+
 /// What the facts of a crew are found by.
 #[derive(Drop)]
 pub(crate) struct Crew<'t> {
@@ -193,16 +211,14 @@ pub(crate) struct Crew<'t> {
     pub(crate) shape: Shape,
     /// How many words a row has.
     pub(crate) columns: usize,
-    /// The row of what each process can make.
-    pub(crate) makers: usize,
     /// The processes.
     pub(crate) agents: Vec<Agent<'t>>,
-    /// The rows of directories, and of what each process makes.
-    pub(crate) seats: Vec<usize>,
+    /// The devices.
+    pub(crate) sides: Vec<Side<'t>>,
+    /// The device of each directory, by its number.
+    pub(crate) devices: Vec<NodeId>,
     /// The names at which something stands.
     pub(crate) entries: Vec<Entry<'t>>,
-    /// The names with veils.
-    pub(crate) marks: Vec<Mark<'t>>,
     /// The watched directories.
     pub(crate) watches: Vec<Watch>,
     /// The column of each directory that is watched, by its number.

@@ -3,16 +3,18 @@
 ghost use Rattle.std.specs.Prelude.{◌≡◌, ◌<◌, ◌||◌, ◌&&◌, ◌==◌, ℕ, false, get_or, length, not, IfOk};
 ghost use Rattle.std.specs.List.{list_any};
 ghost use Rattle.pua_ever.specs.EverLines.{new_of};
-ghost use Rattle.pua_jointly.specs.JointFound.{born_in, carried_by, carried_covers, entry_word, made_in};
-ghost use Rattle.pua_jointly.specs.JointFound.{AreMarked, made_words, new_covers, seat_carried};
+ghost use Rattle.pua_jointly.specs.JointFound.{born_in, born_on, carried_by, carried_covers};
+ghost use Rattle.pua_jointly.specs.JointFound.{AreMarked, entry_word, made_in, made_on};
+ghost use Rattle.pua_jointly.specs.JointFound.{made_words, new_covers};
 ghost use Rattle.pua_jointly.specs.JointFound.{turned_by, turns, turns_in};
 ghost use Rattle.pua_jointly.specs.JointRounds.{is_taken, stays_in};
 ghost use Rattle.pua_jointly.specs.JointWords.{covers_in, word_at};
 
 use crate::agent::Agent;
-use crate::crew::{Crew, Entry};
+use crate::crew::{Crew, Entry, Side};
 use crate::made::made_bit;
 use crate::marks::{is_marked, mark, no_marks};
+use crate::mover::Mover;
 use crate::old::over;
 use crate::rounds::{CARRIES, GOES};
 use crate::words::{covers_at, does_meet, has, word};
@@ -53,43 +55,52 @@ impl Facts<'_> {
         ensures { result ≡ made_words self.now.crew self.now.told.items of.now }
     {
         self.crew
-            .seats
+            .sides
             .iter()
-            .fold(0, |word, seat| word | self.on_made_seat(of, *seat))
+            .fold(0, |word, side| word | self.on_side(of, side))
     }
 
-    /// Those of one row, if it is of what a process makes.
-    fn on_made_seat(&self, of: &Agent<'_>, seat: usize) -> u32
-        ensures { result ≡ made_in self.now.crew self.now.told.items of.now seat }
+    /// Those over what is made on a device.
+    fn on_side(&self, of: &Agent<'_>, side: &Side<'_>) -> u32
+        ensures { result ≡ made_on self.now.crew self.now.told.items of.now side.now }
     {
-        if (self.crew.shape.last as usize) < seat {
-            covers_at(&self.told, self.crew.columns, seat, of.place)
-        } else {
-            0
-        }
+        side.movers
+            .iter()
+            .fold(0, |word, maker| word | self.on_made_by(of, maker))
+    }
+
+    /// Those over what one of the processes makes there.
+    fn on_made_by(&self, of: &Agent<'_>, maker: &Mover) -> u32
+        ensures { result ≡ made_in self.now.crew self.now.told.items of.now maker.now }
+    {
+        covers_at(&self.told, self.crew.columns, maker.made, of.place)
     }
 
     /// Those that can come over what stands at a name and is no directory.
     pub(crate) fn on_entry(&self, of: &Agent<'_>, entry: &Entry<'_>) -> u32
         ensures { result ≡ entry_word self.now.crew self.now.told.items of.now entry.now }
     {
-        over(&self.told, self.crew.columns, of, entry.dir, entry.name)
-            | self.carried(of, entry.row, GOES)
+        let carried = match self.crew.dir_side(entry.dir) {
+            Some(side) => self.carried(of, entry.row, GOES, side),
+            None => 0,
+        };
+        over(&self.told, self.crew.columns, of, entry.dir, entry.name) | carried
     }
 
-    /// Those under which others put what they can carry, by the row and the bit that say so.
-    fn carried(&self, of: &Agent<'_>, row: usize, bit: u32) -> u32
+    /// Those under which others put what they can carry on a device, by the row and the bit that say
+    /// so.
+    fn carried(&self, of: &Agent<'_>, row: usize, bit: u32, side: &Side<'_>) -> u32
         requires { bit < 32 }
-        ensures { result ≡ carried_covers self.now.crew self.now.told.items of.now row bit }
+        ensures { result
+            ≡ carried_covers self.now.crew self.now.told.items of.now row bit side.now }
     {
-        self.crew
-            .agents
+        side.movers
             .iter()
             .fold(0, |word, by| word | self.carried_by(of, row, bit, by))
     }
 
     /// Those under which one of them puts it.
-    fn carried_by(&self, of: &Agent<'_>, row: usize, bit: u32, by: &Agent<'_>) -> u32
+    fn carried_by(&self, of: &Agent<'_>, row: usize, bit: u32, by: &Mover) -> u32
         requires { bit < 32 }
         ensures { result ≡ carried_by self.now.crew self.now.told.items of.now row bit by.now }
     {
@@ -104,43 +115,35 @@ impl Facts<'_> {
     pub(crate) fn on_made(&self, of: &Agent<'_>, made: Made) -> u32
         ensures { result ≡ new_covers self.now.crew self.now.told.items of.now (new_of made) }
     {
-        let born = self
-            .crew
-            .agents
+        self.crew
+            .sides
             .iter()
-            .fold(0, |word, by| word | self.born_by(of, made, by));
-        let moved = self
-            .crew
-            .seats
-            .iter()
-            .fold(0, |word, seat| word | self.moved_in(of, made, *seat));
-        born | moved
+            .fold(0, |word, side| word | self.born_on(of, made, side))
     }
 
-    /// Those under which a process puts what it makes.
-    fn born_by(&self, of: &Agent<'_>, made: Made, by: &Agent<'_>) -> u32
-        ensures { result ≡ born_in self.now.crew self.now.told.items of.now (new_of made) by.now }
-    {
-        if has(
-            word(&self.told, self.crew.columns, self.crew.makers, by.place),
-            made_bit(made),
-        ) {
-            covers_at(&self.told, self.crew.columns, by.drops, of.place)
-        } else {
-            0
-        }
-    }
-
-    /// Those under which others put what the process of a row makes, if it is such a row.
-    fn moved_in(&self, of: &Agent<'_>, made: Made, seat: usize) -> u32
+    /// Those over what is made on a device.
+    fn born_on(&self, of: &Agent<'_>, made: Made, side: &Side<'_>) -> u32
         ensures { result
-            ≡ seat_carried self.now.crew self.now.told.items of.now (new_of made) seat }
+            ≡ born_on self.now.crew self.now.told.items of.now (new_of made) side.now }
     {
-        if (self.crew.shape.last as usize) < seat {
-            self.carried(of, seat, CARRIES + made_bit(made))
+        side.movers
+            .iter()
+            .fold(0, |word, by| word | self.born_by(of, made, side, by))
+    }
+
+    /// Those under which a process puts what it makes there, and under which others put that.
+    fn born_by(&self, of: &Agent<'_>, made: Made, side: &Side<'_>, by: &Mover) -> u32
+        ensures { result
+            ≡ born_in self.now.crew self.now.told.items of.now (new_of made) side.now by.now }
+    {
+        let columns = self.crew.columns;
+        let makes = word(&self.told, columns, by.drops, self.crew.shape.agents);
+        let born = if has(makes, made_bit(made)) {
+            covers_at(&self.told, columns, by.drops, of.place)
         } else {
             0
-        }
+        };
+        born | self.carried(of, by.made, CARRIES + made_bit(made), side)
     }
 
     /// Whether all that stands in a directory can be taken away.
@@ -192,7 +195,8 @@ impl Facts<'_> {
         count: usize,
     ) -> Result<(Vec<bool>, Vec<bool>), AllocError>
         ensures held { IfOk result (λ both.
-            AreMarked (stays_in self.now.crew self.now.told.items) entries.now count both.0.items) }
+            AreMarked (stays_in self.now.crew.columns self.now.crew.shape.agents self.now.told.items)
+            entries.now count both.0.items) }
         ensures turned { IfOk result (λ both. AreMarked
             (turns_in self.now.crew self.now.told.items) entries.now count both.1.items) }
     {

@@ -87,13 +87,8 @@ pub(crate) fn facts_of<'t, T: FileTree>(
         crew: &crew,
         standing: &standing,
     };
-    let told = close(
-        alloc,
-        &rounds,
-        rows,
-        last + 1,
-        crew.makers.saturating_add(1),
-    )?;
+    let names = rows.saturating_sub(crew.entries.len());
+    let told = close(alloc, &rounds, rows, last + 1, names)?;
     let mut facts = Facts {
         crew,
         told,
@@ -108,10 +103,15 @@ pub(crate) fn facts_of<'t, T: FileTree>(
 
 /// How many rows the table of a crew has, if they can be numbered.
 fn row_count(crew: &Crew<'_>) -> Option<usize>
-    ensures { IfSome result (λ count. count
-        ≡ crew.now.makers + 1 + length crew.now.entries.items) }
+    ensures { IfSome result (λ count. count ≡ (crew.now.shape.last + 1)
+        + (crew.now.shape.hands + (crew.now.shape.hands + (crew.now.shape.hands
+        + length crew.now.entries.items)))) }
 {
-    crew.makers.checked_add(1)?.checked_add(crew.entries.len())
+    let hands = crew.shape.hands;
+    let names = hands.checked_add(crew.entries.len())?;
+    let drops = hands.checked_add(names)?;
+    let landing = hands.checked_add(drops)?;
+    landing.checked_add(crew.shape.last as usize + 1)
 }
 
 /// Which numbers up to a last one are those of directories. The only error is that a growth was
@@ -185,28 +185,27 @@ impl<T: FileTree> Steps for Rounds<'_, '_, T> {
                 }
             }
             Row::Made(_) | Row::Landing(_) => crew.columns,
-            Row::Drops(_) | Row::Makers => crew.shape.agents,
-            Row::Name(_) => crew.shape.agents + 1,
+            Row::Drops(_) | Row::Name(_) => crew.shape.agents + 1,
         }
     }
 
     fn at_once(&self, told: &[u32], at: usize) -> u32 {
         let crew = self.crew;
         let row = at / crew.columns;
-        let part = at % crew.columns;
-        crew.at_once(told, crew.shape.row(row), crew.shape.part(part))
+        let column = at % crew.columns;
+        crew.at_once(told, crew.shape.row(row), crew.shape.part(column))
     }
 
     fn next(&self, told: &[u32], at: usize) -> u32 {
         let crew = self.crew;
         let row = at / crew.columns;
-        let part = at % crew.columns;
+        let column = at % crew.columns;
         crew.part(
             self.tree,
             told,
             row,
             crew.shape.row(row),
-            crew.shape.part(part),
+            crew.shape.part(column),
         )
     }
 }

@@ -15,6 +15,7 @@ mod laws;
 mod made;
 mod marks;
 mod members;
+mod mover;
 mod old;
 mod rounds;
 mod setup;

@@ -1,28 +1,31 @@
 //! What is worked out of several processes and a tree before their facts are found.
 
-ghost use Rattle.std.specs.Prelude.{◌≡◌, ◌≢◌, ◌<◌, ◌+◌, ◌^◌, ◌||◌, ℕ, List, Some, None, map, length};
+ghost use Rattle.std.specs.Prelude.{◌≡◌, ◌≢◌, ◌<◌, ◌≤◌, ◌*◌, ◌+◌, ◌==◌, ◌^◌, ◌||◌, ℕ, List, Some, None, map, length};
 ghost use Rattle.std.specs.Prelude.{false, get_or, slice_get};
-ghost use Rattle.std.specs.Prelude.{IfOk, IfSome, MatchOption};
-ghost use Rattle.std.specs.List.{fold, list_any};
+ghost use Rattle.std.specs.Prelude.{IfOk, IfSome, MatchOption, filter};
+ghost use Rattle.std.specs.List.{Contains, fold, list_any};
 ghost use Rattle.pua_tree.specs.LentRows.{lent_entry};
-ghost use Rattle.pua_tree.specs.Tree.{WellFormed, kind_at};
+ghost use Rattle.pua_tree.specs.Tree.{WellFormed, device, kind_at};
 ghost use Rattle.pua_policy.specs.States.{ProcessState, perms_kept};
 ghost use Rattle.pua_ever.specs.Laws.{dir_of_place};
 ghost use Rattle.pua_jointly.specs.Jointly.{can_send, sets_received};
 ghost use Rattle.pua_jointly.specs.JointMembers.{Each, SameMembers, states, veil_now};
 ghost use Rattle.pua_jointly.specs.JointSetting.{AreInOrder, AreMarksOf, IsEntryAt};
 ghost use Rattle.pua_jointly.specs.JointSetting.{IsMarkOf, IsRowIn, is_on};
-ghost use Rattle.pua_jointly.specs.JointSetting.{AreAgentRows, IsSize, entry_of, greater as greater_of};
+ghost use Rattle.pua_jointly.specs.JointPlace.{Once};
+ghost use Rattle.pua_jointly.specs.JointSetting.{AreDevices, IsShape, IsSize, entry_of, greater as greater_of};
+ghost use Rattle.pua_jointly.specs.JointSides.{IsMoverOf, IsPart, IsPartOn, is_on_device, is_seat_on};
 ghost use Rattle.pua_jointly.specs.JointSetting.{mark_spot, row_number, veil_number};
 ghost use Rattle.pua_jointly.specs.JointSetup.{IsWorkedOut, crew_told};
 ghost use Rattle.pua_jointly.specs.JointTable.{numbers};
 ghost use Rattle.pua_jointly.specs.JointWords.{IsAgent, has_named, is_name};
 
 use crate::agent::Agent;
-use crate::crew::{Crew, Entry, Mark, Watch, entry_at};
+use crate::crew::{Crew, Entry, Mark, Side, Watch, entry_at};
 use crate::doing::{Doing, calls_by_cover, covers_for, may_take};
 use crate::marks::{mark, no_marks};
 use crate::members::{all_veils, distinct, know_perms};
+use crate::mover::Mover;
 use crate::shape::Shape;
 use crate::size::Size;
 use crate::watching::find_watches;
@@ -49,30 +52,36 @@ pub(crate) fn work_out<'t, T: FileTree>(
     let veils = all_veils(alloc, &members)?;
     know_perms(&veils);
     let rows = tree.rows(alloc)?;
-    let shape = Shape {
-        agents: members.len(),
-        last: last_number(&rows, &veils),
+    let last = last_number(&rows, &veils);
+    let devices = devices_to(alloc, tree, last)?;
+    let kinds = distinct_devices(alloc, &devices)?;
+    let (watches, watch_columns) = find_watches(alloc, tree, &members, last, &veils)?;
+    let Some(shape) = shape_of(members.len(), kinds.len(), last) else {
+        return Err(OutOfMemory);
     };
-    let (watches, watch_columns) = find_watches(alloc, tree, &members, shape.last, &veils)?;
     let Some(size) = size_of(shape, rows.len(), watches.len()) else {
         return Err(OutOfMemory);
     };
-    let crew = Members {
-        processes: &members,
-        size,
-    };
-    let agents = ask_agents(alloc, &crew, table)?;
+    let agents = ask_agents(alloc, &members, table, last)?;
     let entries = find_entries(alloc, tree, &rows, size)?;
     let marks = find_marks(alloc, tree, &entries, &veils)?;
     let seats = all_seats(alloc, size)?;
+    let parts = Parts {
+        size,
+        agents: &agents,
+        devices: &devices,
+        seats: &seats,
+        marks: &marks,
+        watches: &watches,
+    };
+    let sides = find_sides(alloc, &kinds, &parts)?;
     Ok(Crew {
         shape,
         columns: size.columns,
-        makers: size.makers,
         agents,
-        seats,
+        sides,
+        devices,
         entries,
-        marks,
         watches,
         watch_columns,
     })
@@ -113,20 +122,87 @@ fn greater(one: u32, other: u32) -> u32
     if one < other { other } else { one }
 }
 
+/// The devices of the directories up to a number. The only error is that a growth was refused.
+fn devices_to<T: FileTree>(alloc: Global, tree: &T, last: u32) -> Result<Vec<NodeId>, AllocError>
+    ensures { IfOk result (λ devices.
+        AreDevices (T.content tree.now) (last + 1) devices.items) }
+{
+    let mut devices = Vec::new(alloc);
+    for number in 0..last as usize + 1 {
+        let dir = NodeId::new(number as u32);
+        let device = device_by(tree, devices.as_slice(), dir);
+        devices.push(device)?;
+    }
+    Ok(devices)
+}
+
+/// The device of a directory, by those of the numbers before: a directory above it mostly has one
+/// of these.
+fn device_by<T: FileTree>(tree: &T, before: &[NodeId], dir: NodeId) -> NodeId
+    ensures { (count : ℕ) → AreDevices (T.content tree.now) count before.now →
+        result ≡ device (T.content tree.now) dir }
+{
+    tree.known();
+    let Some(parent) = tree.parent(dir) else {
+        return NodeId::ROOT;
+    };
+    if tree.is_mount(dir) {
+        return dir;
+    }
+    match before.get(parent.number() as usize) {
+        Some(device) => *device,
+        None => tree.device(dir),
+    }
+}
+
+/// These devices, each once. The only error is that a growth was refused.
+fn distinct_devices(alloc: Global, devices: &[NodeId]) -> Result<Vec<NodeId>, AllocError>
+    ensures once { IfOk result (λ kinds. Once kinds.items) }
+    ensures all { IfOk result (λ kinds. (device : ℕ) → Contains devices.now device →
+        Contains kinds.items device) }
+{
+    let mut kinds = Vec::new(alloc);
+    for device in devices {
+        if !is_among(&kinds, *device) {
+            kinds.push(*device)?;
+        }
+    }
+    Ok(kinds)
+}
+
+/// Whether a device is one of these.
+fn is_among(kinds: &[NodeId], device: NodeId) -> bool
+    ensures { result ≡ list_any (λ kind. kind == device) kinds.now }
+{
+    kinds.iter().any(|kind| *kind == device)
+}
+
+/// How much the table is of, if all rows can be numbered.
+fn shape_of(agents: usize, devices: usize, last: u32) -> Option<Shape>
+    ensures { IfSome result (IsShape agents devices last) }
+{
+    let hands = agents.checked_mul(devices)?;
+    Some(Shape {
+        agents,
+        hands,
+        last,
+    })
+}
+
 /// How many words a row has, and where rows are, if all can be numbered.
 fn size_of(shape: Shape, names: usize, watched: usize) -> Option<Size>
     ensures { IfSome result (IsSize shape names watched) }
 {
     let columns = shape.agents.checked_add(1)?.checked_add(watched)?;
-    let seats = shape.agents.checked_add(shape.last as usize + 1)?;
-    let drops = seats.checked_add(shape.agents)?;
-    let makers = drops.checked_add(shape.agents)?;
-    let _names = makers.checked_add(1)?.checked_add(names)?;
+    let seats = shape.hands.checked_add(shape.last as usize + 1)?;
+    let drops = seats.checked_add(shape.hands)?;
+    let first = drops.checked_add(shape.hands)?;
+    let _names = first.checked_add(names)?;
     Some(Size {
         shape,
         columns,
         seats,
-        makers,
+        names: first,
     })
 }
 
@@ -152,64 +228,41 @@ fn can_send(process: &Process, table: &CallTable) -> bool
     !table.alternatives(Call::Fchmod).is_empty() && process.held().contains(Promises::SENDFD)
 }
 
-/// Processes, and the size of a table of as many.
-#[derive(Clone, Copy)]
-struct Members<'m, 't> {
-    processes: &'m [&'t Process],
-    size: Size,
-    ghost as_many: { length processes.now ≡ size.shape.agents },
-}
-
-/// Where a process is among those of a crew, and the rows of where it can put directories and other
-/// things.
-#[derive(Clone, Copy)]
-struct AgentRows {
-    place: usize,
-    landing: usize,
-    drops: usize,
-}
-
-/// What is asked of each process. The only error is that a growth was refused.
+/// What is asked of each process, by the greatest number of a directory. The only error is that a
+/// growth was refused.
 fn ask_agents<'t>(
     alloc: Global,
-    members: &Members<'_, 't>,
+    processes: &[&'t Process],
     table: &CallTable,
+    last: u32,
 ) -> Result<Vec<Agent<'t>>, OutOfMemory>
     ensures crew { IfOk result (λ agents. map (λ agent. agent.process.now) agents.items
-        ≡ states members.now.processes.now) }
-    ensures each { IfOk result (λ agents. let crew = states members.now.processes.now in
-        Each (λ i agent. IsAgent table.now (members.now.size.shape.last + 1) crew i
-        agent.process.now agent) agents.items) }
+        ≡ states processes.now) }
+    ensures each { IfOk result (λ agents. let crew = states processes.now in
+        Each (λ i agent. IsAgent table.now crew i agent.process.now agent) agents.items) }
 {
-    let (processes, size) = (members.processes, members.size);
-    let last = size.shape.last;
     let received = is_some_setter(processes);
     let mut agents = Vec::new(alloc);
     for (place, process) in processes.iter().enumerate() {
-        let rows = AgentRows {
-            place,
-            landing: size.seats + place,
-            drops: size.seats + size.shape.agents + place,
-        };
-        let agent = ask_agent(alloc, process, table, rows, last, received)?;
+        let agent = ask_agent(alloc, process, table, place, last, received)?;
         agents.push(agent)?;
     }
     Ok(agents)
 }
 
-/// What is asked of the process with these rows, by the greatest number of a directory, and whether
-/// one of the crew sets the mode of what it is sent. The only error is that a growth was refused.
+/// What is asked of the process at a place, by the greatest number of a directory, and whether one
+/// of the crew sets the mode of what it is sent. The only error is that a growth was refused.
 fn ask_agent<'t>(
     alloc: Global,
     process: &'t Process,
     table: &CallTable,
-    rows: AgentRows,
+    place: usize,
     last: u32,
     received: bool,
 ) -> Result<Agent<'t>, OutOfMemory>
-    ensures is { IfOk result (λ agent. (dirs : ℕ) (crew : List ProcessState) →
-        AreAgentRows dirs crew rows → list_any sets_received crew ≡ received →
-        IsAgent table.now dirs crew rows.place process.now agent) }
+    ensures is { IfOk result (λ agent. (crew : List ProcessState) →
+        list_any sets_received crew ≡ received →
+        IsAgent table.now crew place process.now agent) }
     ensures process { IfOk result (λ agent. agent.process.now ≡ process.now) }
 {
     let sends = can_send(process, table) && received;
@@ -221,9 +274,7 @@ fn ask_agent<'t>(
     Ok(Agent {
         process,
         veiled,
-        place: rows.place,
-        landing: rows.landing,
-        drops: rows.drops,
+        place,
         named,
         may_take: may_take(process, table),
         moving: covers_for(process, table, Doing::Moving),
@@ -238,6 +289,194 @@ fn ask_agent<'t>(
         turned,
         calls,
     })
+}
+
+/// All of which each device has its part, and the devices of directories by their numbers.
+#[derive(Clone, Copy)]
+struct Parts<'p, 't> {
+    size: Size,
+    agents: &'p [Agent<'t>],
+    devices: &'p [NodeId],
+    seats: &'p [usize],
+    marks: &'p [Mark<'t>],
+    watches: &'p [Watch],
+}
+
+/// What stands on each of some devices. The only error is that a growth was refused.
+fn find_sides<'t>(
+    alloc: Global,
+    kinds: &[NodeId],
+    parts: &Parts<'_, 't>,
+) -> Result<Vec<Side<'t>>, AllocError>
+    requires { length kinds.now * length parts.now.agents.now ≤ parts.now.size.shape.hands }
+    ensures devices { IfOk result (λ sides. map (λ side. side.device) sides.items ≡ kinds.now) }
+    ensures each { IfOk result (λ sides. Each (IsPart parts.now) sides.items) }
+{
+    let agents = parts.agents.len();
+    let mut sides = Vec::new(alloc);
+    for (place, device) in kinds.iter().enumerate() {
+        let Some(first) = place.checked_mul(agents) else {
+            return Err(AllocError);
+        };
+        let side = side_on(alloc, *device, first, parts)?;
+        sides.push(side)?;
+    }
+    Ok(sides)
+}
+
+/// What stands on a device, by the number of the processes on those before it. The only error is
+/// that a growth was refused.
+fn side_on<'t>(
+    alloc: Global,
+    device: NodeId,
+    first: usize,
+    parts: &Parts<'_, 't>,
+) -> Result<Side<'t>, AllocError>
+    requires { first + length parts.now.agents.now ≤ parts.now.size.shape.hands }
+    ensures device { IfOk result (λ side. side.device ≡ device) }
+    ensures first { IfOk result (λ side. side.first ≡ first) }
+    ensures part { IfOk result (IsPartOn parts.now) }
+{
+    let movers = find_movers(alloc, parts.agents, parts.size, first)?;
+    let seats = seats_on(alloc, parts.seats, parts, device, first)?;
+    let marks = marks_on(alloc, parts.marks, parts.devices, device)?;
+    let watches = watches_on(alloc, parts.watches, parts.devices, device)?;
+    Ok(Side {
+        device,
+        first,
+        movers,
+        seats,
+        marks,
+        watches,
+    })
+}
+
+/// The rows of the directories of a device, and of what each process makes there. The only error is
+/// that a growth was refused.
+fn seats_on(
+    alloc: Global,
+    seats: &[usize],
+    parts: &Parts<'_, '_>,
+    device: NodeId,
+    first: usize,
+) -> Result<Vec<usize>, AllocError>
+    ensures { IfOk result (λ kept. kept.items ≡ filter
+        (is_seat_on (parts.now.size.shape.last + 1) parts.now.devices.now device first
+        (length parts.now.agents.now)) seats.now) }
+{
+    let mut kept = Vec::new(alloc);
+    for seat in seats {
+        if is_seat_on(parts, device, first, *seat) {
+            kept.push(*seat)?;
+        }
+    }
+    Ok(kept)
+}
+
+/// The names with veils that are on a device. The only error is that a growth was refused.
+fn marks_on<'t>(
+    alloc: Global,
+    marks: &[Mark<'t>],
+    devices: &[NodeId],
+    device: NodeId,
+) -> Result<Vec<Mark<'t>>, AllocError>
+    ensures { IfOk result (λ kept. kept.items ≡ filter
+        (λ mark. is_on_device devices.now device mark.dir) marks.now) }
+{
+    let mut kept = Vec::new(alloc);
+    for mark in marks {
+        if is_on_device(devices, mark.dir, device) {
+            let Ok(()) = kept.push(Mark {
+                dir: mark.dir,
+                name: mark.name,
+                row: mark.row,
+            }) else {
+                return Err(AllocError);
+            };
+        }
+    }
+    Ok(kept)
+}
+
+/// The watched directories that are on a device. The only error is that a growth was refused.
+fn watches_on(
+    alloc: Global,
+    watches: &[Watch],
+    devices: &[NodeId],
+    device: NodeId,
+) -> Result<Vec<Watch>, AllocError>
+    ensures { IfOk result (λ kept. kept.items ≡ filter
+        (λ watch. is_on_device devices.now device watch.dir) watches.now) }
+{
+    let mut kept = Vec::new(alloc);
+    for watch in watches {
+        if is_on_device(devices, watch.dir, device) {
+            kept.push(*watch)?;
+        }
+    }
+    Ok(kept)
+}
+
+/// What the processes move on a device, by the number of them on those before it. The only error is
+/// that a growth was refused.
+fn find_movers(
+    alloc: Global,
+    agents: &[Agent<'_>],
+    size: Size,
+    first: usize,
+) -> Result<Vec<Mover>, AllocError>
+    requires { first + length agents.now ≤ size.shape.hands }
+    ensures many { IfOk result (λ movers. length movers.items ≡ length agents.now) }
+    ensures each { IfOk result (λ movers. Each (λ i mover. IsMoverOf agents.now (size.shape.last + 1)
+        size.shape.hands first i mover) movers.items) }
+{
+    let mut movers = Vec::new(alloc);
+    for (place, agent) in agents.iter().enumerate() {
+        movers.push(mover(agent, size, first + place))?;
+    }
+    Ok(movers)
+}
+
+/// What one of them moves there, by the number of its hand.
+fn mover(agent: &Agent<'_>, size: Size, hand: usize) -> Mover
+    requires { hand < size.shape.hands }
+    ensures place { result.place ≡ agent.now.place }
+    ensures moving { result.moving ≡ agent.now.moving }
+    ensures made { result.made ≡ (size.shape.last + 1) + hand }
+    ensures landing { result.landing ≡ (size.shape.last + 1) + (size.shape.hands + hand) }
+    ensures drops { result.drops
+        ≡ (size.shape.last + 1) + (size.shape.hands + (size.shape.hands + hand)) }
+{
+    Mover {
+        place: agent.place,
+        moving: agent.moving,
+        made: size.shape.last as usize + 1 + hand,
+        landing: size.seats + hand,
+        drops: size.seats + size.shape.hands + hand,
+    }
+}
+
+/// Whether a row is of a directory of a device, or of what a process makes there.
+fn is_seat_on(parts: &Parts<'_, '_>, device: NodeId, first: usize, seat: usize) -> bool
+    ensures { result ≡ is_seat_on (parts.now.size.shape.last + 1) parts.now.devices.now device
+        first (length parts.now.agents.now) seat }
+{
+    let last = parts.size.shape.last as usize;
+    if seat <= last {
+        return is_on_device(parts.devices, NodeId::new(seat as u32), device);
+    }
+    let hand = seat - last - 1;
+    first <= hand && hand - first < parts.agents.len()
+}
+
+/// Whether a directory is on a device.
+fn is_on_device(devices: &[NodeId], dir: NodeId, device: NodeId) -> bool
+    ensures { result ≡ is_on_device devices.now device dir }
+{
+    match devices.get(dir.number() as usize) {
+        Some(on) => *on == device,
+        None => false,
+    }
 }
 
 /// Whether a process has a veil on a directory, by the numbers below this one. The only error is
@@ -315,16 +554,16 @@ fn find_entries<'t, T: FileTree>(
     size: Size,
 ) -> Result<Vec<Entry<'t>>, AllocError>
     requires rows { map lent_entry rows.now ≡ (T.content tree.now).rows }
-    requires room { size.makers + 1 + length rows.now < 2 ^ 64 }
+    requires room { size.names + length rows.now < 2 ^ 64 }
     requires tree { WellFormed (T.content tree.now) }
     ensures rows { IfOk result (λ entries.
         map entry_of entries.items ≡ map (λ row. row.0) (T.content tree.now).rows) }
     ensures each { IfOk result (λ entries.
-        Each (IsEntryAt (T.content tree.now) (size.makers + 1)) entries.items) }
+        Each (IsEntryAt (T.content tree.now) size.names) entries.items) }
 {
     let mut entries = Vec::new(alloc);
     for (place, row) in rows.iter().enumerate() {
-        let entry = entry(tree, row, size.makers + 1 + place);
+        let entry = entry(tree, row, size.names + place);
         let Ok(()) = entries.push(entry) else {
             return Err(AllocError);
         };

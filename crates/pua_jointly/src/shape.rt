@@ -3,19 +3,22 @@
 ghost use Rattle.std.specs.Prelude.{◌≡◌, ◌+◌, ℕ, List, length, slice_get};
 ghost use Rattle.pua_tree.specs.Tree.{Spot};
 ghost use Rattle.pua_policy.specs.States.{ProcessState};
+ghost use Rattle.pua_jointly.specs.Jointly.{Hand};
 ghost use Rattle.pua_jointly.specs.JointTable.{columns, entities};
 ghost use Rattle.pua_jointly.specs.JointShape.{column_of, entity_of};
 
 use pua_tree::NodeId;
 
 /// How much the table of a crew is of. It has a row for each number that a directory can have, for
-/// what each process makes, for where each can put directories and other things, one for what all
-/// can make, and one for each name at which something stands. A row has a word for each process,
-/// one for all of them, and one for each watched directory.
+/// what each process makes on each device, for where each can put directories and other things of a
+/// device, and one for each name at which something stands. A row has a word for each process, one
+/// for all of them, and one for each watched directory.
 #[derive(Clone, Copy)]
 pub(crate) struct Shape {
     /// How many processes.
     pub(crate) agents: usize,
+    /// How many of them on all devices.
+    pub(crate) hands: usize,
     /// The greatest number of a directory.
     pub(crate) last: u32,
 }
@@ -25,14 +28,12 @@ pub(crate) struct Shape {
 pub(crate) enum Row {
     /// The directory with this number.
     Dir(NodeId),
-    /// What this process makes.
+    /// What this process makes on its device.
     Made(usize),
-    /// Where this process can put directories.
+    /// Where this process can put directories of its device.
     Landing(usize),
-    /// Where this process can put other things.
+    /// Where this process can put other things of its device, and what it can make there.
     Drops(usize),
-    /// What each process can make.
-    Makers,
     /// This one of the names at which something stands.
     Name(usize),
 }
@@ -51,8 +52,8 @@ pub(crate) enum Part {
 impl Shape {
     /// What the row at a place is about.
     pub(crate) fn row(self, place: usize) -> Row
-        ensures { (crew : List ProcessState) (spots : List Spot) → length crew ≡ self.agents →
-            slice_get (entities crew (self.last + 1) spots) place ≡ entity_of crew spots result }
+        ensures { (hands : List Hand) (spots : List Spot) → length hands ≡ self.hands →
+            slice_get (entities hands (self.last + 1) spots) place ≡ entity_of hands spots result }
     {
         let last = self.last as usize;
         if place <= last {
@@ -63,25 +64,22 @@ impl Shape {
 
     /// The same, by the place after the rows of directories.
     fn row_after_dirs(self, place: usize) -> Row
-        ensures { (crew : List ProcessState) (spots : List Spot) → length crew ≡ self.agents →
-            slice_get (entities crew (self.last + 1) spots) (self.last + 1 + place)
-            ≡ entity_of crew spots result }
+        ensures { (hands : List Hand) (spots : List Spot) → length hands ≡ self.hands →
+            slice_get (entities hands (self.last + 1) spots) (self.last + 1 + place)
+            ≡ entity_of hands spots result }
     {
-        if place < self.agents {
+        if place < self.hands {
             return Row::Made(place);
         }
-        let landing = place - self.agents;
-        if landing < self.agents {
+        let landing = place - self.hands;
+        if landing < self.hands {
             return Row::Landing(landing);
         }
-        let drops = landing - self.agents;
-        if drops < self.agents {
+        let drops = landing - self.hands;
+        if drops < self.hands {
             return Row::Drops(drops);
         }
-        match (drops - self.agents).checked_sub(1) {
-            Some(name) => Row::Name(name),
-            None => Row::Makers,
-        }
+        Row::Name(drops - self.hands)
     }
 
     /// What the word at a place of a row is about.

@@ -13,8 +13,8 @@ pub(crate) struct Size {
     pub(crate) columns: usize,
     /// The row after those of directories and of what each process makes.
     pub(crate) seats: usize,
-    /// The row of what each process can make.
-    pub(crate) makers: usize,
-    ghost after_made: { seats ≡ (shape.last + 1) + shape.agents },
-    ghost after_drops: { makers ≡ seats + (shape.agents + shape.agents) },
+    /// The row after those of where each can put things: that of the first name.
+    pub(crate) names: usize,
+    ghost after_made: { seats ≡ (shape.last + 1) + shape.hands },
+    ghost after_drops: { names ≡ seats + (shape.hands + shape.hands) },
 }

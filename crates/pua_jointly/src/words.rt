@@ -9,7 +9,7 @@ ghost use Rattle.pua_jointly.specs.JointWords.{dropped_word, landed_at, landing_
 ghost use Rattle.pua_jointly.specs.JointWords.{meets, moved_at, moved_word, moves_at};
 ghost use Rattle.pua_jointly.specs.JointWords.{some_meets, word_at};
 
-use crate::agent::Agent;
+use crate::mover::Mover;
 
 /// Which bits of a word are covers.
 const COVERS: u32 = 0x3_ffff;
@@ -23,30 +23,30 @@ pub(crate) const ENTERS: u32 = 18;
 /// The bit of a directory's word by which a watched one is neither it nor above it.
 pub(crate) const CLEAR: u32 = 0;
 
-/// The bit of a process's word by which it can make directories.
+/// The bit of what is so of all by which a process can make directories.
 const MAKES: u32 = 0;
 
-/// The covers by the veils of one process of the directories that another one makes, by the rows of
-/// what each can make and of what that one makes.
+/// The covers by the veils of one process of the directories that another one makes, by the column of
+/// what is so of all and the row of what that one makes.
 pub(crate) fn made(
     told: &[u32],
     columns: usize,
-    agents: &[Agent<'_>],
-    makers: usize,
+    movers: &[Mover],
+    common: usize,
     seat: usize,
-    maker: &Agent<'_>,
+    maker: &Mover,
     of: usize,
 ) -> u32
-    ensures { result ≡ made_word told.now columns agents.now makers seat maker.now of }
+    ensures { result ≡ made_word told.now columns movers.now common seat maker.now of }
 {
-    moved(told, columns, agents, seat, of) | born(told, columns, makers, maker, of)
+    moved(told, columns, movers, seat, of) | born(told, columns, common, maker, of)
 }
 
 /// Those under which they come where they are made.
-fn born(told: &[u32], columns: usize, makers: usize, maker: &Agent<'_>, of: usize) -> u32
-    ensures { result ≡ born_at told.now columns makers maker.now of }
+fn born(told: &[u32], columns: usize, common: usize, maker: &Mover, of: usize) -> u32
+    ensures { result ≡ born_at told.now columns common maker.now of }
 {
-    if has(word(told, columns, makers, maker.place), MAKES) {
+    if has(word(told, columns, maker.drops, common), MAKES) {
         covers_at(told, columns, maker.landing, of)
     } else {
         0
@@ -54,37 +54,31 @@ fn born(told: &[u32], columns: usize, makers: usize, maker: &Agent<'_>, of: usiz
 }
 
 /// The covers by the veils of one process under which those come that can move a directory.
-pub(crate) fn moved(
-    told: &[u32],
-    columns: usize,
-    agents: &[Agent<'_>],
-    seat: usize,
-    of: usize,
-) -> u32
-    ensures { result ≡ moved_word told.now columns agents.now seat of }
+pub(crate) fn moved(told: &[u32], columns: usize, movers: &[Mover], seat: usize, of: usize) -> u32
+    ensures { result ≡ moved_word told.now columns movers.now seat of }
 {
-    agents.iter().fold(
+    movers.iter().fold(
         0,
-        |word, agent| word | moved_by(told, columns, seat, of, agent),
+        |word, mover| word | moved_by(told, columns, seat, of, mover),
     )
 }
 
 /// Those under which one of them comes.
-fn moved_by(told: &[u32], columns: usize, seat: usize, of: usize, agent: &Agent<'_>) -> u32
-    ensures { result ≡ moved_at told.now columns seat of agent.now }
+fn moved_by(told: &[u32], columns: usize, seat: usize, of: usize, mover: &Mover) -> u32
+    ensures { result ≡ moved_at told.now columns seat of mover.now }
 {
-    if moves(told, columns, seat, agent) {
-        covers_at(told, columns, agent.landing, of)
+    if moves(told, columns, seat, mover) {
+        covers_at(told, columns, mover.landing, of)
     } else {
         0
     }
 }
 
 /// Whether a process can move a directory.
-pub(crate) fn moves(told: &[u32], columns: usize, seat: usize, agent: &Agent<'_>) -> bool
-    ensures { result ≡ moves_at told.now columns seat agent.now }
+pub(crate) fn moves(told: &[u32], columns: usize, seat: usize, mover: &Mover) -> bool
+    ensures { result ≡ moves_at told.now columns seat mover.now }
 {
-    does_meet(word(told, columns, seat, agent.place), agent.moving)
+    does_meet(word(told, columns, seat, mover.place), mover.moving)
 }
 
 /// Whether some cover of a word is one of these.
@@ -99,17 +93,17 @@ pub(crate) fn does_meet(word: u32, covers: u32) -> bool
 pub(crate) fn apart(
     told: &[u32],
     columns: usize,
-    agents: &[Agent<'_>],
+    movers: &[Mover],
     seats: &[usize],
     seat: usize,
     watch: usize,
     of: usize,
 ) -> u32
-    ensures { result ≡ apart_word told.now columns agents.now seats.now seat watch of }
+    ensures { result ≡ apart_word told.now columns movers.now seats.now seat watch of }
 {
-    agents.iter().fold(
+    movers.iter().fold(
         0,
-        |word, agent| word | apart_of(told, columns, seats, seat, watch, of, agent),
+        |word, mover| word | apart_of(told, columns, seats, seat, watch, of, mover),
     )
 }
 
@@ -121,14 +115,14 @@ fn apart_of(
     seat: usize,
     watch: usize,
     of: usize,
-    agent: &Agent<'_>,
+    mover: &Mover,
 ) -> u32
-    ensures { result ≡ apart_by told.now columns seats.now seat watch of agent.now }
+    ensures { result ≡ apart_by told.now columns seats.now seat watch of mover.now }
 {
-    if moves(told, columns, seat, agent) {
+    if moves(told, columns, seat, mover) {
         seats.iter().fold(
             0,
-            |word, into| word | apart_in(told, columns, agent.place, watch, of, *into),
+            |word, into| word | apart_in(told, columns, mover.place, watch, of, *into),
         )
     } else {
         0
@@ -151,16 +145,16 @@ fn apart_in(told: &[u32], columns: usize, by: usize, watch: usize, of: usize, in
 pub(crate) fn is_clear_apart(
     told: &[u32],
     columns: usize,
-    agents: &[Agent<'_>],
+    movers: &[Mover],
     seats: &[usize],
     seat: usize,
     watch: usize,
     of: usize,
 ) -> bool
     ensures { result
-        ≡ list_any (clear_by told.now columns seats.now seat watch of) agents.now }
+        ≡ list_any (clear_by told.now columns seats.now seat watch of) movers.now }
 {
-    agents.iter().any(|agent| is_clear_by(told, columns, seats, seat, watch, of, agent))
+    movers.iter().any(|mover| is_clear_by(told, columns, seats, seat, watch, of, mover))
 }
 
 /// Whether this one can.
@@ -171,12 +165,12 @@ fn is_clear_by(
     seat: usize,
     watch: usize,
     of: usize,
-    agent: &Agent<'_>,
+    mover: &Mover,
 ) -> bool
-    ensures { result ≡ clear_by told.now columns seats.now seat watch of agent.now }
+    ensures { result ≡ clear_by told.now columns seats.now seat watch of mover.now }
 {
-    moves(told, columns, seat, agent)
-        && is_clear_in_some(told, columns, seats, agent.place, watch, of)
+    moves(told, columns, seat, mover)
+        && is_clear_in_some(told, columns, seats, mover.place, watch, of)
 }
 
 /// Whether there is such a directory, into which it can put others.

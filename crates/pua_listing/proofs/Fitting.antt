@@ -10,16 +10,16 @@ use Rattle.std.proofs.lemmas.Bool.{or_left, or_right, or_parts}
 use Rattle.std.proofs.lemmas.List.{length-append}
 use Rattle.std.proofs.lemmas.List.Folds.{list_all-append}
 use Rattle.pua_tree.specs.Names.{same_bytes, is_name}
-use Rattle.pua_tree.specs.Tree.{Node, kind_at, node_at, is_dir_kind, target_fits}
+use Rattle.pua_tree.specs.Tree.{Node, node_at, is_dir_kind, target_fits, mark_fits}
 use Rattle.pua_tree.specs.Listing.{Entry, last_number, is_taken, is_earlier_dir, is_earlier_other, makes_dir, makes_other, knows_hard}
 use Rattle.pua_tree.specs.Listing.{most_listed_of, knows_types}
-use Rattle.pua_tree.specs.Grammar.{entry_fits, entries_fit, kind_known, made_fits, target_stands}
+use Rattle.pua_tree.specs.Grammar.{entry_fits, entries_fit, kind_known, made_fits, mount_known, target_stands}
 use Rattle.pua_tree.specs.declared.form.Form.{Form}
 use Rattle.pua_tree.specs.declared.node.Kind.{Kind}
 use Rattle.pua_tree.specs.declared.node.Kind.TheVariants.{Dir, File, Known, Link, Prog}
 use Rattle.pua_tree.proofs.ForCallers.{row_says, same_or_other, same_word, same_Some, None≢Some}
 use Rattle.pua_listing.specs.Entries.{first_line, number_of, made_under, entry_for, entries_from, has_second_lines, is_target_of_bytes, leads_to_bytes}
-use Rattle.pua_listing.specs.Listed.{has_types, is_typed}
+use Rattle.pua_listing.specs.Listed.{has_types, is_known, is_typed}
 use Rattle.pua_listing.proofs.Counting.{count-append, any_counted, counted_any, none_counted}
 use Rattle.pua_listing.proofs.FirstLines.{has_node, not_behind, lined, not_lined, early, late, here}
 use Rattle.pua_listing.proofs.RowForEachNode.{number_is, order_has, order_length, number_root, same_number, spot_once}
@@ -58,12 +58,21 @@ target_from Prog (Some target) h g = absurd (false≢true h)
 target_from (Known type) (Some target) h g = absurd (false≢true h)
 
 -- a form that knows the type of a typed kind knows the kind
-known_from : (form : Form) (kind : Kind) → (is_typed (Some kind) ≡ true → knows_types form ≡ true) → kind_known form kind ≡ true
+known_from : (form : Form) (kind : Kind) → (is_known kind ≡ true → knows_types form ≡ true) → kind_known form kind ≡ true
 known_from form Dir h = refl
 known_from form File h = refl
 known_from form Prog h = refl
 known_from form Link h = refl
 known_from form (Known type) h = h refl
+
+-- and where it knows mounts, that one is there
+mount_from : (form : Form) (x : ℕ) (n : Node) → mark_fits (x, n) ≡ true → (n.mount ≡ true → knows_types form ≡ true) → mount_known form n ≡ true
+mount_from form x n fits known = by n.mount fits known
+  where
+    by : (b : Bool) → cond b (is_dir_kind (Some n.kind) && not (x == 0)) true ≡ true → (b ≡ true → knows_types form ≡ true) →
+        cond b (knows_types form && is_dir_kind (Some n.kind)) true ≡ true
+    by false fits known = refl
+    by true fits known = and_from _ _ (known refl) (and_parts (is_dir_kind (Some n.kind)) _ fits).0
 
 -- a node of earlier rows makes a later row's line a second one
 pub second_line : (done rest : List Row) (row : Row) → has_node row.1 done ≡ true → has_second_lines (done ++ row ∷ rest) ≡ true
@@ -146,9 +155,9 @@ module _ (t : Tree) (sound : Sound t) (order : List Row) (counts : (p : Row → 
     split_counts p = ap (count p) split ∙ count-append p done (row ∷ rest)
 
     -- its type is known where some type is
-    types_there : is_typed (kind_at t row.1) ≡ true → has_types t ≡ true
+    types_there : is_typed (node_at t row.1) ≡ true → has_types t ≡ true
     types_there typed =
-        let p : Row → Bool = λ r. is_typed (kind_at t r.1) in
+        let p : Row → Bool = λ r. is_typed (node_at t r.1) in
         let own : one (p row) ≡ 1 = ap one typed in
         counted_any p t.rows (omega (arith, counts p, split_counts p, own))
 
@@ -211,10 +220,13 @@ module _ (t : Tree) (sound : Sound t) (order : List Row) (counts : (p : Row → 
         let own = eq-eqb (number_of order row.1) line number in
         let node = living_node (node_at t row.1) says.2 in
         let is : made_under t (number_of order) line row.1 ≡ Some node.0 = ap (λ b. cond b (node_at t row.1) None) own ∙ node.1 in
-        let kind : is_typed (Some node.0.kind) ≡ true → knows_types form ≡ true =
-        λ h. typed (types_there (ap (λ o. is_typed (option_map (λ m. m.kind) o)) node.1 ∙ h)) in
-        subst (MadeFits form) (sym is) (and_from _ _ own (and_from _ _ (known_from form node.0.kind kind) (target_from node.0.kind node.0.target (sound.node row.1 node.0 node.1).1
-        (subst (λ m. leads_to_bytes m ≡ true) is bytes))))
+        let needed : is_typed (Some node.0) ≡ true → knows_types form ≡ true =
+        λ h. typed (types_there (ap is_typed node.1 ∙ h)) in
+        let target = target_from node.0.kind node.0.target (sound.node row.1 node.0 node.1).1
+        (subst (λ m. leads_to_bytes m ≡ true) is bytes) in
+        let mount = mount_from form row.1 node.0 (sound.marks row.1 node.0 node.1) (λ h. needed (or_left node.0.mount _ h)) in
+        subst (MadeFits form) (sym is) (and_from _ _ own (and_from _ _ (known_from form node.0.kind (λ h. needed (or_right node.0.mount _ h)))
+        (and_from _ _ target mount)))
 
     -- what its line makes stands well
     made : (form : Form) → (has_types t ≡ true → knows_types form ≡ true) → (has_second_lines order ≡ true → knows_hard form ≡ true) → leads_to_bytes (made_under t (number_of order) line row.1) ≡ true →

@@ -9,7 +9,7 @@ use Rattle.pua_tree.specs.Limits.{most_names, most_listed}
 use Rattle.std.specs.List.{list_any}
 use Rattle.pua_tree.specs.LentRows.{lent_entry}
 use Rattle.pua_tree.specs.declared.tree.LentRow.{LentRow}
-use Rattle.pua_tree.specs.Tree.{Node, kind_at, node_at}
+use Rattle.pua_tree.specs.Tree.{Node, node_at}
 use Rattle.pua_tree.specs.Listing.{Entry, tree_of, knows_hard, knows_types, most_listed_of}
 use Rattle.pua_tree.specs.Grammar.{entry_text, header_text}
 use Rattle.pua_tree.specs.declared.form.Form.{Form}
@@ -147,12 +147,12 @@ module _ (t : Tree) (order : List Row) (f : ℕ → ℕ) (order_is : order ≡ i
 
 -- whether some type is known, by the rows that the tree lends
 pub types_are : (t : Tree) (rows : List LentRow) (types : Bool) → map lent_entry rows ≡ t.rows →
-    types ≡ list_any (λ row. is_typed (kind_at t row.node)) rows → types ≡ has_types t
-types_are t rows types same is = is ∙ each rows ∙ ap (list_any (λ row. is_typed (kind_at t row.1))) same
+    types ≡ list_any (λ row. is_typed (node_at t row.node)) rows → types ≡ has_types t
+types_are t rows types same is = is ∙ each rows ∙ ap (list_any (λ row. is_typed (node_at t row.1))) same
   where
-    each : (rs : List LentRow) → list_any (λ row. is_typed (kind_at t row.node)) rs ≡ list_any (λ row. is_typed (kind_at t row.1)) (map lent_entry rs)
+    each : (rs : List LentRow) → list_any (λ row. is_typed (node_at t row.node)) rs ≡ list_any (λ row. is_typed (node_at t row.1)) (map lent_entry rs)
     each [] = refl
-    each (r ∷ rs) = ap (λ b. is_typed (kind_at t r.node) || b) (each rs)
+    each (r ∷ rs) = ap (λ b. is_typed (node_at t r.node) || b) (each rs)
 
 -- there are as many lines as rows
 pub as_many : (t : Tree) → WellFormed t → (order : List TreeRow) → rows_held order ≡ in_order t → length order ≡ length t.rows

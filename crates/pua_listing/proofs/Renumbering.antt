@@ -8,7 +8,7 @@ use Rattle.std.specs.List.{filter_map, cons_option}
 use Rattle.std.specs.FinMap.{find as find_key}
 use Rattle.std.specs.FinMap.Entries.{find-put}
 use Rattle.std.specs.Ordering.{is_eq, eq_by_cmp}
-use Rattle.pua_tree.specs.Tree.{Node, node_at, is_dir_kind, target_fits}
+use Rattle.pua_tree.specs.Tree.{Node, node_at, is_dir_kind, target_fits, mark_fits}
 use Rattle.pua_tree.specs.Listing.{Entry, tree_of, rows_of_entries, made_entry, root_node}
 use Rattle.pua_tree.specs.declared.form.Form.{Form}
 use Rattle.pua_tree.specs.declared.node.Kind.{Kind}
@@ -39,7 +39,7 @@ dir_lives None h = h
 dir_lives (Some n) h = refl
 
 bare_dir : (kind : Kind) (target : Option (List ℕ)) → is_dir_kind (Some kind) ≡ true → target_fits kind target ≡ true →
-    record { kind = kind; target = target } ≡ root_node
+    record { kind = kind; target = target; mount = false } ≡ root_node
 bare_dir Dir None h g = refl
 bare_dir Dir (Some target) h g = absurd (false≢true g)
 bare_dir File target h g = absurd (false≢true h)
@@ -47,10 +47,20 @@ bare_dir Prog target h g = absurd (false≢true h)
 bare_dir Link target h g = absurd (false≢true h)
 bare_dir (Known type) target h g = absurd (false≢true h)
 
+-- no other file system is mounted at the root
+bare_root : (n : Node) → mark_fits (0, n) ≡ true → n.mount ≡ false
+bare_root n fits = by n.mount fits
+  where
+    by : (b : Bool) → cond b (is_dir_kind (Some n.kind) && false) true ≡ true → b ≡ false
+    by false h = refl
+    by true h = absurd (false≢true (and_parts (is_dir_kind (Some n.kind)) false h).1)
+
 root_from : (o : Option Node) → is_dir_kind (option_map (λ n. n.kind) o) ≡ true → ((n : Node) → o ≡ Some n → target_fits n.kind n.target ≡ true) →
-    o ≡ Some root_node
-root_from None h g = absurd (false≢true h)
-root_from (Some n) h g = ap Some (bare_dir n.kind n.target h (g n refl))
+    ((n : Node) → o ≡ Some n → mark_fits (0, n) ≡ true) → o ≡ Some root_node
+root_from None h g m = absurd (false≢true h)
+root_from (Some n) h g m =
+    ap (λ mount. Some (record { kind = n.kind; target = n.target; mount = mount })) (bare_root n (m n refl)) ∙
+    ap Some (bare_dir n.kind n.target h (g n refl))
 
 -- an entry under another number is passed over
 skip : (n j : ℕ) (made : Option Node) (es : List (ℕ × Node)) → n ≢ j →
@@ -164,7 +174,7 @@ module _ (t : Tree) (sound : Sound t) (order : List Row) (counts : (p : Row → 
         ] refl h;
     nodes = λ x living. elim (placed t sound order counts x living) [
       | inl root ↦ ap (λ n. cond (eq_by_cmp nat_cmp n 0) (Some root_node) (find_key nat_cmp n es)) root.1 ∙
-          sym (ap (node_at t) root.0 ∙ root_from (node_at t 0) sound.root (λ n e. (sound.node 0 n e).1))
+          sym (ap (node_at t) root.0 ∙ root_from (node_at t 0) sound.root (λ n e. (sound.node 0 n e).1) (λ n e. sound.marks 0 n e))
       | inr line ↦ (let number = number_is order x line.0 line.1 in
           let node = living_node (node_at t x) living in
           ap (λ n. cond (eq_by_cmp nat_cmp n 0) (Some root_node) (find_key nat_cmp n es)) number

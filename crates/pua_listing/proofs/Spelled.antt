@@ -8,7 +8,7 @@ use Rattle.std.proofs.lemmas.List.Folds.{list_all-append}
 use Rattle.pua_tree.specs.Spelling.{spelling}
 use Rattle.pua_tree.specs.Tree.{Node}
 use Rattle.pua_tree.specs.Listing.{Entry}
-use Rattle.pua_tree.specs.Grammar.{entry_text, line_word, last_field, target_field, header_text}
+use Rattle.pua_tree.specs.Grammar.{entry_text, is_mount_made, line_word, last_field, target_field, header_text}
 use Rattle.pua_tree.specs.declared.node.Kind.{Kind}
 use Rattle.pua_tree.specs.declared.node.Kind.TheVariants.{Dir, File, Known, Link, Prog}
 use Rattle.pua_tree.specs.declared.node.FileType.TheVariants.{Plain, Sock, Fifo, Dev}
@@ -84,18 +84,19 @@ printed (b ∷ bs) h =
 joined : (a b : List ℕ) → is_line a ≡ true → is_line b ≡ true → is_line (a ++ b) ≡ true
 joined a b h g = list_all-append is_printed a b ∙ and_from _ _ h g
 
-word_printed : (form : Form) (kind : Option Kind) → is_line (line_word form kind) ≡ true
-word_printed form None = refl
-word_printed form (Some Dir) = refl
-word_printed First (Some File) = refl
-word_printed Second (Some File) = refl
-word_printed Third (Some File) = refl
-word_printed form (Some Prog) = refl
-word_printed form (Some Link) = refl
-word_printed form (Some (Known Plain)) = refl
-word_printed form (Some (Known Sock)) = refl
-word_printed form (Some (Known Fifo)) = refl
-word_printed form (Some (Known Dev)) = refl
+word_printed : (form : Form) (mount : Bool) (kind : Option Kind) → is_line (line_word form mount kind) ≡ true
+word_printed form mount None = refl
+word_printed form false (Some Dir) = refl
+word_printed form true (Some Dir) = refl
+word_printed First mount (Some File) = refl
+word_printed Second mount (Some File) = refl
+word_printed Third mount (Some File) = refl
+word_printed form mount (Some Prog) = refl
+word_printed form mount (Some Link) = refl
+word_printed form mount (Some (Known Plain)) = refl
+word_printed form mount (Some (Known Sock)) = refl
+word_printed form mount (Some (Known Fifo)) = refl
+word_printed form mount (Some (Known Dev)) = refl
 
 target_printed : (target : Option (List ℕ)) → is_target_of_bytes target ≡ true → is_line (target_field target) ≡ true
 target_printed None h = refl
@@ -110,11 +111,12 @@ pub entry_printed : (form : Form) (e : Entry) → e.number < 2 ^ 64 → e.parent
 entry_printed form e n p x name made =
     let kind : Option Kind = option_map (λ made. made.kind) e.made in
     let number : List ℕ = decimal e.number in
-    let word : List ℕ = number ++ 32 ∷ line_word form kind in
+    let own : List ℕ = line_word form (is_mount_made e.made) kind in
+    let word : List ℕ = number ++ 32 ∷ own in
     let parent : List ℕ = word ++ 32 ∷ decimal e.parent in
     let named : List ℕ = parent ++ 32 ∷ spelling e.name in
     joined named (last_field e.node e.made) (joined parent (32 ∷ spelling e.name) (joined word (32 ∷ decimal e.parent)
-    (joined number (32 ∷ line_word form kind) (printed number (visible_decimal e.number n)) (word_printed form kind))
+    (joined number (32 ∷ own) (printed number (visible_decimal e.number n)) (word_printed form (is_mount_made e.made) kind))
     (printed (decimal e.parent) (visible_decimal e.parent p))) (printed (spelling e.name) (visible_spelling e.name name)))
     (last_printed e.node e.made x made)
 

@@ -12,7 +12,7 @@ use Rattle.pua_listing.specs.Entries.{new_number}
 use Rattle.pua_listing.specs.Listed.{form_for, listed, text_of_lines}
 
 abbrev plain : Node
-plain = record { kind = File; target = None }
+plain = record { kind = File; target = None; mount = false }
 
 -- a directory that came to stand in a later one
 abbrev pub moved_tree : Tree
@@ -26,7 +26,7 @@ moved_tree = record empty_tree {
 abbrev pub spelled_tree : Tree
 spelled_tree = record empty_tree {
   rows = ((0, codes "a b"), 1) ∷ ((0, codes "l"), 7) ∷ [];
-  nodes = (0, root_node) ∷ (1, plain) ∷ (7, record { kind = Link; target = Some (10 ∷ []) }) ∷ [];
+  nodes = (0, root_node) ∷ (1, plain) ∷ (7, record { kind = Link; target = Some (10 ∷ []); mount = false }) ∷ [];
   next = 8;
 }
 
@@ -34,8 +34,8 @@ spelled_tree = record empty_tree {
 abbrev pub typed_tree : Tree
 typed_tree = record empty_tree {
   rows = ((0, codes "a"), 1) ∷ ((0, codes "b"), 2) ∷ ((0, codes "c"), 3) ∷ ((0, codes "d"), 4) ∷ ((0, codes "e"), 5) ∷ ((0, codes "f"), 3) ∷ [];
-  nodes = (0, root_node) ∷ (1, plain) ∷ (2, record { kind = Known Plain; target = None }) ∷ (3, record { kind = Known Sock; target = None })
-      ∷ (4, record { kind = Known Fifo; target = None }) ∷ (5, record { kind = Known Dev; target = None }) ∷ [];
+  nodes = (0, root_node) ∷ (1, plain) ∷ (2, record { kind = Known Plain; target = None; mount = false }) ∷ (3, record { kind = Known Sock; target = None; mount = false })
+      ∷ (4, record { kind = Known Fifo; target = None; mount = false }) ∷ (5, record { kind = Known Dev; target = None; mount = false }) ∷ [];
   next = 6;
 }
 

@@ -1,9 +1,9 @@
 -- The listing of a tree, as text.
 use Rattle.std.specs.Prelude.{ℕ, ◌+◌, Bool, true, false, ◌||◌, if◌then◌else◌, List, [], ◌∷◌, ◌++◌, length, map, flat_map, nat_lt, nat_le}
-use Rattle.std.specs.Prelude.{codes, Option, Some, Result, Ok, Err}
+use Rattle.std.specs.Prelude.{codes, Option, Some, None, Result, Ok, Err}
 use Rattle.std.specs.List.{list_any}
 use Rattle.pua_tree.specs.Limits.{most_names, most_listed, most_wide}
-use Rattle.pua_tree.specs.Tree.{Tree, kind_at, rows_of}
+use Rattle.pua_tree.specs.Tree.{Tree, Node, node_at, rows_of}
 use Rattle.pua_tree.specs.Grammar.{header_text, entry_text}
 use Rattle.pua_tree.specs.declared.node.Kind.{Kind}
 use Rattle.pua_tree.specs.declared.node.Kind.TheVariants.{Known}
@@ -17,16 +17,21 @@ use Rattle.pua_listing.specs.Entries.{entries}
 abbrev pub has_second_names : Tree → Bool
 has_second_names t = list_any (λ row. nat_lt 1 (rows_of t row.1)) t.rows
 
--- the type of some file is known
-abbrev pub is_typed : Option Kind → Bool
-is_typed (Some (Known type)) = true
-is_typed _ = false
+-- the type of a file is known
+abbrev pub is_known : Kind → Bool
+is_known (Known type) = true
+is_known _ = false
+
+-- what the third form alone knows of a node: its type, or that a file system is mounted there
+abbrev pub is_typed : Option Node → Bool
+is_typed None = false
+is_typed (Some node) = node.mount || is_known node.kind
 
 abbrev pub has_types : Tree → Bool
-has_types t = list_any (λ row. is_typed (kind_at t row.1)) t.rows
+has_types t = list_any (λ row. is_typed (node_at t row.1)) t.rows
 
--- the third form for a tree of more names than the others list, or with room for more, or with types that they don't know; of the
--- others the second where it is needed
+-- the third form for a tree of more names than the others list, or with room for more, or with types or mounts that they don't know; of
+-- the others the second where it is needed
 abbrev pub form_for : Tree → Bool → Bool → Form
 form_for t types second_names =
     if types || (nat_lt most_names t.room || nat_le most_listed (length t.rows)) then Third

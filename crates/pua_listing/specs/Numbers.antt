@@ -10,7 +10,7 @@ abbrev pub number_in : Numbers → ℕ → ℕ
 number_in numbers x = unwrap_or (get ◌==◌ numbers.lines x) 0
 
 abbrev pub node_made : MadeNode → Node
-node_made made = record { kind = made.kind; target = option_copied made.target }
+node_made made = record { kind = made.kind; target = option_copied made.target; mount = made.mount }
 
 abbrev pub kind_made : Option MadeNode → Option Kind
 kind_made made = option_map (λ m. m.kind) made

@@ -11,7 +11,7 @@ pub record IsRenumbered (f : ℕ → ℕ) (t u : Tree) : Type 0 where
   -- no two living nodes get the same number, and each number of the second tree is one of these
   pub apart : (x y : ℕ) → IsTrue (is_living t x) → IsTrue (is_living t y) → f x ≡ f y → x ≡ y
   pub no_other : (y : ℕ) → IsTrue (is_living u y) → (x : ℕ) × IsTrue (is_living t x) × (f x ≡ y)
-  -- each has the same kind and the same target
+  -- each has the same kind and the same target, and where the one is mounted, so is the other
   pub nodes : (x : ℕ) → IsTrue (is_living t x) → node_at u (f x) ≡ node_at t x
   -- under each name in each directory stands the same node, or in both trees none; only directories have names in them
   pub rows : (dir : ℕ) (name : List ℕ) → IsTrue (is_dir t dir) → look u (f dir) name ≡ option_map f (look t dir name)

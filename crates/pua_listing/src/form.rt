@@ -3,27 +3,28 @@
 ghost use Rattle.std.specs.Prelude.{◌≡◌};
 ghost use Rattle.std.specs.List.{list_any};
 ghost use Rattle.pua_tree.specs.Grammar.{listing_kind_word};
-ghost use Rattle.pua_tree.specs.Tree.{kind_at};
+ghost use Rattle.pua_tree.specs.Tree.{node_at};
 ghost use Rattle.pua_listing.specs.Listed.{form_for, head_text, is_typed};
 
 use pua_tree::{FileTree, Form, Kind, LentRow, MOST_LISTED, MOST_NAMES, NodeId};
 
-/// Whether the type of some file is known that has a name in a tree, whose rows are all given.
+/// Whether something that the third form alone knows has a name in a tree, whose rows are all given:
+/// a file of a known type, or a directory at which another file system is mounted.
 pub(crate) fn has_types<T: FileTree>(tree: &T, rows: &[LentRow<'_>]) -> bool
-    ensures { result ≡ list_any (λ row. is_typed (kind_at (T.content tree.now) row.node)) rows.now }
+    ensures { result ≡ list_any (λ row. is_typed (node_at (T.content tree.now) row.node)) rows.now }
 {
     rows.iter().any(|row| is_typed(tree, row.node))
 }
 
-/// Whether a node is a file of a known type.
+/// Whether a node is a file of a known type, or a directory at which another file system is mounted.
 fn is_typed<T: FileTree>(tree: &T, node: NodeId) -> bool
-    ensures { result ≡ is_typed (kind_at (T.content tree.now) node) }
+    ensures { result ≡ is_typed (node_at (T.content tree.now) node) }
 {
-    matches!(tree.kind(node), Some(Kind::Known(_)))
+    tree.is_mount(node) || matches!(tree.kind(node), Some(Kind::Known(_)))
 }
 
-/// The form of the listing of a tree, in which some file's type is known or none is, and a node has
-/// two names or none has.
+/// The form of the listing of a tree, in which the third form alone knows something or nothing, and
+/// a node has two names or none has.
 pub(crate) fn form_for<T: FileTree>(tree: &T, types: bool, second_names: bool) -> Form
     ensures { result ≡ form_for (T.content tree.now) types second_names }
 {
@@ -47,11 +48,12 @@ pub(crate) fn head(form: Form) -> &'static [u8]
 }
 
 /// The word of a kind in lines of this form: a file of which no more is known has one of its own
-/// where types are known.
-pub(crate) fn kind_word(form: Form, kind: Kind) -> &'static str
-    ensures { result.now ≡ listing_kind_word form kind }
+/// where types are known, and so has a directory at which another file system is mounted.
+pub(crate) fn kind_word(form: Form, mount: bool, kind: Kind) -> &'static str
+    ensures { result.now ≡ listing_kind_word form mount kind }
 {
     match (form, kind) {
+        (_, Kind::Dir) if mount => "mount",
         (Form::Third, Kind::File) => "any",
         (_, kind) => kind.word(),
     }

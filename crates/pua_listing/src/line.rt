@@ -2,7 +2,7 @@
 
 ghost use Rattle.std.specs.Prelude.{◌≡◌, ◌++◌, ◌∷◌, [], OnOk, IsTrue, decimal, option_map};
 ghost use Rattle.std.specs.List.{list_all};
-ghost use Rattle.pua_tree.specs.Grammar.{entry_text, last_field, line_word};
+ghost use Rattle.pua_tree.specs.Grammar.{entry_text, is_mount_made, last_field, line_word};
 ghost use Rattle.pua_tree.specs.Spelling.{spelling};
 ghost use Rattle.pua_tree.specs.Tree.{node_at};
 ghost use Rattle.pua_listing.specs.Entries.{entry_for, is_byte, leads_to_bytes, made_under};
@@ -15,11 +15,13 @@ use crate::order::TreeRow;
 use itoa::Buffer;
 use pua_tree::{FileTree, Form, Kind, NodeId, OutOfMemory, byte_spelling};
 
-/// What a line makes: a node of this kind, and where it leads if it is a link.
+/// What a line makes: a node of this kind, where it leads if it is a link, and whether another file
+/// system is mounted there.
 #[derive(Clone, Copy)]
 pub(crate) struct MadeNode<'t> {
     pub(crate) kind: Kind,
     pub(crate) target: Option<&'t [u8]>,
+    pub(crate) mount: bool,
 }
 
 /// Adds the line of a row under its number, in a form. The only error is that a growth was refused.
@@ -56,7 +58,12 @@ fn node_of<T: FileTree>(tree: &T, node: NodeId) -> Option<MadeNode<'_>>
 {
     let kind = tree.kind(node)?;
     let target = tree.target(node);
-    Some(MadeNode { kind, target })
+    let mount = tree.is_mount(node);
+    Some(MadeNode {
+        kind,
+        target,
+        mount,
+    })
 }
 
 /// Adds the fields before the name: the line's number, its word and the number of the directory.
@@ -68,7 +75,8 @@ fn add_front(
     parent: usize,
 ) -> Result<(), OutOfMemory>
     ensures { OnOk result (text.new.items ≡ text.old.items ++ (decimal number
-        ++ 32 ∷ line_word form (kind_made made.entry) ++ 32 ∷ decimal parent)) }
+        ++ 32 ∷ line_word form (is_mount_made (option_map node_made made.entry))
+        (kind_made made.entry) ++ 32 ∷ decimal parent)) }
 {
     let mut digits = Buffer::new();
     text.extend_from_slice(digits.format(number).as_bytes())?;
@@ -76,12 +84,13 @@ fn add_front(
     add_number(text, parent)
 }
 
-/// The word of a line: that of the kind of what it makes, if it makes something.
+/// The word of a line: that of the kind of what it makes, if it makes something, or that of a mount.
 fn word(form: Form, made: Option<MadeNode<'_>>) -> &'static str
-    ensures { result.now ≡ line_word form (kind_made made.entry) }
+    ensures { result.now ≡ line_word form (is_mount_made (option_map node_made made.entry))
+        (kind_made made.entry) }
 {
     match made {
-        Some(made) => kind_word(form, made.kind),
+        Some(made) => kind_word(form, made.mount, made.kind),
         None => "hard",
     }
 }

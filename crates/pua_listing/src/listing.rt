@@ -23,9 +23,10 @@ use std::alloc::Global;
 ///
 /// Each name has a line, which is followed by the lines beneath it; lines are numbered from 1 on,
 /// and names come in the order of their bytes. The form is the first where no node has two names,
-/// else the second, but the third where the type of some file is known, or the tree may have more
-/// than 65,535 names, or has 4,096 or more beside the root. `ListFault::TooManyNames` comes where it has 1,000,000 or more beside the
-/// root, and is judged first; `ListFault::OutOfMemory` only where a growth was refused.
+/// else the second, but the third where the type of some file is known, a file system is mounted at
+/// a directory, or the tree may have more than 65,535 names, or has 4,096 or more beside the root.
+/// `ListFault::TooManyNames` comes where it has 1,000,000 or more beside the root, and is judged
+/// first; `ListFault::OutOfMemory` only where a growth was refused.
 #[tactic(auto, using(crate::proofs::ReadBack::listed_few, crate::proofs::ReadBack::listed_many, crate::proofs::ReadBack::text_reads_back))]
 pub fn list_tree<T: FileTree>(alloc: Global, tree: &T) -> Result<Vec<u8>, ListFault>
     ensures text { IfOk result (λ text. listed (T.content tree.now) ≡ Ok text.items) }

@@ -14,6 +14,9 @@ pub(crate) fn directory<T: FileTree>(tree: &T, id: NodeId) -> Object
     ensures { (dir : ℕ) (name : List ℕ) →
         result ≡ object_seen (T.content tree.now) (IsDir id (way.Named dir name)) }
 {
+    if tree.is_mount(id) {
+        return Object::Node(Kind::Dir);
+    }
     if tree.is_empty(id) {
         Object::Removable
     } else {

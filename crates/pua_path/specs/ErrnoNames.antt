@@ -3,6 +3,7 @@ use Rattle.std.specs.Prelude.{ℕ, List, codes}
 use Rattle.pua_path.specs.declared.errno.Errno.{Errno}
 use Rattle.pua_path.specs.declared.errno.Errno.TheVariants.{EPERM, ENOENT, E2BIG, EBADF, EACCES, EAGAIN, EBUSY, EEXIST, ENOTDIR, EISDIR}
 use Rattle.pua_path.specs.declared.errno.Errno.TheVariants.{EINVAL, ENOSPC, ELOOP, ENAMETOOLONG, ENOTEMPTY, ENOSYS, ENOTSOCK, EOPNOTSUPP, EADDRINUSE}
+use Rattle.pua_path.specs.declared.errno.Errno.TheVariants.{EXDEV}
 
 abbrev pub errno_name : Errno → List ℕ
 errno_name EPERM = codes "EPERM"
@@ -24,3 +25,4 @@ errno_name ENOSYS = codes "ENOSYS"
 errno_name ENOTSOCK = codes "ENOTSOCK"
 errno_name EOPNOTSUPP = codes "EOPNOTSUPP"
 errno_name EADDRINUSE = codes "EADDRINUSE"
+errno_name EXDEV = codes "EXDEV"

@@ -1,5 +1,5 @@
 -- Worked rows on resolution over the example tree, and paths that meet many links.
-use Rattle.std.specs.Prelude.{◌≡◌, [], ◌∷◌, Some, None, Ok, Err, codes, refl}
+use Rattle.std.specs.Prelude.{◌≡◌, false, [], ◌∷◌, Some, None, Ok, Err, codes, refl}
 use Rattle.pua_tree.specs.Tree.{Tree, empty_tree}
 use Rattle.pua_tree.specs.Examples.{example_tree}
 use Rattle.pua_tree.specs.declared.node.Kind.TheVariants.{Dir, File, Link}
@@ -19,9 +19,9 @@ use Rattle.pua_path.specs.declared.traced.PathFault.TheVariants.{InText, NoStart
 abbrev pub tree_of_slash : Tree
 tree_of_slash = record empty_tree {
   rows = ((0, codes "f"), 1) ∷ ((0, codes "l"), 2) ∷ [];
-  nodes = (0, record { kind = Dir; target = None }) ∷ (1, record { kind = File; target = None }) ∷ (
+  nodes = (0, record { kind = Dir; target = None; mount = false }) ∷ (1, record { kind = File; target = None; mount = false }) ∷ (
     2,
-    record { kind = Link; target = Some (codes "f/") },
+    record { kind = Link; target = Some (codes "f/"); mount = false },
   ) ∷ [];
   next = 3;
 }
@@ -30,10 +30,10 @@ tree_of_slash = record empty_tree {
 abbrev pub tree_of_root : Tree
 tree_of_root = record empty_tree {
   rows = ((0, codes "d"), 1) ∷ ((0, codes "f"), 3) ∷ ((1, codes "l"), 2) ∷ [];
-  nodes = (0, record { kind = Dir; target = None }) ∷ (1, record { kind = Dir; target = None }) ∷ (
+  nodes = (0, record { kind = Dir; target = None; mount = false }) ∷ (1, record { kind = Dir; target = None; mount = false }) ∷ (
     2,
-    record { kind = Link; target = Some (codes "/f") },
-  ) ∷ (3, record { kind = File; target = None }) ∷ [];
+    record { kind = Link; target = Some (codes "/f"); mount = false },
+  ) ∷ (3, record { kind = File; target = None; mount = false }) ∷ [];
   next = 4;
 }
 

@@ -8,10 +8,10 @@ use Rattle.pua_path.specs.Paths.{part_of, ends_in_slash}
 use Rattle.pua_path.specs.declared.found.Part.{Part}
 use Rattle.pua_path.specs.declared.found.Part.TheVariants.{Dot}
 
--- the parts that are left, and how many texts lie below the one that is read
+-- the parts that are left, and how many links may still be followed
 pub record Remaining : Type 0 where
   pub parts : List Part
-  pub depth : ℕ
+  pub left : ℕ
 
 -- a slash at the end of a text adds a dot
 abbrev pub slash_part : Bool → List Part

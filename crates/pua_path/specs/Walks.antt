@@ -97,31 +97,31 @@ traced_on spot linked (Err errno) left further = at_once (Err (stop_at spot errn
 
 -- where a resolution on its way comes to: by the parts that it has left, and with one more before them
 abbrev pub walk_end : Tree → Last → Resolving → Resolved
-walk_end t mode walk = resolve_parts walk.left (rooted t walk.root) mode walk.here (way_of walk.way) walk.rest.parts
+walk_end t mode walk = resolve_parts walk.rest.left (rooted t walk.root) mode walk.here (way_of walk.way) walk.rest.parts
 
 abbrev pub walk_end_by : Part → Tree → Last → Resolving → Resolved
-walk_end_by part t mode walk = resolve_parts walk.left (rooted t walk.root) mode walk.here (way_of walk.way) (part ∷ walk.rest.parts)
+walk_end_by part t mode walk = resolve_parts walk.rest.left (rooted t walk.root) mode walk.here (way_of walk.way) (part ∷ walk.rest.parts)
 
 -- the same of its trace
 abbrev pub walk_trace : Tree → Last → Resolving → Trace
-walk_trace t mode walk = trace_parts walk.left (rooted t walk.root) mode walk.here (way_of walk.way) walk.rest.parts
+walk_trace t mode walk = trace_parts walk.rest.left (rooted t walk.root) mode walk.here (way_of walk.way) walk.rest.parts
 
 abbrev pub walk_trace_by : Part → Tree → Last → Resolving → Trace
-walk_trace_by part t mode walk = trace_parts walk.left (rooted t walk.root) mode walk.here (way_of walk.way) (part ∷ walk.rest.parts)
+walk_trace_by part t mode walk = trace_parts walk.rest.left (rooted t walk.root) mode walk.here (way_of walk.way) (part ∷ walk.rest.parts)
 
 -- one part leads from a walk to an answer, or to the walk that is left
 abbrev pub LeadsOn : Tree → Last → Part → Resolving → Result (Option LentFound) Errno → Resolving → Type 0
-LeadsOn t mode part old answer new = walk_end_by part t mode old ≡ goes_on (all_found answer) new.left (walk_end t mode new)
+LeadsOn t mode part old answer new = walk_end_by part t mode old ≡ goes_on (all_found answer) new.rest.left (walk_end t mode new)
 
 -- and its trace so, where these bytes are the part's name
 abbrev pub TracesOn : Tree → Last → Part → List ℕ → Resolving → Result (Option LentFound) Errno → Resolving → Type 0
 TracesOn t mode part name old answer new =
-    walk_trace_by part t mode old ≡ traced_on (old.here, name) (nat_lt new.left old.left) (all_found answer) new.left
+    walk_trace_by part t mode old ≡ traced_on (old.here, name) (nat_lt new.rest.left old.rest.left) (all_found answer) new.rest.left
     (walk_trace t mode new)
 
 -- the parts that are left, and those that links can still add
-abbrev pub potential : Tree → ℕ → Remaining → ℕ
-potential t left rest = length rest.parts + most_parts t * left
+abbrev pub potential : Tree → Remaining → ℕ
+potential t rest = length rest.parts + most_parts t * rest.left
 
 abbrev pub potential_of : Tree → Resolving → ℕ
-potential_of t walk = potential t walk.left walk.rest
+potential_of t walk = potential t walk.rest

@@ -24,6 +24,7 @@ pub enum Errno {
     ENOTSOCK,
     EOPNOTSUPP,
     EADDRINUSE,
+    EXDEV,
 }
 
 impl fmt::Display for Errno {
@@ -53,6 +54,7 @@ impl fmt::Display for Errno {
             Errno::ENOTSOCK => "ENOTSOCK",
             Errno::EOPNOTSUPP => "EOPNOTSUPP",
             Errno::EADDRINUSE => "EADDRINUSE",
+            Errno::EXDEV => "EXDEV",
         })
     }
 }

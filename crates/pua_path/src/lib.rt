@@ -22,7 +22,7 @@ pub use laws::{
 };
 pub use lent::{LentFound, LentWay};
 pub use limits::{MOST_LINKS, MOST_PATH};
-pub use probe::{Counted, Probe};
+pub use probe::{Counted, Probe, Vacancy};
 pub use resolver::{follow, last, resolve, resolve_lent, step, trace};
 pub use text::{Ending, PathText, text_fault};
 pub use traced::{Links, PathFault, PathTextFault, Spot, Stop};

@@ -4,13 +4,22 @@ use pua_tree::{FileTree, Kind, LentName, LentRow, Name, NodeId, OutOfMemory, Tre
 use std::alloc::Global;
 use std::marker::Model;
 
+/// What one look tells of whether a directory may be removed.
+#[derive(Clone, Copy)]
+pub struct Vacancy {
+    /// Another file system is mounted there.
+    pub mount: bool,
+    /// It is a living directory without rows.
+    pub empty: bool,
+}
+
 /// A tree that is asked one thing at a time, and counts what it was asked. Targets live as long as
 /// the tree.
 pub trait Probe<'t> {
     ghost use Rattle.std.specs.Prelude.{◌≡◌, ℕ, IfOk, IfErr, map, option_copied};
     ghost use Rattle.pua_tree.specs.LentRows.{lent_entry};
     ghost use Rattle.pua_tree.specs.Tree.{Tree, WellFormed, kind_at, look, found_at, parent};
-    ghost use Rattle.pua_tree.specs.Tree.{target_at, is_empty, names};
+    ghost use Rattle.pua_tree.specs.Tree.{target_at, is_empty, is_mount, names};
     ghost use Rattle.pua_path.specs.Counts.{one_more};
 
     /// The tree that answers.
@@ -68,6 +77,14 @@ pub trait Probe<'t> {
     /// Whether this is a living directory without rows.
     fn is_empty(&mut self, dir: NodeId) -> bool
         ensures empty { result ≡ is_empty (tree self.old) dir }
+        ensures tree { tree self.new ≡ tree self.old }
+        ensures count { count self.new ≡ one_more (count self.old) };
+
+    /// Whether another file system is mounted at a directory, and whether this is a living directory
+    /// without rows.
+    fn vacancy(&mut self, dir: NodeId) -> Vacancy
+        ensures mount { result.mount ≡ is_mount (tree self.old) dir }
+        ensures empty { result.empty ≡ is_empty (tree self.old) dir }
         ensures tree { tree self.new ≡ tree self.old }
         ensures count { count self.new ≡ one_more (count self.old) };
 
@@ -174,6 +191,13 @@ impl<'t, T: FileTree> Probe<'t> for Counted<'t, T> {
     fn is_empty(&mut self, dir: NodeId) -> bool {
         self.ask();
         self.tree.is_empty(dir)
+    }
+
+    fn vacancy(&mut self, dir: NodeId) -> Vacancy {
+        self.ask();
+        let mount = self.tree.is_mount(dir);
+        let empty = self.tree.is_empty(dir);
+        Vacancy { mount, empty }
     }
 
     fn names(&mut self, alloc: Global) -> Result<Vec<Name>, TreeFault> {

@@ -3,7 +3,7 @@
 //! named for the wrong body, and its doc says what holds.
 
 use crate::limits::MOST_LINKS;
-use crate::rest::{Rest, unread};
+use crate::rest::{LinksLeft, Rest, unread};
 use crate::text::{Ending, PathText};
 use crate::traced::Links;
 use std::alloc::Global;
@@ -26,8 +26,10 @@ fn dotdot_after_a_link_is_lexical() {
     ) else {
         unreachable!()
     };
-    let mut rest = Rest::of_text(&path);
-    rest.put(unread(&target));
+    let mut rest = Rest::of_text(&path, LinksLeft::ALL);
+    let Ok(()) = rest.put(unread(&target)) else {
+        unreachable!()
+    };
     let (Some(_), Some(_)) = (rest.next(), rest.next()) else {
         unreachable!()
     };

@@ -35,7 +35,7 @@ use crate::lent::{LentFound, LentWay};
 use crate::limits::MOST_LINKS;
 use crate::piece::{Piece, Readable, next_piece};
 use crate::probe::Probe;
-use crate::rest::{Rest, unread};
+use crate::rest::{LinksLeft, Rest, unread};
 use crate::text::PathText;
 use pua_tree::{Kind, LentName, NodeId};
 pub use tracing::trace;
@@ -85,7 +85,7 @@ pub fn resolve_lent<'a, 't: 'a, P: Probe<'t>>(
     let Some(start) = start_of(probe, from, text.bytes()) else {
         return Err(Errno::ENOENT);
     };
-    resolve_text(probe, start, MOST_LINKS, unread(text), mode)
+    resolve_text(probe, start, LinksLeft::ALL, unread(text), mode)
 }
 
 /// What the parts of a text name from a directory. It has no room for the targets of links: from
@@ -93,14 +93,13 @@ pub fn resolve_lent<'a, 't: 'a, P: Probe<'t>>(
 fn resolve_text<'a, 't: 'a, P: Probe<'t>>(
     probe: &mut P,
     start: Start,
-    left: u8,
+    left: LinksLeft,
     text: Readable<'a>,
     mode: Last,
 ) -> Result<LentFound<'a>, Errno>
-    requires left { left ≤ most_links }
     ensures exact { let t = rooted (P.tree probe.old) start.root in
         let parts = rest_parts text.entry.bytes.now in founds_seen result
-        ≡ found_alone (resolve_parts left t mode start.dir ways.Top parts) }
+        ≡ found_alone (resolve_parts left.count t mode start.dir ways.Top parts) }
     ensures tree { P.tree probe.new ≡ P.tree probe.old }
 {
     let root = start.root;
@@ -134,15 +133,14 @@ fn resolve_text<'a, 't: 'a, P: Probe<'t>>(
 fn follow_on<'a, 't: 'a, P: Probe<'t>>(
     probe: &mut P,
     from: Start,
-    left: u8,
+    left: LinksLeft,
     target: Readable<'a>,
     text: Readable<'a>,
     mode: Last,
 ) -> Result<LentFound<'a>, Errno>
-    requires left { left ≤ most_links }
     ensures exact { let t = rooted (P.tree probe.old) from.root in
         let parts = rest_parts text.entry.bytes.now in founds_seen result
-        ≡ found_alone (followed left t mode from.dir target.entry.bytes.now parts) }
+        ≡ found_alone (followed left.count t mode from.dir target.entry.bytes.now parts) }
     ensures tree { P.tree probe.new ≡ P.tree probe.old }
 {
     match follow_counted(probe, from, left, target, text, mode) {
@@ -155,23 +153,22 @@ fn follow_on<'a, 't: 'a, P: Probe<'t>>(
 fn follow_counted<'a, 't: 'a, P: Probe<'t>>(
     probe: &mut P,
     from: Start,
-    left: u8,
+    left: LinksLeft,
     target: Readable<'a>,
     text: Readable<'a>,
     mode: Last,
 ) -> Result<(LentFound<'a>, u8), Errno>
-    requires left { left ≤ most_links }
     ensures exact { let t = rooted (P.tree probe.old) from.root in
         let parts = rest_parts text.entry.bytes.now in
-        resolved_seen result ≡ followed left t mode from.dir target.entry.bytes.now parts }
-    ensures left { IfOk result (λ found. found.1 ≤ left) }
+        resolved_seen result ≡ followed left.count t mode from.dir target.entry.bytes.now parts }
+    ensures left { IfOk result (λ found. found.1 ≤ left.count) }
     ensures tree { P.tree probe.new ≡ P.tree probe.old }
     ensures count { let left_parts = length (rest_parts text.entry.bytes.now) in
         HasFewParts (P.tree probe.old) target.entry.bytes.now → P.count probe.new
-        ≤ P.count probe.old + 3 * (left_parts + most_parts (P.tree probe.old) * left) }
+        ≤ P.count probe.old + 3 * (left_parts + most_parts (P.tree probe.old) * left.count) }
 {
     probe.known();
-    let mut walk = Resolving::new(from, left, Rest::of_top(text));
+    let mut walk = Resolving::new(from, Rest::of_top(text, left));
     walk.follow(target)?;
     walk.finish(probe, mode)
 }
@@ -198,7 +195,10 @@ pub fn step<'t, P: Probe<'t>>(
     ensures tree { P.tree probe.new ≡ P.tree probe.old }
     ensures cost { P.count probe.new ≤ P.count probe.old + part_cost (P.tree probe.old) }
 {
-    let (found, left) = resolve_part(probe, from, MOST_LINKS - used, part, Last::Followed)?;
+    let left = LinksLeft {
+        count: MOST_LINKS - used,
+    };
+    let (found, left) = resolve_part(probe, from, left, part, Last::Followed)?;
     match found {
         Found::Whole { dir, .. } => Ok((dir, MOST_LINKS - left)),
         Found::Slot { node, .. } => Err(not_entered(node)),
@@ -238,7 +238,10 @@ pub fn last<'t, P: Probe<'t>>(
     ensures tree { P.tree probe.new ≡ P.tree probe.old }
     ensures cost { P.count probe.new ≤ P.count probe.old + part_cost (P.tree probe.old) }
 {
-    let (found, _) = resolve_part(probe, from, MOST_LINKS - used, part, mode)?;
+    let left = LinksLeft {
+        count: MOST_LINKS - used,
+    };
+    let (found, _) = resolve_part(probe, from, left, part, mode)?;
     Ok(found)
 }
 
@@ -264,27 +267,26 @@ pub fn follow<'t, P: Probe<'t>>(
     ensures tree { P.tree probe.new ≡ P.tree probe.old }
     ensures cost { P.count probe.new ≤ P.count probe.old + part_cost (P.tree probe.old) }
 {
-    let (found, left) = resolve_part(probe, from, MOST_LINKS, part, Last::Followed)?;
+    let (found, left) = resolve_part(probe, from, LinksLeft::ALL, part, Last::Followed)?;
     Ok((found, MOST_LINKS - left))
 }
 
 fn resolve_part<'t, P: Probe<'t>>(
     probe: &mut P,
     from: Start,
-    left: u8,
+    left: LinksLeft,
     part: &Part,
     mode: Last,
 ) -> Result<(Found, u8), Errno>
-    requires left { left ≤ most_links }
     ensures exact { let t = rooted (P.tree probe.old) from.root in
-        result ≡ resolve_parts left t mode from.dir ways.Top (part.now ∷ []) }
+        result ≡ resolve_parts left.count t mode from.dir ways.Top (part.now ∷ []) }
     ensures fits { IsTrue (is_dir (P.tree probe.old) from.root) →
         IsTrue (is_dir (P.tree probe.old) from.dir) →
         IfOk result (λ found. FoundFits (P.tree probe.old) found.0) }
     ensures named { IsTrue (is_dir (P.tree probe.old) from.root) →
         IsTrue (is_dir (P.tree probe.old) from.dir) →
         IfOk result (λ found. StandsAsNamed (P.tree probe.old) found.0) }
-    ensures left { IfOk result (λ found. found.1 ≤ left) }
+    ensures left { IfOk result (λ found. found.1 ≤ left.count) }
     ensures tree { P.tree probe.new ≡ P.tree probe.old }
     ensures cost { P.count probe.new ≤ P.count probe.old + part_cost (P.tree probe.old) }
 {
@@ -293,7 +295,7 @@ fn resolve_part<'t, P: Probe<'t>>(
     match lead_by_part(probe, Start { root, dir }, part, mode) {
         Onward::Directory(dir, way) => {
             let way = way.way();
-            Ok((Found::Whole { dir, way }, left))
+            Ok((Found::Whole { dir, way }, left.count))
         }
         Onward::Link(target) => {
             let nothing = Readable { bytes: &[] };
@@ -303,7 +305,7 @@ fn resolve_part<'t, P: Probe<'t>>(
                 Err(errno) => Err(errno),
             }
         }
-        Onward::Found(lent) => Ok((lent.found(), left)),
+        Onward::Found(lent) => Ok((lent.found(), left.count)),
         Onward::Nowhere(errno) => Err(errno),
     }
 }
@@ -548,24 +550,22 @@ fn above<'t, P: Probe<'t>>(probe: &mut P, from: Start) -> NodeId
 }
 
 /// A resolution on its way: the root by which it goes, the directory where it is, how that was
-/// named, how many links it may still follow, and the parts that are left.
+/// named, and the parts that are left.
 #[derive(Drop)]
 struct Resolving<'a> {
     root: NodeId,
     here: NodeId,
     way: Nameless,
-    left: u8,
     rest: Rest<'a>,
 }
 
 impl<'a> Resolving<'a> {
     #[inline(always)]
-    fn new(from: Start, left: u8, rest: Rest<'a>) -> Resolving<'a>
+    fn new(from: Start, rest: Rest<'a>) -> Resolving<'a>
         ensures { result ≡ record {
           root = from.root;
           here = from.dir;
           way = nameless.Top;
-          left = left;
           rest = rest.entry;
         } }
     {
@@ -573,7 +573,6 @@ impl<'a> Resolving<'a> {
             root: from.root,
             here: from.dir,
             way: Nameless::Top,
-            left,
             rest,
         }
     }
@@ -584,9 +583,8 @@ impl<'a> Resolving<'a> {
         probe: &mut P,
         mode: Last,
     ) -> Result<(LentFound<'a>, u8), Errno>
-        requires room { self.old.rest.depth + self.old.left ≤ most_links }
         ensures exact { resolved_seen result ≡ walk_end (P.tree probe.old) mode self.old }
-        ensures left { IfOk result (λ found. found.1 ≤ self.old.left) }
+        ensures left { IfOk result (λ found. found.1 ≤ self.old.rest.left) }
         ensures tree { P.tree probe.new ≡ P.tree probe.old }
         ensures count { P.count probe.new
             ≤ P.count probe.old + 3 * potential_of (P.tree probe.old) self.old }
@@ -594,13 +592,13 @@ impl<'a> Resolving<'a> {
         while let Some(piece) = self.rest.next() {
             match self.enter_piece(probe, piece, mode) {
                 Ok(None) => {}
-                Ok(Some(lent)) => return Ok((lent, self.left)),
+                Ok(Some(lent)) => return Ok((lent, self.rest.left())),
                 Err(errno) => return Err(errno),
             }
         }
         let way = self.way.lent();
         let dir = self.here;
-        Ok((LentFound::Whole { dir, way }, self.left))
+        Ok((LentFound::Whole { dir, way }, self.rest.left()))
     }
 
     /// Resolves the part that a piece is, and answers what was found, where it ends the resolution.
@@ -610,16 +608,14 @@ impl<'a> Resolving<'a> {
         piece: Piece<'a>,
         mode: Last,
     ) -> Result<Option<LentFound<'a>>, Errno>
-        requires room { self.old.rest.depth + self.old.left ≤ most_links }
         ensures exact { let part = part_of piece.entry.bytes.now in
             LeadsOn (P.tree probe.old) mode part self.old result self.new }
         ensures traced { let bytes = piece.entry.bytes.now in
             TracesOn (P.tree probe.old) mode (part_of bytes) bytes self.old result self.new }
         ensures stopped { IfErr result (λ _. IsTrue (is_name piece.entry.bytes.now)) }
-        ensures linked { self.new.left < self.old.left →
+        ensures linked { self.new.rest.left < self.old.rest.left →
             IsTrue (is_name piece.entry.bytes.now) }
-        ensures room { self.new.rest.depth + self.new.left ≤ most_links }
-        ensures left { self.new.left ≤ self.old.left }
+        ensures left { self.new.rest.left ≤ self.old.rest.left }
         ensures potential { let t = P.tree probe.old in
             potential_of t self.new ≤ potential_of t self.old }
         ensures tree { P.tree probe.new ≡ P.tree probe.old }
@@ -646,29 +642,23 @@ impl<'a> Resolving<'a> {
 
     /// Follows a link: its target comes before the parts that are left.
     fn follow(&mut self, target: Readable<'a>) -> Result<(), Errno>
-        requires room { self.old.rest.depth + self.old.left ≤ most_links }
-        ensures ok { OnOk result (0 < self.old.left) }
-        ensures err { IfErr result (λ errno. (errno ≡ ELOOP) × (self.old.left ≡ 0)) }
-        ensures left { self.new.left ≡ self.old.left - 1 }
-        ensures unchanged { self.old.left ≡ 0 → self.new ≡ self.old }
+        ensures ok { OnOk result (0 < self.old.rest.left) }
+        ensures err { IfErr result (λ errno. (errno ≡ ELOOP) × (self.old.rest.left ≡ 0)) }
+        ensures left { self.new.rest.left ≡ self.old.rest.left - 1 }
+        ensures unchanged { self.old.rest.left ≡ 0 → self.new ≡ self.old }
         ensures root { self.new.root ≡ self.old.root }
-        ensures here { 0 < self.old.left → self.new.here
+        ensures here { 0 < self.old.rest.left → self.new.here
             ≡ start_of self.old.root target.entry.bytes.now self.old.here }
-        ensures way { 0 < self.old.left → self.new.way ≡ nameless.Top }
-        ensures parts { 0 < self.old.left →
+        ensures way { 0 < self.old.rest.left → self.new.way ≡ nameless.Top }
+        ensures parts { 0 < self.old.rest.left →
             self.new.rest.parts
             ≡ parts_of ending.Dot target.entry.bytes.now ++ self.old.rest.parts }
-        ensures room { self.new.rest.depth + self.new.left ≤ most_links }
     {
-        if self.left == 0 {
-            return Err(Errno::ELOOP);
-        }
-        self.left -= 1;
+        self.rest.put(target)?;
         if is_absolute(target.bytes) {
             self.here = self.root;
         }
         self.way = Nameless::Top;
-        self.rest.put(target);
         Ok(())
     }
 }

@@ -1,7 +1,7 @@
 -- What is told of an object is so.
 use Rattle.pua_policy.proofs.Common.{◌≡◌, ℕ, Call, Bool, true, false, refl, if◌then◌else◌, Option, Some, None}
 use Rattle.std.specs.Prelude.{IfSome, is_some}
-use Rattle.pua_tree.specs.Tree.{Tree, is_empty}
+use Rattle.pua_tree.specs.Tree.{Tree, is_empty, is_mount}
 use Rattle.pua_path.specs.declared.found.Way.TheVariants as way
 use Rattle.pua_calls.specs.declared.call.Call.TheVariants as call
 use Rattle.pua_tree.specs.declared.node.Kind.{Kind}
@@ -9,7 +9,7 @@ use Rattle.pua_tree.specs.declared.node.Kind.TheVariants.{Dir, File, Prog, Link,
 use Rattle.pua_tree.specs.declared.node.FileType.TheVariants.{Plain, Sock, Fifo, Dev}
 use Rattle.pua_calls.specs.declared.rules.Rules.{Rules}
 use Rattle.pua_calls.specs.declared.rules.Rules.TheVariants.{Standard, Openbsd}
-use Rattle.pua_policy.specs.Misfits.{Object, IsDir, Is, IsMissing, dotdot_misfit, misfit}
+use Rattle.pua_policy.specs.Misfits.{Object, IsDir, Is, IsMissing, dotdot_misfit, named_misfit, mount_misfit, misfit}
 use Rattle.pua_calls.specs.declared.fits.Misfit.{Misfit}
 use Rattle.pua_calls.specs.declared.fits.Misfit.TheVariants.{Missing, Exists, IsDirectory, IsNoFile, IsNoDirectory, IsNoLink}
 use Rattle.pua_calls.specs.declared.fits.Misfit.TheVariants.{IsNoProgram, IsNotEmpty, IsSocket, IsNoSocket, InUse}
@@ -91,11 +91,17 @@ pub misfits_hold : MisfitsHold
 misfits_hold whose t call.Rmdir (IsDir dir way.Dot) = (dir, refl)
 misfits_hold whose t call.Rmdir (IsDir dir way.DotDot) = of_parent t whose dir (is_empty t dir) refl
 misfits_hold whose t call.Rmdir (IsDir dir way.Top) = (dir, refl)
-misfits_hold whose t call.Rmdir (IsDir dir (way.Named parent name)) = by (is_empty t dir) refl
+misfits_hold whose t call.Rmdir (IsDir dir (way.Named parent name)) = by (is_mount t dir) (is_empty t dir) refl refl
   where
-    by : (v : Bool) → is_empty t dir ≡ v → IfSome (if v then None else Some IsNotEmpty) (MisfitHolds t (IsDir dir (way.Named parent name)))
-    by true e = tt
-    by false e = (dir, way.Named parent name, refl, e)
+    by : (m v : Bool) → is_mount t dir ≡ m → is_empty t dir ≡ v → IfSome (named_misfit m v) (MisfitHolds t (IsDir dir (way.Named parent name)))
+    by true v m e = (dir, way.Named parent name, refl, m)
+    by false true m e = tt
+    by false false m e = (dir, way.Named parent name, refl, e)
+misfits_hold whose t call.Unlink (IsDir dir w) = by (is_mount t dir) refl
+  where
+    by : (m : Bool) → is_mount t dir ≡ m → MisfitHolds t (IsDir dir w) (mount_misfit IsNoFile m)
+    by true m = (dir, w, refl, m)
+    by false m = tt
 misfits_hold whose t c (IsDir dir way) = known t (IsDir dir way) (misfit whose t c (IsDir dir way)) refl
 misfits_hold whose t c (Is kind) = known t (Is kind) (misfit whose t c (Is kind)) (of_kind t whose c kind)
 misfits_hold whose t c IsMissing = known t IsMissing (misfit whose t c IsMissing) (of_missing t whose c)

@@ -1,7 +1,7 @@
 -- What is true of what is told of promises, of veils and of objects.
 use Rattle.std.specs.Prelude.{◌≡◌, ◌≢◌, ◌↔◌, ℕ, true, false, List, [], ◌∷◌, ◌++◌, Some, None, is_none, IfSome, bit_or}
 use Rattle.std.specs.List.{list_all}
-use Rattle.pua_tree.specs.Tree.{Tree, is_empty}
+use Rattle.pua_tree.specs.Tree.{Tree, is_empty, is_mount}
 use Rattle.pua_path.specs.declared.found.Way.{Way}
 use Rattle.pua_path.specs.declared.found.Way.TheVariants as way
 use Rattle.pua_path.specs.declared.found.Found.{Found}
@@ -20,6 +20,7 @@ use Rattle.pua_policy.specs.declared.reason.Covering.TheVariants.{InView, NoneOv
 use Rattle.pua_calls.specs.declared.fits.Misfit.{Misfit}
 use Rattle.pua_calls.specs.declared.fits.Misfit.TheVariants.{Missing, Exists, IsDirectory, IsNoFile, IsNoDirectory, IsNoLink}
 use Rattle.pua_calls.specs.declared.fits.Misfit.TheVariants.{IsNoProgram, IsNotEmpty, ByDot, ByDotDot, ByNothing, IsSocket, IsNoSocket, InUse}
+use Rattle.pua_calls.specs.declared.fits.Misfit.TheVariants.{IsMountPoint, IsElsewhere}
 
 -- what is told of promises is so: the set is one of those asked for, and held; or of each set some is not held, and with just that it were
 pub record LacksSome (p : ProcessState) (set some : ℕ) : Type 0 where
@@ -101,6 +102,8 @@ MisfitHolds t object ByNothing = (dir : ℕ) × (object ≡ IsDir dir way.Top)
 MisfitHolds t object IsSocket = object ≡ IsSock
 MisfitHolds t object IsNoSocket = IsNoMissing object × (object ≢ IsFile) × (object ≢ IsSock)
 MisfitHolds t object InUse = IsNoMissing object
+MisfitHolds t object IsMountPoint = (dir : ℕ) × (by : Way) × (object ≡ IsDir dir by) × (is_mount t dir ≡ true)
+MisfitHolds t object IsElsewhere = ⊥
 
 abbrev pub MisfitsHold : Type 0
 MisfitsHold = (whose : Rules) (t : Tree) (call : Call) (object : Object) → IfSome (misfit whose t call object) (MisfitHolds t object)

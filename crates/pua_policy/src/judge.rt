@@ -1,9 +1,9 @@
 //! The verdict on a call.
 
 ghost use Rattle.std.specs.Prelude.{◌≡◌, ◌+◌, ◌≤◌, [], ◌∷◌, length};
-ghost use Rattle.std.specs.Prelude.{None, Some, is_none, MatchResult};
+ghost use Rattle.std.specs.Prelude.{None, Some, is_none, option_map, MatchResult};
 ghost use Rattle.std.specs.Result.{result_err};
-ghost use Rattle.pua_tree.specs.Tree.{Tree};
+ghost use Rattle.pua_tree.specs.Tree.{Tree, is_mount};
 ghost use Rattle.pua_calls.specs.Calls.{rule_of};
 ghost use Rattle.pua_calls.specs.CallSets.{has};
 ghost use Rattle.pua_calls.specs.declared.rules.Rules.TheVariants.{Standard};
@@ -13,14 +13,15 @@ ghost use Rattle.pua_policy.specs.Verdict.{FoundFits, FoundsFit, verdict, verdic
 ghost use Rattle.pua_policy.specs.Verdict.{covered_verdict, is_allowed, refusal_of, found_fault};
 ghost use Rattle.pua_policy.specs.Verdict.{cover_fault, object_fault, object_of, object_of_kind};
 ghost use Rattle.pua_policy.specs.Verdict.{Object as Judged};
-ghost use Rattle.pua_policy.specs.Misfits.{dotdot_misfit, misfit, misfit_by, rmdir_misfit};
+ghost use Rattle.pua_policy.specs.Misfits.{dotdot_misfit, misfit, misfit_by, mount_misfit};
+ghost use Rattle.pua_policy.specs.Misfits.{named_misfit, rmdir_misfit};
 ghost use Rattle.pua_path.specs.Walks.{found_seen, way_seen};
 
 use crate::answer::{Cover, May, Refusal, Verdict};
 use crate::object::Object;
 use crate::process::Process;
 use pua_calls::{Call, CallTable, Calls, Fits, Misfit, Perms, Promises, Rules};
-use pua_path::{Errno, Found, LentFound, LentWay, Probe};
+use pua_path::{Errno, Found, LentFound, LentWay, Probe, Vacancy};
 use pua_tree::{Kind, NodeId};
 
 /// Whether a process may do what needs all of these promises. Without them the call fails with
@@ -265,7 +266,7 @@ fn misfit_lent<'t, P: Probe<'t>>(
     let fits = call.fits();
     match found {
         LentFound::Whole { dir, way } if fits.by_way => rmdir_misfit(probe, whose, *dir, way),
-        LentFound::Whole { .. } => fits.directory,
+        LentFound::Whole { dir, .. } => directory_misfit(probe, &fits, *dir),
         LentFound::Slot { node: Some(id), .. } => slot_misfit(&fits, probe.kind(*id)),
         LentFound::Slot { node: None, .. } => fits.missing,
     }
@@ -314,8 +315,47 @@ fn rmdir_misfit<'t, P: Probe<'t>>(
         LentWay::Dot => Some(Misfit::ByDot),
         LentWay::DotDot => Some(dotdot_misfit(whose, probe.is_empty(dir))),
         LentWay::Top => Some(Misfit::ByNothing),
-        LentWay::Named { .. } if probe.is_empty(dir) => None,
-        LentWay::Named { .. } => Some(Misfit::IsNotEmpty),
+        LentWay::Named { .. } => named_misfit(probe.vacancy(dir)),
+    }
+}
+
+/// What is wrong with removing a directory by its name: another file system is mounted there
+/// (rmdir(2)), or it has rows.
+fn named_misfit(vacancy: Vacancy) -> Option<Misfit>
+    ensures { result ≡ named_misfit vacancy.mount vacancy.empty }
+{
+    if vacancy.mount {
+        Some(Misfit::IsMountPoint)
+    } else if vacancy.empty {
+        None
+    } else {
+        Some(Misfit::IsNotEmpty)
+    }
+}
+
+/// What is wrong with a directory for a call by which no directory is removed. One that is to be
+/// unlinked may have another file system mounted there (unlink(2)).
+fn directory_misfit<'t, P: Probe<'t>>(probe: &mut P, fits: &Fits, dir: NodeId) -> Option<Misfit>
+    ensures exact { result ≡ option_map (λ wrong. mount_misfit wrong (is_mount (P.tree probe.old) dir))
+        fits.now.directory }
+    ensures tree { P.tree probe.new ≡ P.tree probe.old }
+    ensures cost { P.count probe.new ≤ P.count probe.old + 1 }
+{
+    match fits.directory {
+        Some(wrong) => Some(mount_misfit(probe, wrong, dir)),
+        None => None,
+    }
+}
+
+/// The same, where something is wrong with each directory.
+fn mount_misfit<'t, P: Probe<'t>>(probe: &mut P, wrong: Misfit, dir: NodeId) -> Misfit
+    ensures exact { result ≡ mount_misfit wrong (is_mount (P.tree probe.old) dir) }
+    ensures tree { P.tree probe.new ≡ P.tree probe.old }
+    ensures cost { P.count probe.new ≤ P.count probe.old + 1 }
+{
+    match wrong {
+        Misfit::IsNoFile if probe.vacancy(dir).mount => Misfit::IsMountPoint,
+        _ => wrong,
     }
 }
 

@@ -1,12 +1,12 @@
 -- What a list shows of a small tree.
-use Rattle.std.proofs.Common.{[], ◌∷◌, None}
+use Rattle.std.proofs.Common.{[], ◌∷◌, None, false}
 use Rattle.std.specs.Prelude.{codes}
 use Rattle.pua_tree.specs.Tree.{Tree, Node, empty_tree}
 use Rattle.pua_tree.specs.declared.node.Kind.TheVariants.{Dir}
 use Rattle.pua_policy.specs.States.{ProcessState, new_process}
 
 abbrev directory : Node
-directory = record { kind = Dir; target = None }
+directory = record { kind = Dir; target = None; mount = false }
 
 -- a root with a directory below it
 abbrev pub root_tree : Tree

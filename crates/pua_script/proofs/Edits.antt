@@ -5,12 +5,11 @@ use Rattle.pua_script.proofs.Common.{is_full_dir, without_unnamed, without_row, 
 use Rattle.pua_script.proofs.Common.{object_of, Call, NameFits}
 use Rattle.std.specs.Prelude.{◌&&◌, not}
 use Rattle.std.specs.Option.{option_eq}
-use Rattle.pua_tree.specs.Tree.{has_no_row, kind_at}
+use Rattle.pua_tree.specs.Tree.{has_no_row, is_mount, kind_at}
 use Rattle.pua_tree.specs.declared.node.FileType.TheVariants.{Plain, Sock, Fifo, Dev}
 use Rattle.pua_tree.specs.declared.node.Kind.TheVariants as kinds
 use Rattle.pua_tree.specs.declared.fault.TreeFault.TheVariants as faults
-use Rattle.pua_policy.specs.Misfits.{misfit_errno}
-use Rattle.pua_calls.specs.declared.fits.Misfit.TheVariants.{IsNotEmpty}
+use Rattle.pua_policy.specs.Misfits.{misfit_errno, named_misfit}
 use Rattle.pua_calls.specs.declared.rules.Rules.{Rules}
 use Rattle.pua_path.specs.declared.found.Way.TheVariants as ways
 use Rattle.pua_policy.specs.Verdict.{object_of_kind}
@@ -44,9 +43,10 @@ empty_alone t x empty = ap (λ b. is_dir t x && not b) (and_parts (is_dir t x) (
     by true = refl
     by false = refl
 
-is_emptied : (b : Bool) → option_map misfit_errno (cond b None (Some IsNotEmpty)) ≡ None → b ≡ true
-is_emptied true is = refl
-is_emptied false is = absurd (some_none _ is)
+is_emptied : (mount b : Bool) → option_map misfit_errno (named_misfit mount b) ≡ None → b ≡ true
+is_emptied mount true is = refl
+is_emptied false false is = absurd (some_none _ is)
+is_emptied true false is = absurd (some_none _ is)
 
 module _ (whose : Rules) (t : Tree) where
   removable_at : (dir : ℕ) (name : List ℕ) (o : Option Spot) → o ≡ Some (dir, name) → IsOk (cut t dir name) → (spot : Spot) →
@@ -65,7 +65,7 @@ module _ (whose : Rules) (t : Tree) where
   pub rmdir_removes : (object : Found) → IsFor whose t calls.Rmdir object → IsRemovable t object
   rmdir_removes (Whole dir (ways.Named parent name)) for =
       removable_at parent name (Some (parent, name)) refl (cut_ok t parent name dir for.name.named.0 for.name.named.1
-      (empty_alone t dir (is_emptied (is_empty t dir) for.kind)))
+      (empty_alone t dir (is_emptied (is_mount t dir) (is_empty t dir) for.kind)))
   rmdir_removes (Whole dir ways.Dot) for = absurd (some_none _ for.kind)
   rmdir_removes (Whole dir ways.DotDot) for = absurd (some_none _ for.kind)
   rmdir_removes (Whole dir ways.Top) for = absurd (some_none _ for.kind)

@@ -26,11 +26,13 @@ use Rattle.pua_calls.specs.declared.fits.Misfit.{Misfit}
 use Rattle.pua_calls.specs.declared.fits.Misfit.TheVariants.{Missing, Exists, IsDirectory, IsNoFile, IsNoDirectory, IsNoLink}
 use Rattle.pua_calls.specs.declared.rules.Rules.{Rules}
 use Rattle.pua_calls.specs.declared.fits.Misfit.TheVariants.{IsNoProgram, IsNotEmpty, ByDot, ByDotDot, ByNothing, IsSocket, IsNoSocket, InUse}
+use Rattle.pua_calls.specs.declared.fits.Misfit.TheVariants.{IsMountPoint, IsElsewhere}
 use Rattle.pua_policy.specs.declared.answer.Cover.TheVariants as covers
 use Rattle.pua_policy.specs.declared.answer.UnveilFault.{UnveilFault}
 use Rattle.pua_policy.specs.declared.answer.UnveilFault.TheVariants as unveil_faults
 use Rattle.pua_policy.specs.declared.answer.May.TheVariants as may
-use Rattle.pua_path.specs.declared.errno.Errno.TheVariants.{EEXIST, EISDIR}
+use Rattle.pua_path.specs.declared.errno.Errno.TheVariants.{EEXIST, EISDIR, EXDEV}
+use Rattle.pua_script.specs.Decide.{fits_fault, is_elsewhere}
 use Rattle.pua_script.specs.Decide.{fails, unless_fault, if_named as decide_named}
 use Rattle.pua_script.specs.Decide.{decide_object, cover_past, past_promises, Sole}
 use Rattle.pua_script.specs.Decide.{decide_pair, decide_veil, dots_fault, top_fault, before_long, errno_behind, front_errno, named_in, path_named}
@@ -70,11 +72,17 @@ inside_apart : (t : Tree) (x : ℕ) (spot : Option Spot) → Apart (inside_fault
 inside_apart t x None = λ e. cc
 inside_apart t x (Some spot) = if_apart (is_inside t x spot.0) EINVAL (λ e. cc)
 
-kinds_apart : (t : Tree) (x : ℕ) (old new : Found) → Apart (kinds_fault t x old new)
-kinds_apart t x old (Whole y way) =
+fits_apart : (t : Tree) (old new : Found) → Apart (fits_fault t old new)
+fits_apart t old (Whole y way) =
     or_apart _ _ (if_apart (not (is_whole old)) EISDIR (λ e. cc)) (if_apart (not (is_empty t y)) ENOTEMPTY (λ e. cc))
-kinds_apart t x old (Slot dir name None) = λ e. cc
-kinds_apart t x old (Slot dir name (Some y)) = if_apart (is_whole old) ENOTDIR (λ e. cc)
+fits_apart t old (Slot dir name None) = λ e. cc
+fits_apart t old (Slot dir name (Some y)) = if_apart (is_whole old) ENOTDIR (λ e. cc)
+
+away_apart : (t : Tree) (old new : Found) → Apart (fault_if (is_elsewhere t old new) EXDEV)
+away_apart t old new = if_apart (is_elsewhere t old new) EXDEV (λ e. cc)
+
+kinds_apart : (t : Tree) (x : ℕ) (old new : Found) → Apart (kinds_fault t x old new)
+kinds_apart t x old new = or_apart _ _ (away_apart t old new) (fits_apart t old new)
 
 -- faults that are not ENOSPC, of paths
 fault_or : (b : Bool) (errno : Errno) (o : Option Errno) → errno ≢ ENOSPC → Apart o → Apart (cond b (Some errno) o)
@@ -199,6 +207,8 @@ misfit_apart (Some ByNothing) = λ e. cc
 misfit_apart (Some IsSocket) = λ e. cc
 misfit_apart (Some IsNoSocket) = λ e. cc
 misfit_apart (Some InUse) = λ e. cc
+misfit_apart (Some IsMountPoint) = λ e. cc
+misfit_apart (Some IsElsewhere) = λ e. cc
 
 object_apart : (whose : Rules) (t : Tree) (c : Call) (o : Object) → Apart (object_fault whose t c o)
 object_apart whose t c o = misfit_apart (misfit whose t c o)
@@ -277,10 +287,11 @@ rename_has_room t asks old new (Some x) =
     by true = granted_apart NoChange
     by false = checked_apart _ _ (or_apart _ _ (inside_apart t x (spot_named new)) (kinds_apart t x old new)) (granted_apart _)
 
-pub link_has_room : (old new : Found) (x : Option ℕ) → HasRoom (decide_link old new x)
-link_has_room old new None = λ e. cc
-link_has_room old new (Some x) =
-    checked_apart _ _ (or_apart _ _ (if_apart (is_whole old) EPERM (λ e. cc)) (if_apart (is_some (node_named new)) EEXIST (λ e. cc)))
+pub link_has_room : (t : Tree) (old new : Found) (x : Option ℕ) → HasRoom (decide_link t old new x)
+link_has_room t old new None = λ e. cc
+link_has_room t old new (Some x) =
+    checked_apart _ _ (or_apart _ _ (if_apart (is_whole old) EPERM (λ e. cc))
+    (or_apart _ _ (if_apart (is_some (node_named new)) EEXIST (λ e. cc)) (away_apart t old new)))
     (granted_apart _)
 
 pub veil_has_room : (whose : Rules) (t : Tree) (h : ProcessState) (path : List ℕ) (perms : Option ℕ) → HasRoom (decide_veil whose t (asker_of h) path perms)

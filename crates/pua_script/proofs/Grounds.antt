@@ -9,7 +9,7 @@ use Rattle.pua_calls.specs.declared.call.Call.TheVariants as call
 use Rattle.pua_calls.specs.Calls.{effect_of}
 use Rattle.pua_calls.specs.Effects.{makes as makes_name, removes}
 use Rattle.pua_calls.specs.TmpTable.{tmp_table}
-use Rattle.pua_script.specs.Decide.{file_opened, plain_node}
+use Rattle.pua_script.specs.Decide.{file_opened, is_elsewhere, plain_node}
 use Rattle.pua_tree.specs.declared.node.Kind.TheVariants as kind
 use Rattle.pua_calls.specs.declared.rules.Rules.{Rules}
 use Rattle.pua_calls.specs.declared.rules.Rules.TheVariants.{Standard, Openbsd}
@@ -41,6 +41,7 @@ module _ (table : CallTable) (t : Tree) (h : ProcessState) (action : Action) whe
     pub at : spot_named object ≡ Some spot
     pub free : node_named object ≡ None
     pub target : target_fits node.kind node.target ≡ true
+    pub mount : node.mount ≡ false
     pub bytes : is_in_bytes action ≡ true → (is_bytes path ≡ true) × LeadsToBytes node
     pub room : IsTrue (not (has_room t)) → IsTrue (lacks_room t action)
 
@@ -75,6 +76,7 @@ module _ (table : CallTable) (t : Tree) (h : ProcessState) (action : Action) whe
     pub two : OnTwo table.link t h Dot old_path new_path old new x
     pub no_dir : is_whole old ≡ false
     pub free : is_some (node_named new) ≡ false
+    pub near : is_elsewhere t old new ≡ false
     pub at : spot_named new ≡ Some spot
     pub bytes : is_in_bytes action ≡ true → is_bytes new_path ≡ true
     pub room : IsTrue (not (has_name_room t)) → IsTrue (lacks_room t action)
@@ -108,11 +110,11 @@ module _ (table : CallTable) (t : Tree) (h : ProcessState) (action : Action) whe
 
 module _ (table : CallTable) (t : Tree) (h : ProcessState) where
   pub on_adding : (action : Action) (c : Call) (path : List ℕ) (x : Found) (node : Node) → OnOne (tmp_table table) t h c path x → makes c ≡ true →
-      target_fits node.kind node.target ≡ true
+      target_fits node.kind node.target ≡ true → node.mount ≡ false
       → (is_in_bytes action ≡ true → (is_bytes path ≡ true) × LeadsToBytes node) →
       (IsTrue (not (has_room t)) → IsTrue (lacks_room t action))
       → Grounds table t h action (adding node x)
-  on_adding action c path x node on made target bytes room = by (spot_named x) (node_named x) refl refl
+  on_adding action c path x node on made target mount bytes room = by (spot_named x) (node_named x) refl refl
     where
       by : (s : Option Spot) (y : Option ℕ) → spot_named x ≡ s → node_named x ≡ y → Grounds table t h action (placing node s y)
       by (Some s) None at free =
@@ -125,6 +127,7 @@ module _ (table : CallTable) (t : Tree) (h : ProcessState) where
             at = at;
             free = free;
             target = target;
+            mount = mount;
             bytes = bytes;
             room = room;
           }
@@ -163,7 +166,7 @@ module _ (table : CallTable) (t : Tree) (h : ProcessState) where
   on_making c path x on (Some made) is =
       let parts = and_parts (makes c) (adds_node c && target_fits made None) is in
       let more = and_parts (adds_node c) (target_fits made None) parts.1 in
-      on_adding (OnPath c path) c path x (plain_node (made_as table.whose made)) on parts.0 (bare_as table.whose made more.1)
+      on_adding (OnPath c path) c path x (plain_node (made_as table.whose made)) on parts.0 (bare_as table.whose made more.1) refl
       (λ small. (small, no_target))
       (λ full. and_from (adds_node c) (not (has_room t)) more.0 full)
 
@@ -208,10 +211,11 @@ module _ (table : CallTable) (t : Tree) (h : ProcessState) where
       by None b at_old at_new = tt
 
   pub on_link : (action : Action) (old_path new_path : List ℕ) (old new : Found) (x : ℕ) →
-      OnTwo table.link t h Dot old_path new_path old new x → is_whole old ≡ false → is_some (node_named new) ≡ false
+      OnTwo table.link t h Dot old_path new_path old new x → is_whole old ≡ false → is_some (node_named new) ≡ false →
+      is_elsewhere t old new ≡ false
       → (is_in_bytes action ≡ true → is_bytes new_path ≡ true) → (IsTrue (not (has_name_room t)) → IsTrue (lacks_room t action)) →
       Grounds table t h action (tying x (spot_named new))
-  on_link action old_path new_path old new x two no_dir free bytes room = by (spot_named new) refl
+  on_link action old_path new_path old new x two no_dir free near bytes room = by (spot_named new) refl
     where
       by : (s : Option Spot) → spot_named new ≡ s → Grounds table t h action (tying x s)
       by (Some s) at = record {
@@ -222,6 +226,7 @@ module _ (table : CallTable) (t : Tree) (h : ProcessState) where
         two = two;
         no_dir = no_dir;
         free = free;
+        near = near;
         at = at;
         bytes = bytes;
         room = room;

@@ -10,7 +10,8 @@ use Rattle.std.specs.Prelude.{not, ok_or, ◌||◌}
 use Rattle.std.proofs.lemmas.Bool.{not-false}
 use Rattle.pua_calls.specs.Promises.{id, recvfd}
 use Rattle.pua_policy.specs.declared.open_file.OpenFile.{OpenFile}
-use Rattle.pua_path.specs.declared.errno.Errno.TheVariants.{EBADF, EPERM, EEXIST, ENOTDIR}
+use Rattle.pua_path.specs.declared.errno.Errno.TheVariants.{EBADF, EPERM, EEXIST, ENOTDIR, EXDEV}
+use Rattle.pua_script.specs.Decide.{is_elsewhere}
 use Rattle.pua_path.specs.declared.text.Ending.TheVariants as ending
 use Rattle.pua_path.specs.declared.found.Found.TheVariants.{Whole, Slot}
 use Rattle.pua_path.specs.declared.found.Last.TheVariants.{Followed}
@@ -233,17 +234,20 @@ decisions_are_guarded table t h (Rename old new) change e =
     let r = renamed t h asks p.0 p.1 p.2 change p.4 in
     record { old = p.0; new = p.1; node = p.2; two = p.3; ways = r.0; moves = r.1 }
 decisions_are_guarded table t h (Link old new) change e =
-    let p = pair t h table.whose table.link ending.Dot old new decide_link change (λ a b never. cc) e in
-    let free = from_checked (or_fault (fault_if (is_whole p.0) EPERM) (fault_if (is_some (node_named p.1)) EEXIST)) _ change p.4 in
+    let p = pair t h table.whose table.link ending.Dot old new (decide_link t) change (λ a b never. cc) e in
     let a = fault_if (is_whole p.0) EPERM in
     let b = fault_if (is_some (node_named p.1)) EEXIST in
+    let away = fault_if (is_elsewhere t p.0 p.1) EXDEV in
+    let free = from_checked (or_fault a (or_fault b away)) _ change p.4 in
+    let rest = second_none a (or_fault b away) free.0 in
     record {
       old = p.0;
       new = p.1;
       node = p.2;
       two = p.3;
-      no_dir = not_faulty _ EPERM (first_none a b free.0);
-      free = not_faulty _ EEXIST (second_none a b free.0);
+      no_dir = not_faulty _ EPERM (first_none a (or_fault b away) free.0);
+      free = not_faulty _ EEXIST (first_none b away rest);
+      near = not_faulty _ EXDEV (second_none b away rest);
       is = is_ok _ _ free.1;
     }
 decisions_are_guarded table t h (Pledge p x) change e =
@@ -308,13 +312,13 @@ module _ (table : CallTable) (t : Tree) (h : ProcessState) where
   ]
   grounds (Symlink target path) c d = subst (Grounds table t h (Symlink target path)) (sym d.3)
       (on_adding table t h (Symlink target path) call.Symlink path d.0 (link_node target)
-      (tmp_one table t h call.Symlink path d.0 d.1) refl (target_is target d.2)
+      (tmp_one table t h call.Symlink path d.0 d.1) refl (target_is target d.2) refl
       (λ small. let two = and_parts (is_bytes target) (is_bytes path) small in (two.1, link_leads table t h target two.0)) (λ full. full))
   grounds (Rename old new) c d =
       on_rename table t h (Rename old new) old new d.old d.new d.node c d.two (λ small. (and_parts (is_bytes old) (is_bytes new) small).1)
       d.moves
   grounds (Link old new) c d = subst (Grounds table t h (Link old new)) (sym d.is)
-      (on_link table t h (Link old new) old new d.old d.new d.node d.two d.no_dir d.free
+      (on_link table t h (Link old new) old new d.old d.new d.node d.two d.no_dir d.free d.near
       (λ small. (and_parts (is_bytes old) (is_bytes new) small).1) (λ full. full))
   grounds (Pledge p x) c d = subst (Grounds table t h (Pledge p x)) (sym d.is) tt
   grounds (Unveil path perms) c d = subst (Grounds table t h (Unveil path perms)) (sym d.is) (d.promised, d.unlocked)
@@ -358,7 +362,7 @@ refusals_lack_no_room table t h (Symlink target path) =
     promised_apart _ _ (checked_apart _ _ (path_apart target) (object_has_room table t h call.Symlink path (adding (link_node target))))
 refusals_lack_no_room table t h (Rename old new) =
     pair_has_room table.whose table.rename t h ending.Dropped old new _ λ a b. rename_has_room t (asks_directory table.whose old new) a b (node_named a)
-refusals_lack_no_room table t h (Link old new) = pair_has_room table.whose table.link t h ending.Dot old new _ λ a b. link_has_room a b (node_named a)
+refusals_lack_no_room table t h (Link old new) = pair_has_room table.whose table.link t h ending.Dot old new _ λ a b. link_has_room t a b (node_named a)
 refusals_lack_no_room table t h (Pledge promises execpromises) =
     checked_apart _ _ (if_apart (is_unknown promises || is_unknown execpromises) EINVAL (λ e. cc))
     (checked_apart _ _ (none_or _ EPERM (λ e. cc)) (granted_apart _))

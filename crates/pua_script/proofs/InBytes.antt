@@ -38,7 +38,7 @@ made_leads : (form : Form) (earlier : List Entry) (e : Entry) (made : Option Nod
 made_leads form earlier e None rest fits all = all
 made_leads form earlier e (Some node) rest fits all =
     and_from (leads_to_bytes node.target) _
-    (stands_in_bytes node.kind node.target (and_parts (kind_known form node.kind) _ (and_parts _ _ fits).1).1) all
+    (stands_in_bytes node.kind node.target (and_parts (target_stands node.kind node.target) _ (and_parts (kind_known form node.kind) _ (and_parts _ _ fits).1).1).0) all
 
 entries_lead : (form : Form) (earlier es : List Entry) → entries_fit form earlier es ≡ true →
     list_all node_leads (filter_map made_entry es) ≡ true

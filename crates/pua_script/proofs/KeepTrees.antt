@@ -11,7 +11,7 @@ use Rattle.pua_script.proofs.Common.{edit_effect, edited_tree, kept_at, apply, c
 use Rattle.pua_script.proofs.Common.{is_pledged, sent_by, take_effect}
 use Rattle.std.specs.Prelude.{length, option_and_then}
 use Rattle.pua_tree.specs.Names.{is_name}
-use Rattle.pua_tree.specs.Tree.{target_at, rows_of}
+use Rattle.pua_tree.specs.Tree.{target_at, rows_of, mount_fits, is_dir_kind}
 use Rattle.pua_tree.specs.Edits.{without_node}
 use Rattle.pua_tree.specs.declared.fault.TreeFault.TheVariants.{Missing, Taken, NotDir, NotEmpty, Inside, Full, IsDir}
 use Rattle.pua_tree.proofs.ForCallers.{edits_keep_trees, same_or_other, without_here, without_elsewhere}
@@ -143,17 +143,21 @@ module _ (t : Tree) (is_tree : IsByteTree t) (h : ProcessState) where
   spot_is_name (Slot dir name y) named s e = let same : (dir, name) ≡ s = cc in subst (λ (r : Spot). is_name r.1 ≡ true) same named
 
 -- what the spots and the node of a change must be
-abbrev FitsBytes : Change → Type 0
-FitsBytes (AddNode spot node) = (is_name spot.1 ≡ true) × (target_fits node.kind node.target ≡ true) × LeadsToBytes node
+abbrev pub FitsBytes : Change → Type 0
+FitsBytes (AddNode spot node) = (is_name spot.1 ≡ true) × (target_fits node.kind node.target ≡ true) × LeadsToBytes node × (node.mount ≡ false)
 FitsBytes (ShiftRow old new) = is_name new.1 ≡ true
 FitsBytes (TieRow spot x) = is_name spot.1 ≡ true
 FitsBytes _ = Unit {0}
+
+-- where no file system is mounted, none has to be a directory
+pub bare : (node : Node) → node.mount ≡ false → mount_fits node ≡ true
+bare node none = ap (λ b. cond b (is_dir_kind (Some node.kind)) true) none
 
 module _ (w : World) (is_tree : IsByteTree w.tree) (h : ProcessState) where
   keeps : (c : Change) → FitsBytes c → IsByteTree (tree_left w.tree (change_effect w h c))
   keeps (AddNode spot node) fits = record {
     tree = well_edited w.tree is_tree h (add w.tree spot.0 spot.1 node)
-        (λ x u e. (edits_keep_trees.adding w.tree u spot.0 x spot.1 node is_tree.tree fits.0 fits.1 e).0);
+        (λ x u e. (edits_keep_trees.adding w.tree u spot.0 x spot.1 node is_tree.tree fits.0 fits.1 (bare node fits.3) e).0);
     targets = added_targets w.tree is_tree h spot.0 spot.1 node fits.2;
   }
   keeps (CutRow spot) fits = record {
@@ -195,11 +199,11 @@ module _ (w : World) (is_tree : IsByteTree w.tree) (h : ProcessState) where
       resolution_of_text w.tree (start h) end path mode ≡ Ok x → spot_named x ≡ Some s → is_name s.1 ≡ true
   name_in_bytes end path mode x s small found at = spot_is_name w.tree is_tree h x (found_named end path mode x small found) s at
 
-  fits_bytes : (table : CallTable) (action : Action) (c : Change) → Grounds table w.tree h action c → is_in_bytes action ≡ true →
+  pub fits_bytes : (table : CallTable) (action : Action) (c : Change) → Grounds table w.tree h action c → is_in_bytes action ≡ true →
       FitsBytes c
   fits_bytes table action (AddNode spot node) g small =
       let bytes = g.bytes small in
-      (name_in_bytes (ending_of g.call) g.path (last_of g.call) g.object spot bytes.0 g.on.found g.at, g.target, bytes.1)
+      (name_in_bytes (ending_of g.call) g.path (last_of g.call) g.object spot bytes.0 g.on.found g.at, g.target, bytes.1, g.mount)
   fits_bytes table action (ShiftRow from to) g small =
       name_in_bytes Dropped g.new_path table.rename.new.last g.new to (g.bytes small) g.two.found_new g.at_new
   fits_bytes table action (TieRow spot x) g small =

@@ -142,7 +142,7 @@ module _ (t : Tree) (is_tree : IsByteTree t) where
   linked_lead dir name x target = at (look t dir name) refl
     where
       kinds : (y : ℕ) (n : Node) → node_at t y ≡ Some n → (k : Kind) → n.kind ≡ k →
-          standing_of y (Some (record { kind = k; target = n.target })) ≡ Linked x target → IsLead target
+          standing_of y (Some (record { kind = k; target = n.target; mount = n.mount })) ≡ Linked x target → IsLead target
       kinds y n here kind.Dir e is = cc
       kinds y n here kind.File e is = cc
       kinds y n here kind.Prog e is = cc

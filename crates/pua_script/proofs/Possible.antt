@@ -10,7 +10,8 @@ use Rattle.std.proofs.lemmas.Bool.{not-false}
 use Rattle.pua_tree.specs.Tree.{has_no_row}
 use Rattle.pua_tree.specs.declared.fault.TreeFault.TheVariants as faults
 use Rattle.pua_path.specs.Fits.{FoundFits, StandsAtSpot}
-use Rattle.pua_path.specs.declared.errno.Errno.TheVariants.{ENOTEMPTY}
+use Rattle.pua_path.specs.declared.errno.Errno.TheVariants.{ENOTEMPTY, EXDEV}
+use Rattle.pua_script.specs.Decide.{fits_fault, is_elsewhere}
 use Rattle.pua_path.proofs.ForCallers.{resolutions_fit}
 use Rattle.pua_calls.specs.declared.call.Call.TheVariants as call
 use Rattle.pua_script.specs.Guards.{IsPossible}
@@ -56,18 +57,21 @@ module _ (t : Tree) where
   other_named (Slot dir name None) x fits other is = cc
   other_named (Slot dir name (Some y)) x fits other is = subst (λ z. is_dir t z ≡ false) (same_Some y x is) (slot_other dir name y fits)
 
-  kinds_alone : (x : ℕ) (old new : Found) → NameFits t new → kinds_fault t x old new ≡ None → is_full_dir_there t (node_named new) ≡ false
-  kinds_alone x old (Whole y way) fits e =
+  fits_alone : (old new : Found) → NameFits t new → fits_fault t old new ≡ None → is_full_dir_there t (node_named new) ≡ false
+  fits_alone old (Whole y way) fits e =
       empty_alone t y (not-false (is_empty t y) (not_faulty _ ENOTEMPTY (second_none _ (fault_if (not (is_empty t y)) ENOTEMPTY) e)))
-  kinds_alone x old (Slot dir name None) fits e = refl
-  kinds_alone x old (Slot dir name (Some y)) fits e = ap (λ b. b && not (has_no_row t y)) (slot_other dir name y fits.fits)
+  fits_alone old (Slot dir name None) fits e = refl
+  fits_alone old (Slot dir name (Some y)) fits e = ap (λ b. b && not (has_no_row t y)) (slot_other dir name y fits.fits)
+
+  kinds_alone : (x : ℕ) (old new : Found) → NameFits t new → kinds_fault t x old new ≡ None → is_full_dir_there t (node_named new) ≡ false
+  kinds_alone x old new fits e = fits_alone old new fits (second_none (fault_if (is_elsewhere t old new) EXDEV) (fits_fault t old new) e)
 
   nothing_named : (o : Option ℕ) → is_some o ≡ false → o ≡ None
   nothing_named None e = refl
   nothing_named (Some x) e = cc
 
   -- what stands at the spot by which something was found
-  stands : (x : Found) → NameFits t x → (s : Spot) (o : Option ℕ) → spot_named x ≡ Some s → node_named x ≡ o → StandsAtSpot t (Some s) o
+  pub stands : (x : Found) → NameFits t x → (s : Spot) (o : Option ℕ) → spot_named x ≡ Some s → node_named x ≡ o → StandsAtSpot t (Some s) o
   stands x fits s o at is = subst (λ r. StandsAtSpot t r o) at (subst (StandsAtSpot t (spot_named x)) is fits.named)
 
   removes : (whose : Rules) (c : Call) (x : Found) → takes c ≡ true → IsFor whose t c x → IsRemovable t x

@@ -2,7 +2,7 @@
 -- processes, and of the room that a change needs, nothing is known here.
 use Rattle.std.specs.Prelude.{ℕ, Bool, true, false, not, ◌&&◌, ◌||◌, if◌then◌else◌, List, [], ◌∷◌, Option, Some, None, option_map, Result, Ok}
 use Rattle.std.specs.Prelude.{Err, is_some, suc, zero, ◌+◌, ◌==◌, take, ok_or}
-use Rattle.pua_tree.specs.Tree.{Tree, Node, Spot, is_empty, kind_at}
+use Rattle.pua_tree.specs.Tree.{Tree, Node, Spot, is_empty, device, kind_at}
 use Rattle.pua_tree.specs.Edits.{is_inside, is_same_node}
 use Rattle.pua_tree.specs.Limits.{most_name}
 use Rattle.pua_path.specs.Paths.{path_fault, text_fault, ends_in_slash}
@@ -16,7 +16,7 @@ use Rattle.pua_policy.specs.Verdict.{place_of, cover, cover_fault, or_fault, obj
 use Rattle.pua_policy.specs.Misfits.{misfit, misfit_errno}
 use Rattle.pua_calls.specs.declared.fits.Misfit.{Misfit}
 use Rattle.pua_calls.specs.declared.fits.Misfit.TheVariants.{Missing, Exists, IsDirectory, IsNoFile, IsNoDirectory, IsNotEmpty, ByDot}
-use Rattle.pua_calls.specs.declared.fits.Misfit.TheVariants.{ByDotDot, ByNothing}
+use Rattle.pua_calls.specs.declared.fits.Misfit.TheVariants.{ByDotDot, ByNothing, IsElsewhere}
 use Rattle.pua_tree.specs.declared.node.Kind.{Kind}
 use Rattle.pua_tree.specs.declared.node.Kind.TheVariants as kind
 use Rattle.pua_path.specs.declared.traced.PathTextFault.{PathTextFault}
@@ -130,10 +130,10 @@ on_named failed (Ok x) further = further x
 on_named failed (Err fault) further = Err (failed fault)
 
 abbrev pub plain_node : Kind → Node
-plain_node k = record { kind = k; target = None }
+plain_node k = record { kind = k; target = None; mount = false }
 
 abbrev pub link_node : List ℕ → Node
-link_node target = record { kind = kind.Link; target = Some target }
+link_node target = record { kind = kind.Link; target = Some target; mount = false }
 
 -- a node at a spot where nothing stands
 abbrev pub placing : Node → Option Spot → Option ℕ → Change
@@ -214,22 +214,42 @@ ways_by tell old new =
     or_fault (dots_by (tell Old old) old)
     (or_fault (dots_by (tell New new) new) (or_fault (top_by (tell Old old) old) (top_by (tell New new) new)))
 
+-- the device of what was found: a directory is on its own, anything else on that of its name
+abbrev pub device_of : Tree → Found → ℕ
+device_of t (Whole dir way) = device t dir
+device_of t (Slot dir name _) = device t dir
+
+-- the device of the name by which it was found
+abbrev pub device_over : Tree → Found → ℕ
+device_over t (Whole dir (way.Named parent name)) = device t parent
+device_over t object = device_of t object
+
+-- what gets a name stays on its file system, and what has the name is on that too
+abbrev pub is_elsewhere : Tree → Found → Found → Bool
+is_elsewhere t old new = not (device_of t old == device_over t new && device_of t new == device_over t new)
+
 -- what is wrong with the new name of a rename, by the kinds of both
-abbrev pub kinds_by : {E : Type 0} → (Misfit → E) → Tree → Found → Found → Option E
-kinds_by tell t old (Whole y way) =
+abbrev pub fits_by : {E : Type 0} → (Misfit → E) → Tree → Found → Found → Option E
+fits_by tell t old (Whole y way) =
     or_fault (fault_if (not (is_whole old)) (tell IsDirectory)) (fault_if (not (is_empty t y)) (tell IsNotEmpty))
-kinds_by tell t old (Slot dir name None) = None
-kinds_by tell t old (Slot dir name (Some y)) = fault_if (is_whole old) (tell IsNoDirectory)
+fits_by tell t old (Slot dir name None) = None
+fits_by tell t old (Slot dir name (Some y)) = fault_if (is_whole old) (tell IsNoDirectory)
+
+-- by their devices, and then by their kinds
+abbrev pub kinds_by : {E : Type 0} → (Misfit → E) → Tree → Found → Found → Option E
+kinds_by tell t old new = or_fault (fault_if (is_elsewhere t old new) (tell IsElsewhere)) (fits_by tell t old new)
 
 -- a directory would come to stand in itself or beneath itself
 abbrev pub inside_by : {E : Type 0} → E → Tree → ℕ → Option Spot → Option E
 inside_by fault t x None = None
 inside_by fault t x (Some spot) = fault_if (is_inside t x spot.0) fault
 
--- what is wrong with a link's names: a directory gets none, and the new one is free
-abbrev pub names_by : {E : Type 0} → (Side → Found → Misfit → E) → Found → Found → Option E
-names_by tell old new =
-    or_fault (fault_if (is_whole old) (tell Old old IsNoFile)) (fault_if (is_some (node_named new)) (tell New new Exists))
+-- what is wrong with a link's names: a directory gets none, and the new one is free, and on the file system of the old one
+abbrev pub names_by : {E : Type 0} → (Side → Found → Misfit → E) → Tree → Found → Found → Option E
+names_by tell t old new =
+    or_fault (fault_if (is_whole old) (tell Old old IsNoFile))
+    (or_fault (fault_if (is_some (node_named new)) (tell New new Exists))
+    (fault_if (is_elsewhere t old new) (tell New new IsElsewhere)))
 
 -- the open file of a node, where a call opens it
 abbrev pub file_of : ℕ → Option Kind → Option ℕ → Option OpenFile
@@ -300,9 +320,9 @@ rename_by told t asks old new (Some x) =
     (Ok (shifting (spot_named old) (spot_named new)))))
 
 -- a further name for what the old path named, once both are covered
-abbrev pub link_by : {E R : Type 0} → Telling E R → Found → Found → Option ℕ → Outcome R
-link_by told old new None = Err (told.failed (told.misfit Old old Missing))
-link_by told old new (Some x) = unless_failed told.failed (names_by told.misfit old new) (Ok (tying x (spot_named new)))
+abbrev pub link_by : {E R : Type 0} → Telling E R → Tree → Found → Found → Option ℕ → Outcome R
+link_by told t old new None = Err (told.failed (told.misfit Old old Missing))
+link_by told t old new (Some x) = unless_failed told.failed (names_by told.misfit t old new) (Ok (tying x (spot_named new)))
 
 -- what is wrong with the covers of two objects
 abbrev pub covers_by : {E R : Type 0} → PairRule → Tree → Asker E R → Found → Found → Option E
@@ -390,7 +410,8 @@ decide_by told table t asker (Symlink target path) = symlink_by told table t ask
 decide_by told table t asker (Rename old new) =
     pair_by told table.whose table.rename t asker ending.Dropped old new
     (λ a b. rename_by told t (asks_directory table.whose old new) a b (node_named a))
-decide_by told table t asker (Link old new) = pair_by told table.whose table.link t asker ending.Dot old new (λ a b. link_by told a b (node_named a))
+decide_by told table t asker (Link old new) =
+    pair_by told table.whose table.link t asker ending.Dot old new (λ a b. link_by told t a b (node_named a))
 decide_by told table t asker (Pledge promises execpromises) = pledge_by told asker table.whose promises execpromises
 decide_by told table t asker (Unveil path perms) = unveil_by told table.whose t asker path perms
 decide_by told table t asker Lock = lock_by asker
@@ -506,6 +527,9 @@ ways_fault old new = ways_by (λ side object wrong. misfit_errno wrong) old new
 abbrev pub kinds_fault : Tree → ℕ → Found → Found → Option Errno
 kinds_fault t x old new = kinds_by (λ wrong. misfit_errno wrong) t old new
 
+abbrev pub fits_fault : Tree → Found → Found → Option Errno
+fits_fault t old new = fits_by (λ wrong. misfit_errno wrong) t old new
+
 abbrev pub inside_fault : Tree → ℕ → Option Spot → Option Errno
 inside_fault t x spot = inside_by EINVAL t x spot
 
@@ -525,8 +549,8 @@ decide_symlink table t asker target path = symlink_by refusals table t asker tar
 abbrev pub decide_rename : Tree → Bool → Found → Found → Option ℕ → Decision
 decide_rename t asks old new node = rename_by refusals t asks old new node
 
-abbrev pub decide_link : Found → Found → Option ℕ → Decision
-decide_link old new node = link_by refusals old new node
+abbrev pub decide_link : Tree → Found → Found → Option ℕ → Decision
+decide_link t old new node = link_by refusals t old new node
 
 abbrev pub decide_objects : Rules → PairRule → Tree → Requester → Ending → List ℕ → List ℕ → (Found → Found → Decision) → Decision
 decide_objects whose pair t asker ending old_path new_path further = objects_by refusals whose pair t asker ending old_path new_path further

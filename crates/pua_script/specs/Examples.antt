@@ -16,7 +16,7 @@ use Rattle.pua_script.specs.Replay.{answers_to, kept_at, new_world, told, world_
 use Rattle.pua_script.specs.Family.{is_exec, none_done}
 use Rattle.pua_tree.specs.declared.fault.ListingFault.{ListingFault}
 use Rattle.pua_path.specs.declared.errno.Errno.TheVariants.{EPERM, ENOENT, EBADF, EACCES, EAGAIN, EBUSY, EEXIST, ENOTDIR, EISDIR, EINVAL}
-use Rattle.pua_path.specs.declared.errno.Errno.TheVariants.{ELOOP, ENAMETOOLONG, ENOTEMPTY, ENOSYS, ENOTSOCK, EOPNOTSUPP, EADDRINUSE}
+use Rattle.pua_path.specs.declared.errno.Errno.TheVariants.{ELOOP, ENAMETOOLONG, ENOTEMPTY, ENOSYS, ENOTSOCK, EOPNOTSUPP, EADDRINUSE, EXDEV}
 use Rattle.pua_calls.specs.declared.call.Call.TheVariants as call
 use Rattle.pua_script.specs.declared.request.Action.TheVariants.{OnPath, Exit}
 use Rattle.pua_script.specs.declared.answer.Answer.{Answer}
@@ -214,6 +214,31 @@ pair_rows = record {
   long_where_they_stand = refl;
   standard_long = refl;
 }
+
+-- a file system with another one in it, and directories and files on it and beside it
+abbrev pub mounted_tree : List (List ℕ)
+mounted_tree = codes "tree 3" ∷ codes "0 dir" ∷ codes "1 mount 0 m" ∷ codes "2 dir 1 d" ∷ codes "3 file 2 f" ∷ codes "4 file 1 g"
+    ∷ codes "5 file 0 h" ∷ codes "6 dir 0 e" ∷ codes "7 mount 1 n" ∷ codes "8 dir 0 x" ∷ []
+
+-- what stays on its file system, and what is no longer removed
+pub record MountRows : Type 0 where
+  -- the mount is found on the climb, wherever it is above
+  pub climbed : answers_of mounted_tree (codes "1 rename /m/d/f /f" ∷ codes "1 rename /h /m/d/h" ∷ codes "1 rename /m/d /e"
+      ∷ codes "1 rename /m/d/f /m/f" ∷ codes "1 rename /m/d /m/x" ∷ codes "1 rename /e /x/e" ∷ []) ≡ Failed EXDEV ∷ Failed EXDEV
+      ∷ Failed EXDEV ∷ Okay ∷ Okay ∷ Okay ∷ []
+  -- a mount point is on its own file system, and its name on another
+  pub own : answers_of mounted_tree (codes "1 rename /m /x/m" ∷ codes "1 rename /m/n /m/d/n" ∷ codes "1 rename /m/d /m/n"
+      ∷ codes "1 rename /e /m" ∷ codes "1 rename /m /m/d/x" ∷ codes "1 rename /h /m" ∷ []) ≡ Failed EXDEV ∷ Failed EXDEV ∷ Failed EXDEV
+      ∷ Failed EXDEV ∷ Failed EINVAL ∷ Failed EXDEV ∷ []
+  pub linked : answers_of mounted_tree (codes "1 link /m/g /g" ∷ codes "1 link /h /m/g" ∷ codes "1 link /m /x/m" ∷ codes "1 link /m/g /m/d/g"
+      ∷ codes "1 link /h /m/n/h" ∷ []) ≡ Failed EXDEV ∷ Failed EEXIST ∷ Failed EPERM ∷ Okay ∷ Failed EXDEV ∷ []
+  -- that a file system is mounted there comes before what stands in it
+  pub removed : answers_of mounted_tree (codes "1 rmdir /m" ∷ codes "1 rmdir /m/n" ∷ codes "1 unlink /m/n" ∷ codes "1 unlink /m/d"
+      ∷ codes "1 rmdir /m/d" ∷ codes "1 rmdir /e" ∷ []) ≡ Failed EBUSY ∷ Failed EBUSY ∷ Failed EBUSY ∷ Failed EPERM ∷ Failed ENOTEMPTY
+      ∷ Okay ∷ []
+
+pub mount_rows : MountRows
+mount_rows = record { climbed = refl; own = refl; linked = refl; removed = refl }
 
 -- a file that may be a socket, a link to it, and a program
 abbrev pub socket_tree : List (List ℕ)

@@ -14,7 +14,7 @@ use Rattle.pua_policy.specs.declared.open_file.OpenFile.{OpenFile}
 use Rattle.pua_policy.specs.Verdict.{place_of, cover, cover_fault, object_named, object_fault, object_of}
 use Rattle.pua_script.specs.Decide.{link_node, is_whole, kinds_fault, inside_fault, unveil_errno, given_set, is_unknown, Change, NoChange}
 use Rattle.pua_script.specs.Decide.{AddNode, CutRow, ShiftRow, TieRow, AddEvent, CopyAs, TakeFile, adding, change_by, shifting, tying, ways_fault}
-use Rattle.pua_script.specs.Decide.{named_by, decide, asker_of, cover_past, holding, rooting, Sole}
+use Rattle.pua_script.specs.Decide.{named_by, decide, asker_of, cover_past, holding, is_elsewhere, rooting, Sole}
 use Rattle.pua_script.specs.Openings.{Opening, opening_of}
 use Rattle.pua_path.specs.declared.text.Ending.{Ending}
 use Rattle.pua_path.specs.declared.text.Ending.TheVariants as ending
@@ -77,6 +77,7 @@ pub record IsLink (pair : PairRule) (t : Tree) (h : ProcessState) (old_path new_
   pub two : OnTwo pair t h ending.Dot old_path new_path old new node
   pub no_dir : is_whole old ≡ false
   pub free : is_some (node_named new) ≡ false
+  pub near : is_elsewhere t old new ≡ false
   pub is : change ≡ tying node (spot_named new)
 
 pub record IsVeil (t : Tree) (h : ProcessState) (path : List ℕ) (letters : Option ℕ) (change : Change) : Type 0 where

@@ -13,6 +13,7 @@ pub mod ScriptGrammar
 pub mod Guards
 pub mod Laws
 pub mod Bytes
+pub mod Devices
 pub mod Family
 pub mod Tightening
 pub mod OpeningLaws

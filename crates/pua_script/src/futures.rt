@@ -4,6 +4,7 @@
 
 ghost use Rattle.pua_script.specs.Bytes.{ListingsListByteTrees, ReplaysKeepByteTrees};
 ghost use Rattle.pua_script.specs.Bytes.{ReplaysKeepTrees, RequestsKeepTrees, ScriptsAskInBytes};
+ghost use Rattle.pua_script.specs.Devices.{RequestsKeepDevices};
 ghost use Rattle.pua_script.specs.Confinement.{EachRequestSpares, FamiliesConfine, PromisesChange};
 ghost use Rattle.pua_script.specs.ErrorTables.{ErrorTables};
 ghost use Rattle.pua_script.specs.Futures.{ReadTablesNarrow, RulesNarrow};
@@ -79,6 +80,12 @@ pub fn bytes_law()
     ensures last { ReplaysKeepByteTrees }
     ensures listings { ListingsListByteTrees }
     ensures scripts { ScriptsAskInBytes }
+{}
+
+/// A request leaves each directory that lives on behind it on the device on which it was: a rename
+/// that would take it elsewhere is refused (rename(2)), and no request mounts a file system.
+pub fn devices_law()
+    ensures { RequestsKeepDevices }
 {}
 
 /// The standard rules, and those of OpenBSD, are of those that the laws speak of: no call needs

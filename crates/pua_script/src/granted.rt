@@ -1,6 +1,6 @@
 //! What granted requests change.
 
-ghost use Rattle.std.specs.Prelude.{◌≡◌, ℕ, List, OnErr, IsTrue, option_copied};
+ghost use Rattle.std.specs.Prelude.{◌≡◌, ℕ, List, OnErr, IsTrue, option_copied, false};
 ghost use Rattle.pua_tree.specs.Tree.{Tree, target_fits};
 ghost use Rattle.pua_tree.specs.Edits.{add, cut, shift, tie};
 ghost use Rattle.pua_policy.specs.States.{ProcessState};
@@ -32,7 +32,7 @@ impl NewNode<'_> {
     /// Its kind, and the target of a link.
     fn parts(&self) -> (Kind, Option<&[u8]>)
         ensures node { node_made self.now
-            ≡ record { kind = result.0; target = option_copied result.1 } }
+            ≡ record { kind = result.0; target = option_copied result.1; mount = false } }
         ensures fits { IsTrue (target_fits result.0 (option_copied result.1)) }
     {
         match *self {

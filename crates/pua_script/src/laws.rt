@@ -2,7 +2,8 @@
 //! function that does nothing.
 
 ghost use Rattle.std.specs.Prelude.{◌≡◌};
-ghost use Rattle.pua_script.specs.Examples.{ExecRows, LinkRows, PairRows, RenameRows, ReplayRows};
+ghost use Rattle.pua_script.specs.Examples.{ExecRows, LinkRows, MountRows, PairRows, RenameRows};
+ghost use Rattle.pua_script.specs.Examples.{ReplayRows};
 ghost use Rattle.pua_script.specs.Examples.{CommentRows, FileRows, OpeningRows, RootRows, ScriptRows};
 ghost use Rattle.pua_script.specs.Examples.{SocketRows, UsesRows};
 ghost use Rattle.pua_script.specs.Guards.{ChangesAreGranted, DecisionsAreGuarded};
@@ -37,6 +38,7 @@ pub fn replay_examples()
     ensures renames { RenameRows }
     ensures links { LinkRows }
     ensures pairs { PairRows }
+    ensures mounts { MountRows }
     ensures sockets { SocketRows }
     ensures uses { UsesRows }
     ensures files { FileRows }

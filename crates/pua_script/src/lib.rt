@@ -36,8 +36,8 @@ pub use descriptor::{letters_opened, read_descriptor, read_open};
 pub use fault::{ScriptFault, WorldFault};
 pub use front::before_long;
 pub use futures::{
-    bytes_law, confined_law, error_table_examples, families_law, holding_law, openings_law,
-    others_law, steps_law, table_law,
+    bytes_law, confined_law, devices_law, error_table_examples, families_law, holding_law,
+    openings_law, others_law, steps_law, table_law,
 };
 pub use laws::{
     decide_law, limits_law, pasts_law, replay_examples, replay_law, room_law, script_examples,

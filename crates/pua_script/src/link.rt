@@ -8,7 +8,7 @@ ghost use Rattle.pua_script.specs.Decide.{Requester, TieRow, decide_link, tying}
 ghost use Rattle.pua_script.specs.Judged.{decision_by, if_covered, tied};
 
 use crate::granted::Granted;
-use crate::pair::{is_whole, judge_pair, node_named, spot_named};
+use crate::pair::{is_elsewhere, is_whole, judge_pair, node_named, spot_named};
 use pua_calls::{CallTable, PairNeed};
 use pua_path::{Ending, Errno, LentFound};
 use pua_policy::{Process, Refusal};
@@ -34,20 +34,25 @@ pub(crate) fn judge_link<'t, T: FileTree>(
 ) -> Result<Option<Tie<'t>>, Refusal>
     ensures { tied result ≡ if_covered table.now.whose need.now (T.content tree.now) process.now Dot
         old.now new.now
-        (λ from to. decide_link from to (node_named from)) }
+        (λ from to. decide_link (T.content tree.now) from to (node_named from)) }
 {
     let ending = Ending::Dot;
     match judge_pair(tree, table, process, need, ending, old, new) {
-        Ok(pair) => decide_tie(&pair.from, &pair.to),
+        Ok(pair) => decide_tie(tree, &pair.from, &pair.to),
         Err(errno) => Err(Refusal::Failed(errno)),
     }
 }
 
 /// A further name for what was found. `ENOENT` where nothing has the old name, `EPERM` where a
-/// directory has it, and `EEXIST` where something has the new one: the first of these.
-fn decide_tie<'a>(from: &LentFound<'a>, to: &LentFound<'a>) -> Result<Option<Tie<'a>>, Refusal>
-    ensures { tied result ≡ decide_link (found_seen from.now) (found_seen to.now)
-        (node_named (found_seen from.now)) }
+/// directory has it, `EEXIST` where something has the new one, and `EXDEV` where that is on another
+/// file system (link(2)): the first of these.
+fn decide_tie<'a, T: FileTree>(
+    tree: &T,
+    from: &LentFound<'a>,
+    to: &LentFound<'a>,
+) -> Result<Option<Tie<'a>>, Refusal>
+    ensures { tied result ≡ decide_link (T.content tree.now) (found_seen from.now)
+        (found_seen to.now) (node_named (found_seen from.now)) }
 {
     let Some(node) = node_named(from) else {
         return Err(Refusal::Failed(Errno::ENOENT));
@@ -57,6 +62,9 @@ fn decide_tie<'a>(from: &LentFound<'a>, to: &LentFound<'a>) -> Result<Option<Tie
     }
     if node_named(to).is_some() {
         return Err(Refusal::Failed(Errno::EEXIST));
+    }
+    if is_elsewhere(tree, from, to) {
+        return Err(Refusal::Failed(Errno::EXDEV));
     }
     Ok(tying(node, to))
 }

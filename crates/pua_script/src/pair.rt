@@ -1,13 +1,15 @@
 //! What the two paths of a request name, where a node of the one gets the name of the other.
 
-ghost use Rattle.std.specs.Prelude.{◌≡◌, IfOk, option_map};
+ghost use Rattle.std.specs.Prelude.{◌≡◌, ◌==◌, IfOk, option_map};
 ghost use Rattle.pua_path.specs.Fits.{spot_named, node_named};
 ghost use Rattle.pua_path.specs.Walks.{found_seen, founds_seen};
 ghost use Rattle.pua_path.specs.declared.found.Found as found;
 ghost use Rattle.pua_policy.specs.States.{may_any};
 ghost use Rattle.pua_policy.specs.Verdict.{FoundFits};
 ghost use Rattle.pua_script.specs.Decide.{Decision, asker_of, covers_by, if_may, if_named};
-ghost use Rattle.pua_script.specs.Decide.{is_whole, path_named};
+ghost use Rattle.pua_tree.specs.Tree.{Tree, device};
+ghost use Rattle.pua_script.specs.Decide.{device_of, device_over, is_elsewhere, is_whole};
+ghost use Rattle.pua_script.specs.Decide.{path_named};
 ghost use Rattle.pua_script.specs.Judged.{NameFits, if_covered, on_judged, spot_now};
 
 use crate::judged::named_lent;
@@ -155,4 +157,42 @@ pub(crate) fn is_whole(found: &LentFound<'_>) -> bool
     ensures { result ≡ is_whole (found_seen found.now) }
 {
     matches!(found, LentFound::Whole { .. })
+}
+
+/// The directory on whose device what was found is: itself, or the one in which its name is.
+fn dir_of(found: &LentFound<'_>) -> NodeId
+    ensures { (t : Tree) → device t result ≡ device_of t (found_seen found.now) }
+{
+    match *found {
+        LentFound::Whole { dir, .. } | LentFound::Slot { dir, .. } => dir,
+    }
+}
+
+/// The directory on whose device the name is by which it was found.
+fn dir_over(found: &LentFound<'_>) -> NodeId
+    ensures { (t : Tree) → device t result ≡ device_over t (found_seen found.now) }
+{
+    match *found {
+        LentFound::Whole {
+            way: LentWay::Named { parent, .. },
+            ..
+        } => parent,
+        LentFound::Whole { dir, .. } | LentFound::Slot { dir, .. } => dir,
+    }
+}
+
+/// Whether two directories are on one device: one and the same is, and no climb is needed to tell.
+fn is_near<T: FileTree>(tree: &T, one: NodeId, other: NodeId) -> bool
+    ensures { result ≡ (device (T.content tree.now) one == device (T.content tree.now) other) }
+{
+    one == other || tree.device(one) == tree.device(other)
+}
+
+/// Whether what gets a name would leave its file system, or what has the name is on another one.
+pub(crate) fn is_elsewhere<T: FileTree>(tree: &T, from: &LentFound<'_>, to: &LentFound<'_>) -> bool
+    ensures { result
+        ≡ is_elsewhere (T.content tree.now) (found_seen from.now) (found_seen to.now) }
+{
+    let over = dir_over(to);
+    !(is_near(tree, dir_of(from), over) && is_near(tree, dir_of(to), over))
 }

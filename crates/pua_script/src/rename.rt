@@ -8,12 +8,13 @@ ghost use Rattle.pua_path.specs.Walks.{found_seen};
 ghost use Rattle.pua_path.specs.declared.text.Ending.TheVariants.{Dropped};
 ghost use Rattle.pua_policy.specs.Verdict.{or_fault};
 ghost use Rattle.pua_script.specs.Decide.{Requester, ShiftRow, asks_directory, decide_rename};
-ghost use Rattle.pua_script.specs.Decide.{dots_fault, inside_fault, is_whole, kinds_fault};
+ghost use Rattle.pua_script.specs.Decide.{dots_fault, fits_fault, inside_fault, is_whole};
+ghost use Rattle.pua_script.specs.Decide.{kinds_fault};
 ghost use Rattle.pua_script.specs.Decide.{shifting, top_fault, ways_fault};
 ghost use Rattle.pua_script.specs.Judged.{decision_by, if_covered, shifted};
 
 use crate::granted::Granted;
-use crate::pair::{Pair, is_whole, judge_pair, node_named, spot_named};
+use crate::pair::{Pair, is_elsewhere, is_whole, judge_pair, node_named, spot_named};
 use pua_calls::{CallTable, PairNeed, Rules};
 use pua_path::{Ending, Errno, LentFound, LentWay};
 use pua_policy::{Process, Refusal};
@@ -175,8 +176,8 @@ fn top_fault(found: &LentFound<'_>) -> Option<Errno>
     }
 }
 
-/// What is wrong with this node at the new place: a directory would stand beneath itself, and then
-/// what the kinds of both make impossible.
+/// What is wrong with this node at the new place: a directory would stand beneath itself, then that
+/// it would leave its file system, and then what the kinds of both make impossible.
 fn move_fault<T: FileTree>(
     tree: &T,
     node: NodeId,
@@ -204,11 +205,21 @@ fn inside_fault<T: FileTree>(tree: &T, node: NodeId, to: &LentFound<'_>) -> Opti
     None
 }
 
-/// A directory is not put in the place of anything else, nothing else in the place of a directory,
-/// and nothing in the place of a directory in which something stands.
+/// Nothing leaves its file system (rename(2)), and then what the kinds of both make impossible.
 fn kinds_fault<T: FileTree>(tree: &T, from: &LentFound<'_>, to: &LentFound<'_>) -> Option<Errno>
     ensures { (x : ℕ) → result
         ≡ kinds_fault (T.content tree.now) x (found_seen from.now) (found_seen to.now) }
+{
+    if is_elsewhere(tree, from, to) {
+        return Some(Errno::EXDEV);
+    }
+    fits_fault(tree, from, to)
+}
+
+/// A directory is not put in the place of anything else, nothing else in the place of a directory,
+/// and nothing in the place of a directory in which something stands.
+fn fits_fault<T: FileTree>(tree: &T, from: &LentFound<'_>, to: &LentFound<'_>) -> Option<Errno>
+    ensures { result ≡ fits_fault (T.content tree.now) (found_seen from.now) (found_seen to.now) }
 {
     match *to {
         LentFound::Whole { dir, .. } => {

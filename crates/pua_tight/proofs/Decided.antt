@@ -150,7 +150,7 @@ module _ (table : CallTable) (t : Tree) (a b : Requester) (easier : Easier a b) 
   granted_more (OnPath call path) = call_more call path
   granted_more (Symlink target path) = symlink_more target path
   granted_more (Rename old new) = pair_more table.rename ending.Dropped old new (λ x y. rename_by refusals t (asks_directory table.whose old new) x y (node_named x))
-  granted_more (Link old new) = pair_more table.link ending.Dot old new (λ x y. link_by refusals x y (node_named x))
+  granted_more (Link old new) = pair_more table.link ending.Dot old new (λ x y. link_by refusals t x y (node_named x))
   granted_more (Pledge p e) = past_failed c (fault_if (is_unknown p || is_unknown e) (refusals.unknown_promise (cond (is_unknown p) false true)))
       (fault_if (is_unknown p || is_unknown e) (refusals.unknown_promise (cond (is_unknown p) false true)))
       (pledging_by refusals a table.whose (given_set p) (given_set e)) (pledging_by refusals b table.whose (given_set p) (given_set e)) (λ e. e)

@@ -1,5 +1,5 @@
 -- What a process may do is no harder to one that it lies within.
-use Rattle.std.proofs.Common.{◌≡◌, ◌==◌, ℕ, refl, ap, subst, Bool, true}
+use Rattle.std.proofs.Common.{◌≡◌, ℕ, refl, ap, subst, Bool, true}
 use Rattle.std.specs.List.{list_any}
 use Rattle.std.specs.Prelude.{Option, Some, None, is_none}
 use Rattle.pua_tree.specs.Tree.{empty_tree}

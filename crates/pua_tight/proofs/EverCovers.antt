@@ -16,11 +16,13 @@ use Rattle.pua_objects.proofs.ForCallers.{Among, among_left, among_right, among_
 use Rattle.pua_objects.proofs.ForCallers.{filter_map_among, among_filter_map}
 use Rattle.pua_ever.specs.Ever.{row_cover, is_free, can_empty, opens_at, opens_outside, has_c_outside, directories, gives_way}
 use Rattle.pua_ever.specs.Ever.{is_way_in, dir_covers, veil_cover_at, name_covers, open_covers, may_edit, edit_calls}
-use Rattle.pua_ever.specs.Ever.{can_move, some_dir_moves, file_covers}
+use Rattle.pua_ever.specs.Ever.{can_move, some_dir_moves, file_covers, goes_along, is_on, kept_on}
+use Rattle.std.specs.Prelude.{is_none}
+use Rattle.pua_policy.specs.States.{perms_kept}
 use Rattle.pua_ever.proofs.ForCallers.{any_among, any_found}
-use Rattle.pua_tight.specs.Narrower.{VeilsWithin, no_veils, veils_too}
+use Rattle.pua_tight.specs.Narrower.{SetWithin, VeilsWithin, no_veils, unset, veils_too, within}
 use Rattle.pua_tight.proofs.Sets.{or_more, and_more, any_more, all_more}
-use Rattle.pua_tight.proofs.Within.{CoverWithin, only, cover_within, in_within}
+use Rattle.pua_tight.proofs.Within.{CoverWithin, only, cover_within, in_within, kept_within}
 use Rattle.pua_tight.proofs.Eases.{Eases, c_within, moves_more, yes_more}
 
 -- of veils at the same places
@@ -37,6 +39,11 @@ veil_there no_veils veil a = absurd a
 veil_there (veils_too {place = p} {b = b} {ws = ws} less rest) veil (inl same) =
     subst (λ (v : Place × ℕ). (c : ℕ) × Among ((p, b) ∷ ws) (v.0, c) × (holds c v.1 ≡ true)) same (b, inl refl, less)
 veil_there (veils_too less rest) veil (inr a) = let there = veil_there rest veil a in (there.0, inr there.1, there.2)
+
+-- whether something was given is the same
+pub set_alike : {p q : Option ℕ} → SetWithin p q → is_none p ≡ is_none q
+set_alike unset = refl
+set_alike (within less) = refl
 
 -- each cover of one list lies within one of the other
 abbrev pub CoversWithin : List Cover → List Cover → Type 0
@@ -111,59 +118,84 @@ module _ (table : CallTable) (h k : ProcessState) (w : Eases table h k) where
         (or_more _ _ _ _ (any_veil (opens_at t h dir) (opens_at t k dir) (opens_more dir) w.veiled)
         (any_more _ _ (gives_more dir) t.rows)) e
 
-    pub dirs_more : CoversWithin (dir_covers t h) (dir_covers t k)
-    dirs_more c a =
-        let from = map_among (cover_in t h) (filter (is_way_in t h) (directories t)) c a in
-        let way = filter_among (is_way_in t h) (directories t) from.0 from.1 in (
-          cover_in t k from.0,
-          among_map (cover_in t k) (filter (is_way_in t k) (directories t)) from.0
-              (among_filter (is_way_in t k) (directories t) from.0 (way_more from.0 way.1) way.0),
-          subst (λ (x : Cover). CoverWithin x (cover_in t k from.0)) from.2 (in_dir from.0),
-        )
+    -- what is on one device is on the other, or on any
+    abbrev pub OnMore : Option ℕ → Option ℕ → Type 0
+    OnMore m n = (dir : ℕ) → is_on t m dir ≡ true → is_on t n dir ≡ true
 
-    pub opens_all_more : CoversWithin (open_covers t h) (open_covers t k)
-    opens_all_more c a =
-        let has = filter_among has_c (map (cover_in t h) (directories t)) c a in
-        let from = map_among (cover_in t h) (directories t) c has.0 in
-        let less : CoverWithin c (cover_in t k from.0) =
-        subst (λ (x : Cover). CoverWithin x (cover_in t k from.0)) from.2 (in_dir from.0) in (
-          cover_in t k from.0,
-          among_filter has_c (map (cover_in t k) (directories t)) (cover_in t k from.0) (c_within less has.1)
-              (among_map (cover_in t k) (directories t) from.0 from.1),
-          less,
-        )
-
-    cover_at_more : (p : Place) (a b : ℕ) → holds b a ≡ true → (c : Cover) → veil_cover_at t h p a ≡ Some c →
-        (d : Cover) × (veil_cover_at t k p b ≡ Some d) × CoverWithin c d
-    cover_at_more (place.Dir dir) a b less c e = cc
-    cover_at_more (place.Slot dir name) a b less c e = by (is_dir t dir && (has_c (Only a) && is_free t h (dir, name))) refl e
+    pub kept_more : (device : ℕ) → OnMore (kept_on t h device) (kept_on t k device)
+    kept_more device dir here = by (goes_along t h device) (goes_along t k device) goes here
       where
-        by : (x : Bool) → (is_dir t dir && (has_c (Only a) && is_free t h (dir, name))) ≡ x → (if x then Some (Only a) else None) ≡ Some c →
-            (d : Cover) × (veil_cover_at t k (place.Slot dir name) b ≡ Some d) × CoverWithin c d
-        by true is e =
-            let same : Only a ≡ c = cc in
-            let there = and_more _ _ (is_dir t dir) (has_c (Only b) && is_free t k (dir, name)) (λ here. here)
-            (and_more _ _ _ _ (c_within (only less)) (free_more (dir, name))) is in (
-              Only b,
-              ap (λ (x : Bool). if x then Some (Only b) else None) there,
-              subst (λ (x : Cover). CoverWithin x (Only b)) same (only less),
-            )
-        by false is e = cc
+        goes : goes_along t h device ≡ true → goes_along t k device ≡ true
+        goes = and_more (is_none (perms_kept h (place.Dir device))) (has_c (cover_in t h device)) (is_none (perms_kept k (place.Dir device)))
+            (has_c (cover_in t k device)) (λ none. sym (set_alike (kept_within w.veiled (place.Dir device))) ∙ none) (c_within (in_dir device))
 
-    pub names_more : CoversWithin (name_covers t h) (name_covers t k)
-    names_more c a =
-        let from = filter_map_among (λ veil. veil_cover_at t h veil.0 veil.1) h.veils c a in
-        let there = veil_there w.veiled from.0 from.1 in
-        let more = cover_at_more from.0.0 from.0.1 there.0 there.2 c from.2 in
-        (more.0, among_filter_map (λ veil. veil_cover_at t k veil.0 veil.1) k.veils (from.0.0, there.0) more.0 there.1 more.1, more.2)
+        by : (a b : Bool) → (a ≡ true → b ≡ true) → is_on t (if a then None else Some device) dir ≡ true →
+            is_on t (if b then None else Some device) dir ≡ true
+        by a true more here = refl
+        by true false more here = let never : false ≡ true = more refl in cc
+        by false false more here = here
 
-    some_more : some_dir_moves t table h ≡ true → some_dir_moves t table k ≡ true
-    some_more e =
-        let one = any_found (can_move table h) (open_covers t h) e in
-        let other = opens_all_more one.0 one.1 in
-        any_among (can_move table k) (open_covers t k) other.0 other.1 (moves_more table h k w other.2 one.2)
+    module _ (m n : Option ℕ) (on : OnMore m n) where
+      pub dirs_more : CoversWithin (dir_covers t h m) (dir_covers t k n)
+      dirs_more c a =
+          let test : ProcessState → Option ℕ → ℕ → Bool = λ g on dir. is_on t on dir && is_way_in t g dir in
+          let from = map_among (cover_in t h) (filter (test h m) (directories t)) c a in
+          let way = filter_among (test h m) (directories t) from.0 from.1 in (
+            cover_in t k from.0,
+            among_map (cover_in t k) (filter (test k n) (directories t)) from.0
+                (among_filter (test k n) (directories t) from.0
+                (and_more (is_on t m from.0) (is_way_in t h from.0) (is_on t n from.0) (is_way_in t k from.0) (on from.0) (way_more from.0) way.1) way.0),
+            subst (λ (x : Cover). CoverWithin x (cover_in t k from.0)) from.2 (in_dir from.0),
+          )
 
-    pub files_more : CoversWithin (file_covers t table h) (file_covers t table k)
-    files_more = both_lists (name_covers t h) _ (name_covers t k) _ names_more
-        (both_lists (open_covers t h) _ (open_covers t k) _ opens_all_more
-        (if_both (some_dir_moves t table h) (some_dir_moves t table k) (dir_covers t h) (dir_covers t k) some_more dirs_more))
+      pub opens_all_more : CoversWithin (open_covers t h m) (open_covers t k n)
+      opens_all_more c a =
+          let has = filter_among has_c (map (cover_in t h) (filter (is_on t m) (directories t))) c a in
+          let from = map_among (cover_in t h) (filter (is_on t m) (directories t)) c has.0 in
+          let here = filter_among (is_on t m) (directories t) from.0 from.1 in
+          let less : CoverWithin c (cover_in t k from.0) =
+          subst (λ (x : Cover). CoverWithin x (cover_in t k from.0)) from.2 (in_dir from.0) in (
+            cover_in t k from.0,
+            among_filter has_c (map (cover_in t k) (filter (is_on t n) (directories t))) (cover_in t k from.0) (c_within less has.1)
+                (among_map (cover_in t k) (filter (is_on t n) (directories t)) from.0
+                (among_filter (is_on t n) (directories t) from.0 (on from.0 here.1) here.0)),
+            less,
+          )
+
+      cover_at_more : (p : Place) (a b : ℕ) → holds b a ≡ true → (c : Cover) → veil_cover_at t h m p a ≡ Some c →
+          (d : Cover) × (veil_cover_at t k n p b ≡ Some d) × CoverWithin c d
+      cover_at_more (place.Dir dir) a b less c e = cc
+      cover_at_more (place.Slot dir name) a b less c e =
+          by (is_dir t dir && (is_on t m dir && (has_c (Only a) && is_free t h (dir, name)))) refl e
+        where
+          by : (x : Bool) → (is_dir t dir && (is_on t m dir && (has_c (Only a) && is_free t h (dir, name)))) ≡ x →
+              (if x then Some (Only a) else None) ≡ Some c →
+              (d : Cover) × (veil_cover_at t k n (place.Slot dir name) b ≡ Some d) × CoverWithin c d
+          by true is e =
+              let same : Only a ≡ c = cc in
+              let there = and_more _ _ (is_dir t dir) (is_on t n dir && (has_c (Only b) && is_free t k (dir, name))) (λ here. here)
+              (and_more _ _ (is_on t n dir) (has_c (Only b) && is_free t k (dir, name)) (on dir)
+              (and_more _ _ _ _ (c_within (only less)) (free_more (dir, name)))) is in (
+                Only b,
+                ap (λ (x : Bool). if x then Some (Only b) else None) there,
+                subst (λ (x : Cover). CoverWithin x (Only b)) same (only less),
+              )
+          by false is e = cc
+
+      pub names_more : CoversWithin (name_covers t h m) (name_covers t k n)
+      names_more c a =
+          let from = filter_map_among (λ veil. veil_cover_at t h m veil.0 veil.1) h.veils c a in
+          let there = veil_there w.veiled from.0 from.1 in
+          let more = cover_at_more from.0.0 from.0.1 there.0 there.2 c from.2 in
+          (more.0, among_filter_map (λ veil. veil_cover_at t k n veil.0 veil.1) k.veils (from.0.0, there.0) more.0 there.1 more.1, more.2)
+
+      some_more : some_dir_moves t table h m ≡ true → some_dir_moves t table k n ≡ true
+      some_more e =
+          let one = any_found (can_move table h) (open_covers t h m) e in
+          let other = opens_all_more one.0 one.1 in
+          any_among (can_move table k) (open_covers t k n) other.0 other.1 (moves_more table h k w other.2 one.2)
+
+      pub files_more : CoversWithin (file_covers t table h m) (file_covers t table k n)
+      files_more = both_lists (name_covers t h m) _ (name_covers t k n) _ names_more
+          (both_lists (open_covers t h m) _ (open_covers t k n) _ opens_all_more
+          (if_both (some_dir_moves t table h m) (some_dir_moves t table k n) (dir_covers t h m) (dir_covers t k n) some_more dirs_more))

@@ -10,6 +10,7 @@ use Rattle.pua_script.specs.Worlds.{WorldState, world_of, apply_to}
 use Rattle.pua_script.specs.declared.answer.Answer.{Answer}
 use Rattle.pua_script.specs.declared.answer.Answer.TheVariants.{Okay}
 use Rattle.pua_tight.specs.Tight.{answer_number, same_answers}
+use Rattle.pua_tight.specs.Starts.{first_from}
 use Rattle.pua_tight.specs.Uses.{first_other}
 use Rattle.pua_tight.proofs.Tightened.{same_number}
 
@@ -33,14 +34,6 @@ first_self (x ∷ xs) =
     ap (λ b. cond b (option_map suc (first_other xs xs)) (Some 0)) (eq-eqb (answer_number x) (answer_number x) refl)
     ∙ ap (option_map suc) (first_self xs)
 
--- the index in lists of which so many were gone by
-abbrev pub first_from : ℕ → List Answer → List Answer → Option ℕ
-first_from gone xs ys = option_map (λ n. gone + n) (first_other xs ys)
-
-from_none : (o : Option ℕ) → option_map (λ n. 0 + n) o ≡ o
-from_none None = refl
-from_none (Some n) = let e : 0 + n ≡ n = omega arith in ap Some e
-
 further : (gone : ℕ) (o : Option ℕ) → option_map (λ n. gone + n) (option_map suc o) ≡ option_map (λ n. (gone + 1) + n) o
 further gone None = refl
 further gone (Some n) = let e : gone + suc n ≡ (gone + 1) + n = omega arith in ap Some e
@@ -60,25 +53,22 @@ gone_by [] (suc index) past = refl
 gone_by (x ∷ xs) zero past = absurd (omega (arith, past))
 gone_by (x ∷ xs) (suc index) past = gone_by xs index (omega (arith, past))
 
--- of requests so many were served in a world and answered as is wanted, and left it so
-abbrev pub IsServedTo : WorldState → List Asked → List Answer → ℕ → WorldState → Type 0
-IsServedTo before asks wanted index now = first_other (answers_to before.table (world_of before) asks) wanted
-    ≡ first_from index (answers_to now.table (world_of now) (drop index asks)) (drop index wanted)
+-- the requests from an index on are served in a world, which answers this: the first that is another one
+abbrev pub IsServedTo : Option ℕ → List Asked → List Answer → ℕ → WorldState → Type 0
+IsServedTo first asks wanted index now =
+    first ≡ first_from index (answers_to now.table (world_of now) (drop index asks)) (drop index wanted)
 
-pub none_served : (before : WorldState) (asks : List Asked) (wanted : List Answer) → IsServedTo before asks wanted 0 before
-none_served before asks wanted = sym (from_none (first_other (answers_to before.table (world_of before) asks) wanted))
-
-module _ (before now after : WorldState) (asks : List Asked) (wanted : List Answer) (index : ℕ) (ask : Asked) (answer : Answer)
-    (there : slice_get asks index ≡ Some ask) (served : (answer, after) ≡ apply_to now ask) (so_far : IsServedTo before asks wanted index now) where
+module _ (first : Option ℕ) (now after : WorldState) (asks : List Asked) (wanted : List Answer) (index : ℕ) (ask : Asked) (answer : Answer)
+    (there : slice_get asks index ≡ Some ask) (served : (answer, after) ≡ apply_to now ask) (so_far : IsServedTo first asks wanted index now) where
   abbrev more : List Answer
   more = answers_to after.table (world_of after) (drop (index + 1) asks)
 
   -- one more was answered
-  one_more : first_other (answers_to before.table (world_of before) asks) wanted ≡ first_from index (answer ∷ more) (drop index wanted)
+  one_more : first ≡ first_from index (answer ∷ more) (drop index wanted)
   one_more = so_far ∙ ap (λ l. first_from index (answers_to now.table (world_of now) l) (drop index wanted)) (dropped asks index ask there)
       ∙ ap (λ done. first_from index (done.0 ∷ answers_to done.1.table (world_of done.1) (drop (index + 1) asks)) (drop index wanted)) (sym served)
 
-  pub goes_on : (b : Answer) → slice_get wanted index ≡ Some b → b ≡ answer → IsServedTo before asks wanted (index + 1) after
+  pub goes_on : (b : Answer) → slice_get wanted index ≡ Some b → b ≡ answer → IsServedTo first asks wanted (index + 1) after
   goes_on b wants same =
       let rest : List Answer = drop (index + 1) wanted in
       one_more ∙ ap (first_from index (answer ∷ more)) (dropped wanted index b wants)
@@ -90,7 +80,7 @@ module _ (before now after : WorldState) (asks : List Asked) (wanted : List Answ
   here = omega arith
 
   pub stops : (b : Answer) → slice_get wanted index ≡ Some b → b ≢ answer →
-      Some index ≡ first_other (answers_to before.table (world_of before) asks) wanted
+      Some index ≡ first
   stops b wants other =
       let rest : List Answer = drop (index + 1) wanted in
       sym (one_more ∙ ap (first_from index (answer ∷ more)) (dropped wanted index b wants)
@@ -98,20 +88,24 @@ module _ (before now after : WorldState) (asks : List Asked) (wanted : List Answ
       (ne_eqb (answer_number answer) (answer_number b) (λ e. other (sym (same_number answer b e))))
       ∙ ap Some here)
 
-  pub stops_beyond : length wanted ≤ index → Some index ≡ first_other (answers_to before.table (world_of before) asks) wanted
+  pub stops_beyond : length wanted ≤ index → Some index ≡ first
   stops_beyond past = sym (one_more ∙ ap (first_from index (answer ∷ more)) (gone_by wanted index past) ∙ ap Some here)
 
 -- all were served
-module _ (before now : WorldState) (asks : List Asked) (wanted : List Answer) (index : ℕ) (so_far : IsServedTo before asks wanted index now)
+module _ (first : Option ℕ) (now : WorldState) (asks : List Asked) (wanted : List Answer) (index : ℕ) (so_far : IsServedTo first asks wanted index now)
     (past : length asks ≤ index) where
-  at_end : first_other (answers_to before.table (world_of before) asks) wanted ≡ first_from index [] (drop index wanted)
+  at_end : first ≡ first_from index [] (drop index wanted)
   at_end = so_far ∙ ap (λ l. first_from index (answers_to now.table (world_of now) l) (drop index wanted)) (gone_by asks index past)
 
-  pub all_wanted : length wanted ≤ index → None ≡ first_other (answers_to before.table (world_of before) asks) wanted
+  pub all_wanted : length wanted ≤ index → None ≡ first
   all_wanted few = sym (at_end ∙ ap (first_from index []) (gone_by wanted index few))
 
-  pub more_wanted : index < length wanted → Some index ≡ first_other (answers_to before.table (world_of before) asks) wanted
+  pub more_wanted : index < length wanted → Some index ≡ first
   more_wanted less =
       let none : index + 0 ≡ index = omega arith in
-      let first : Answer = get_or wanted index Okay in
-      sym (at_end ∙ ap (first_from index []) (dropped wanted index first (slice_get-get_or wanted index Okay less)) ∙ ap Some none)
+      let one : Answer = get_or wanted index Okay in
+      sym (at_end ∙ ap (first_from index []) (dropped wanted index one (slice_get-get_or wanted index Okay less)) ∙ ap Some none)
+
+-- and behind one that is as is wanted
+pub first_same : (x : Answer) (xs ys : List Answer) → first_other (x ∷ xs) (x ∷ ys) ≡ option_map suc (first_other xs ys)
+first_same x xs ys = ap (λ b. cond b (option_map suc (first_other xs ys)) (Some 0)) (eq-eqb (answer_number x) (answer_number x) refl)

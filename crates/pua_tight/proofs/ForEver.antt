@@ -18,6 +18,8 @@ use Rattle.pua_audit.specs.Reach.{Word}
 use Rattle.pua_objects.specs.Objects.{Subject, At, Others, Item, items, cover_in, is_named_by}
 use Rattle.pua_objects.proofs.ForCallers.{Among, among_left, among_right, among_either, among_map, map_among, among_filter, filter_among}
 use Rattle.pua_objects.proofs.ForCallers.{among_flat, flat_among, contained, among_contained}
+use Rattle.pua_tree.specs.Tree.{device}
+use Rattle.pua_ever.specs.Ever.{stays_on}
 use Rattle.pua_ever.specs.Ever.{dir_covers, file_covers, name_covers, can_move, can_link, covers_of_dir, covers_of, named_covers, ever_object}
 use Rattle.pua_ever.specs.Ever.{removable_dir, lasting_dir, is_named_way, may_edit, is_allowed_under, turning_calls}
 use Rattle.pua_ever.specs.Ever.{starts_under, is_exec_call, can_allow, is_ever_allowed, ever_calls, New, NewDir, NewOthers, NewFile, NewLink, NewSock, NewFifo, may_start}
@@ -34,12 +36,7 @@ use Rattle.pua_tight.proofs.Listed.{has_more, items_alike}
 use Rattle.pua_tight.proofs.Worlds.{parts, joined}
 use Rattle.pua_tight.proofs.Decided.{or_both}
 use Rattle.pua_tight.proofs.Eases.{Eases, eases, linked_more, made_by_more, moves_more}
-use Rattle.pua_tight.proofs.EverCovers.{CoversWithin, both_lists, edits_more, free_more, empties_more, dirs_more, names_more, files_more}
-
--- whether something was given is the same
-set_alike : {p q : Option ℕ} → SetWithin p q → is_none p ≡ is_none q
-set_alike unset = refl
-set_alike (within less) = refl
+use Rattle.pua_tight.proofs.EverCovers.{CoversWithin, both_lists, edits_more, free_more, empties_more, dirs_more, kept_more, names_more, files_more, set_alike}
 
 some_alike : {p q : Option ℕ} → SetWithin p q → is_some p ≡ is_some q
 some_alike unset = refl
@@ -104,13 +101,13 @@ module _ (table : CallTable) (h k : ProcessState) (w : Eases table h k) where
         moves = is_none (perms_kept k (place.Dir dir)) && can_move table k left
 
         by : (b : Bool) → (is_none (perms_kept h (place.Dir dir)) && can_move table h (cover_in t h dir)) ≡ b →
-            Among (if b then dir_covers t h else cover_in t h dir ∷ []) c →
+            Among (if b then dir_covers t h (stays_on t h dir) else cover_in t h dir ∷ []) c →
             (d : Cover) × Among (covers_of_dir t table k dir) d × CoverWithin c d
         by true is a =
-            let there = dirs_more table h k w t c a in
+            let there = dirs_more table h k w t (stays_on t h dir) (stays_on t k dir) (kept_more table h k w t (device t dir)) c a in
             let can : moves ≡ true = and_more _ _ (is_none (perms_kept k (place.Dir dir))) (can_move table k left)
             (λ here. sym (set_alike (kept_within w.veiled (place.Dir dir))) ∙ here) (moves_more table h k w (in_within w.veiled t dir)) is in
-            (there.0, subst (λ (b : Bool). Among (if b then dir_covers t k else left ∷ []) there.0) (sym can) there.1, there.2)
+            (there.0, subst (λ (b : Bool). Among (if b then dir_covers t k (stays_on t k dir) else left ∷ []) there.0) (sym can) there.1, there.2)
         by false is (inl same) =
             (left, dir_cover t k well table dir living, subst (λ (x : Cover). CoverWithin x left) same (in_within w.veiled t dir))
         by false is (inr more) = absurd more
@@ -132,20 +129,20 @@ module _ (table : CallTable) (h k : ProcessState) (w : Eases table h k) where
         less = cover_within w.veiled t (Slot dir name (Some x))
 
         Goal : Type 0
-        Goal = (d : Cover) × Among (named_covers t table k kind left) d × CoverWithin c d
+        Goal = (d : Cover) × Among (named_covers t table k (stays_on t k dir) kind left) d × CoverWithin c d
 
         here : now ≡ c → Goal
         here same = (left, file_cover t k well table dir name x row other, subst (λ (y : Cover). CoverWithin y left) same less)
 
         by : (b l : Bool) → can_move table h now ≡ b → can_link table h kind now ≡ l →
-            Among (if b then file_covers t table h else now ∷ (if l then file_covers t table h else [])) c → Goal
+            Among (if b then file_covers t table h (stays_on t h dir) else now ∷ (if l then file_covers t table h (stays_on t h dir) else [])) c → Goal
         by true l can link a =
-            let there = files_more table h k w t c a in
-            (there.0, named_moved t table k kind left there.0 (moves_more table h k w less can) there.1, there.2)
+            let there = files_more table h k w t (stays_on t h dir) (stays_on t k dir) (kept_more table h k w t (device t dir)) c a in
+            (there.0, named_moved t table k (stays_on t k dir) kind left there.0 (moves_more table h k w less can) there.1, there.2)
         by false l can link (inl same) = here same
         by false true can link (inr more) =
-            let there = files_more table h k w t c more in
-            (there.0, named_linked t table k kind left there.0 (linked_more table h k w kind less link) there.1, there.2)
+            let there = files_more table h k w t (stays_on t h dir) (stays_on t k dir) (kept_more table h k w t (device t dir)) c more in
+            (there.0, named_linked t table k (stays_on t k dir) kind left there.0 (linked_more table h k w kind less link) there.1, there.2)
         by false false can link (inr more) = absurd more
 
     allowed_more : (subject : Subject) → StandsNow t h subject → (c : Call) →
@@ -179,19 +176,19 @@ module _ (table : CallTable) (h k : ProcessState) (w : Eases table h k) where
 
     -- the same of what can be made
     new_covers_more : (new : New) → CoversWithin (new_covers t table h new) (new_covers t table k new)
-    new_covers_more NewDir = dirs_more table h k w t
-    new_covers_more NewOthers = dirs_more table h k w t
-    new_covers_more NewFile = files_more table h k w t
-    new_covers_more NewLink = files_more table h k w t
-    new_covers_more NewSock = files_more table h k w t
-    new_covers_more NewFifo = files_more table h k w t
+    new_covers_more NewDir = dirs_more table h k w t None None (λ dir here. here)
+    new_covers_more NewOthers = dirs_more table h k w t None None (λ dir here. here)
+    new_covers_more NewFile = files_more table h k w t None None (λ dir here. here)
+    new_covers_more NewLink = files_more table h k w t None None (λ dir here. here)
+    new_covers_more NewSock = files_more table h k w t None None (λ dir here. here)
+    new_covers_more NewFifo = files_more table h k w t None None (λ dir here. here)
 
     made_more : (new : New) → can_make t table h new ≡ true → can_make t table k new ≡ true
     made_more new e =
-        let less = both_lists (name_covers t h) (dir_covers t h) (name_covers t k) (dir_covers t k) (names_more table h k w t)
-        (dirs_more table h k w t) in
-        made_by_more (is_allowed_under table h (name_covers t h ++ dir_covers t h) IsMissing)
-        (is_allowed_under table k (name_covers t k ++ dir_covers t k) IsMissing)
+        let less = both_lists (name_covers t h None) (dir_covers t h None) (name_covers t k None) (dir_covers t k None) (names_more table h k w t None None (λ dir here. here))
+        (dirs_more table h k w t None None (λ dir here. here)) in
+        made_by_more (is_allowed_under table h (name_covers t h None ++ dir_covers t h None) IsMissing)
+        (is_allowed_under table k (name_covers t k None ++ dir_covers t k None) IsMissing)
         (λ c. under_more _ _ less IsMissing IsMissing c (λ fine. fine)) new e
 
     new_allowed_more : (new : New) (c : Call) → can_allow_new t table h new c ≡ true → can_allow_new t table k new c ≡ true

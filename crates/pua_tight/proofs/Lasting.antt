@@ -139,8 +139,8 @@ module _ (table : CallTable) (t : Tree) (well : WellFormed t) where
     promised_on held xs o c e = promised xs o c e
 
     promised_new : (new : New) (c : Call) → can_allow_new t table k new c ≡ true → passes c ≡ true
-    promised_new NewFile c e = one_way (is_allowed_under table k (file_covers t table k) (new_object table NewFile) c) _ c
-        (promised (file_covers t table k) (new_object table NewFile) c) (started (file_covers t table k) true c) e
+    promised_new NewFile c e = one_way (is_allowed_under table k (file_covers t table k None) (new_object table NewFile) c) _ c
+        (promised (file_covers t table k None) (new_object table NewFile) c) (started (file_covers t table k None) true c) e
     promised_new NewDir c e = promised (new_covers t table k NewDir) (new_object table NewDir) c e
     promised_new NewOthers c e = promised (new_covers t table k NewOthers) IsMissing c e
     promised_new NewLink c e = promised (new_covers t table k NewLink) IsLink c e
@@ -164,7 +164,7 @@ module _ (table : CallTable) (t : Tree) (well : WellFormed t) where
             (is_made_by passes new && passes c) ≡ true
         by true is a =
             let one = filter_among (is_new_allowed t table k new) calls c a in
-            let covers = name_covers t k ++ dir_covers t k in
+            let covers = name_covers t k None ++ dir_covers t k None in
             and_from (is_made_by passes new) (passes c)
             (made_by_more (is_allowed_under table k covers IsMissing) passes (promised covers IsMissing) new
             (and_parts (may_edit table k) _ is).1)

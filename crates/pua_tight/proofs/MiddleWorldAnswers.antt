@@ -337,11 +337,11 @@ module _ (kept : ℕ) (table : CallTable) (t : Tree) (l m s : ProcessState) (w :
       at : ProcessState → Decision
       at z = objects_by refusals table.whose table.rename t (asker_of z) ending.Dropped old new (λ x y. rename_by refusals t (asks_directory table.whose old new) x y (node_named x))
   same_agrees (Link old new) one = two_promises table.link.old.needs.alternatives table.link.new.needs.alternatives one.0.0 one.0.1
-      (at l) (at m) (at s) (pair_agrees t l m s covered table.whose table.link ending.Dot old new (λ x y. link_by refusals x y (node_named x)))
-      (objects_plain table.whose table.link t s ending.Dot old new (λ x y. link_by refusals x y (node_named x)) (λ x y. link_plain x y (node_named x)))
+      (at l) (at m) (at s) (pair_agrees t l m s covered table.whose table.link ending.Dot old new (λ x y. link_by refusals t x y (node_named x)))
+      (objects_plain table.whose table.link t s ending.Dot old new (λ x y. link_by refusals t x y (node_named x)) (λ x y. link_plain t x y (node_named x)))
     where
       at : ProcessState → Decision
-      at z = objects_by refusals table.whose table.link t (asker_of z) ending.Dot old new (λ x y. link_by refusals x y (node_named x))
+      at z = objects_by refusals table.whose table.link t (asker_of z) ending.Dot old new (λ x y. link_by refusals t x y (node_named x))
   same_agrees (Pledge p e) one = pledge_agrees (given_self p) (given_self e)
   same_agrees (Unveil path None) one = unveil_unknown path
   same_agrees (Unveil path (Some a)) one = unveil_agrees path a a (holds_self a)

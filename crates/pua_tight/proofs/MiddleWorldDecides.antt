@@ -250,11 +250,11 @@ module _ (table : CallTable) (t : Tree) (g h k : ProcessState) (v : StateWithin 
       at : ProcessState → Decision
       at z = objects_by refusals table.whose table.rename t (asker_of z) ending.Dropped old new (λ x y. rename_by refusals t (asks_directory table.whose old new) x y (node_named x))
   between (Link old new) = promised_two table.link.old.needs.alternatives table.link.new.needs.alternatives (at g) (at h) (at k)
-      (pair_agrees t g h k covered table.whose table.link ending.Dot old new (λ x y. link_by refusals x y (node_named x)))
-      (objects_plain table.whose table.link t k ending.Dot old new (λ x y. link_by refusals x y (node_named x)) (λ x y. link_plain x y (node_named x)))
+      (pair_agrees t g h k covered table.whose table.link ending.Dot old new (λ x y. link_by refusals t x y (node_named x)))
+      (objects_plain table.whose table.link t k ending.Dot old new (λ x y. link_by refusals t x y (node_named x)) (λ x y. link_plain t x y (node_named x)))
     where
       at : ProcessState → Decision
-      at z = objects_by refusals table.whose table.link t (asker_of z) ending.Dot old new (λ x y. link_by refusals x y (node_named x))
+      at z = objects_by refusals table.whose table.link t (asker_of z) ending.Dot old new (λ x y. link_by refusals t x y (node_named x))
   between (Pledge p e) = same_check unknown unknown unknown refl refl (at g) (at h) (at k)
       (last_check (pledge_fault table.whose g (given_set p) (given_set e)) (pledge_fault table.whose h (given_set p) (given_set e))
       (pledge_fault table.whose k (given_set p) (given_set e)) (λ s is. inr (beyond_back (given_set p) (given_set e) s is))

@@ -101,7 +101,7 @@ decide_full table t h (Rename old new) = promise_full (may_any h table.rename.ol
     (λ x y. rename_plain t (asks_directory table.whose old new) x y (node_named x)))))
 decide_full table t h (Link old new) = promise_full (may_any h table.link.old.needs.alternatives) _
     (promise_full (may_any h table.link.new.needs.alternatives) _
-    (not_full _ (objects_plain table.whose table.link t h ending.Dot old new (λ x y. link_by refusals x y (node_named x)) (λ x y. link_plain x y (node_named x)))))
+    (not_full _ (objects_plain table.whose table.link t h ending.Dot old new (λ x y. link_by refusals t x y (node_named x)) (λ x y. link_plain t x y (node_named x)))))
 decide_full table t h (Pledge p e) = not_full _ (checked_plain (fault_if (is_unknown p || is_unknown e) EINVAL) _
     (unknown_plain (is_unknown p || is_unknown e)) (beyond_plain _ _))
 decide_full table t h (Unveil path perms) = promise_full (may_any h (unveil ∷ [])) _

@@ -10,7 +10,7 @@ use Rattle.pua_path.specs.Resolution.{above_in, resolution_of_text, resolve_part
 use Rattle.pua_path.specs.Fits.{node_named, spot_named}
 use Rattle.pua_path.specs.declared.errno.Errno.{Errno}
 use Rattle.pua_path.specs.declared.errno.Errno.TheVariants.{EPERM, ENOENT, EACCES, EINVAL, EEXIST, EISDIR, ENOTDIR, ENOTEMPTY, ELOOP}
-use Rattle.pua_path.specs.declared.errno.Errno.TheVariants.{ENOSPC, EAGAIN, ENOSYS}
+use Rattle.pua_path.specs.declared.errno.Errno.TheVariants.{ENOSPC, EAGAIN, ENOSYS, EXDEV}
 use Rattle.pua_path.specs.declared.traced.PathTextFault.{PathTextFault}
 use Rattle.pua_path.specs.declared.traced.PathTextFault.TheVariants.{EmptyText, LongText, LongComponent, NulInText}
 use Rattle.pua_path.specs.declared.text.Ending.{Ending}
@@ -33,6 +33,7 @@ use Rattle.pua_policy.specs.Verdict.{cover, cover_fault, object_of, or_fault, pl
 use Rattle.pua_calls.specs.declared.fits.Misfit.{Misfit}
 use Rattle.pua_calls.specs.declared.fits.Misfit.TheVariants.{Missing, Exists, IsDirectory, IsNoFile, IsNoDirectory, IsNoLink}
 use Rattle.pua_calls.specs.declared.fits.Misfit.TheVariants.{IsNoProgram, IsNotEmpty, ByDot, ByDotDot, ByNothing, IsSocket, IsNoSocket, InUse}
+use Rattle.pua_calls.specs.declared.fits.Misfit.TheVariants.{IsMountPoint, IsElsewhere}
 use Rattle.pua_policy.specs.declared.answer.Cover.{Cover}
 use Rattle.pua_policy.specs.declared.answer.Cover.TheVariants as covers
 use Rattle.pua_policy.specs.declared.answer.UnveilFault.{UnveilFault}
@@ -40,6 +41,7 @@ use Rattle.pua_policy.specs.declared.answer.UnveilFault.TheVariants as unveil_fa
 use Rattle.pua_policy.specs.declared.answer.Refusal.TheVariants.{Failed, Killed}
 use Rattle.pua_script.specs.Decide.{Change, NoChange, Decision, asker_of, refusals, unless_failed, on_named, object_by, objects_by, veil_by}
 use Rattle.pua_script.specs.Decide.{dots_fault, top_fault, kinds_fault, inside_fault, ways_fault, fault_if, is_whole, rename_by, link_by, shifting}
+use Rattle.pua_script.specs.Decide.{fits_fault, is_elsewhere}
 use Rattle.pua_script.specs.Decide.{Sole, past_promises, cover_past, unveil_errno, before_long, errno_behind, front_errno, named_in, path_named}
 use Rattle.pua_calls.specs.declared.rules.Rules.{Rules}
 use Rattle.pua_calls.specs.declared.rules.Rules.TheVariants.{Standard, Openbsd}
@@ -85,12 +87,16 @@ inside_plain : (t : Tree) (x : ℕ) (spot : Option Spot) → rare_fault (inside_
 inside_plain t x None = refl
 inside_plain t x (Some spot) = if_plain (is_inside t x spot.0) EINVAL refl
 
-kinds_plain : (t : Tree) (x : ℕ) (old new : Found) → rare_fault (kinds_fault t x old new) ≡ false
-kinds_plain t x old (Whole y way) =
+fits_plain : (t : Tree) (old new : Found) → rare_fault (fits_fault t old new) ≡ false
+fits_plain t old (Whole y way) =
     or_plain (fault_if (not (is_whole old)) EISDIR) (fault_if (not (is_empty t y)) ENOTEMPTY) (if_plain (not (is_whole old)) EISDIR refl)
     (if_plain (not (is_empty t y)) ENOTEMPTY refl)
-kinds_plain t x old (Slot dir name None) = refl
-kinds_plain t x old (Slot dir name (Some y)) = if_plain (is_whole old) ENOTDIR refl
+fits_plain t old (Slot dir name None) = refl
+fits_plain t old (Slot dir name (Some y)) = if_plain (is_whole old) ENOTDIR refl
+
+kinds_plain : (t : Tree) (x : ℕ) (old new : Found) → rare_fault (kinds_fault t x old new) ≡ false
+kinds_plain t x old new =
+    or_plain (fault_if (is_elsewhere t old new) EXDEV) (fits_fault t old new) (if_plain (is_elsewhere t old new) EXDEV refl) (fits_plain t old new)
 
 text_plain : (o : Option PathTextFault) → rare_fault (option_map text_errno o) ≡ false
 text_plain None = refl
@@ -206,6 +212,8 @@ misfit_plain (Some ByNothing) = refl
 misfit_plain (Some IsSocket) = refl
 misfit_plain (Some IsNoSocket) = refl
 misfit_plain (Some InUse) = refl
+misfit_plain (Some IsMountPoint) = refl
+misfit_plain (Some IsElsewhere) = refl
 
 veil_plain : (o : Option UnveilFault) → rare_fault (unveil_errno o) ≡ false
 veil_plain None = refl
@@ -274,12 +282,14 @@ rename_plain t asks old new (Some x) =
     by false = checked_plain (or_fault (inside_fault t x (spot_named new)) (kinds_fault t x old new)) _
         (or_plain (inside_fault t x (spot_named new)) (kinds_fault t x old new) (inside_plain t x (spot_named new)) (kinds_plain t x old new)) refl
 
-pub link_plain : (old new : Found) (x : Option ℕ) → rare (link_by refusals old new x) ≡ false
-link_plain old new None = refl
-link_plain old new (Some x) =
-    checked_plain (or_fault (fault_if (is_whole old) EPERM) (fault_if (is_some (node_named new)) EEXIST)) _
-    (or_plain (fault_if (is_whole old) EPERM) (fault_if (is_some (node_named new)) EEXIST) (if_plain (is_whole old) EPERM refl)
-    (if_plain (is_some (node_named new)) EEXIST refl)) refl
+pub link_plain : (t : Tree) (old new : Found) (x : Option ℕ) → rare (link_by refusals t old new x) ≡ false
+link_plain t old new None = refl
+link_plain t old new (Some x) =
+    let free = fault_if (is_some (node_named new)) EEXIST in
+    let away = fault_if (is_elsewhere t old new) EXDEV in
+    checked_plain (or_fault (fault_if (is_whole old) EPERM) (or_fault free away)) _
+    (or_plain (fault_if (is_whole old) EPERM) (or_fault free away) (if_plain (is_whole old) EPERM refl)
+    (or_plain free away (if_plain (is_some (node_named new)) EEXIST refl) (if_plain (is_elsewhere t old new) EXDEV refl))) refl
 
 pub veiling_plain : (whose : Rules) (t : Tree) (h : ProcessState) (path : List ℕ) (perms : Option ℕ) → rare (veil_by refusals whose t (asker_of h) path perms) ≡ false
 veiling_plain whose t h path None = refl

@@ -8,7 +8,6 @@ use Rattle.pua_policy.specs.States.{ProcessState, held_set}
 use Rattle.pua_policy.proofs.ForCallers.{holds_through}
 use Rattle.pua_objects.specs.Objects.{Subject}
 use Rattle.pua_objects.specs.Roots.{shown_for_ever, shown_of, shows}
-use Rattle.pua_objects.specs.declared.roots.Shown.{Shown}
 use Rattle.pua_objects.specs.declared.roots.Shown.TheVariants.{All}
 use Rattle.pua_tight.specs.Narrower.{StateWithin}
 use Rattle.pua_tight.proofs.Within.{held_within}

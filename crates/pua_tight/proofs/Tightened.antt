@@ -8,7 +8,7 @@ use Rattle.pua_calls.specs.Promises.{holds, lacking}
 use Rattle.pua_calls.specs.Calls.{CallTable}
 use Rattle.pua_path.specs.declared.errno.Errno.{Errno}
 use Rattle.pua_path.specs.declared.errno.Errno.TheVariants.{EPERM, ENOENT, E2BIG, EACCES, EAGAIN, EBUSY, EEXIST, ENOTDIR, EISDIR, EINVAL}
-use Rattle.pua_path.specs.declared.errno.Errno.TheVariants.{ENOSPC, ELOOP, ENAMETOOLONG, ENOTEMPTY, EOPNOTSUPP, ENOSYS, ENOTSOCK, EADDRINUSE, EBADF}
+use Rattle.pua_path.specs.declared.errno.Errno.TheVariants.{ENOSPC, ELOOP, ENAMETOOLONG, ENOTEMPTY, EOPNOTSUPP, ENOSYS, ENOTSOCK, EADDRINUSE, EBADF, EXDEV}
 use Rattle.pua_script.specs.Requests.{Asked}
 use Rattle.pua_script.specs.Replay.{World, answers_to}
 use Rattle.pua_script.specs.declared.answer.Answer.{Answer}
@@ -85,10 +85,10 @@ errno_from n =
     cond (n == 0) EPERM (cond (n == 1) ENOENT (cond (n == 2) E2BIG (cond (n == 3) EACCES (cond (n == 4) EAGAIN (cond (n == 5) EBUSY
     (cond (n == 6) EEXIST (cond (n == 7) ENOTDIR (cond (n == 8) EISDIR (cond (n == 9) EINVAL (cond (n == 10) ENOSPC (cond (n == 11) ELOOP
     (cond (n == 12) ENAMETOOLONG (cond (n == 13) ENOTEMPTY (cond (n == 14) ENOSYS (cond (n == 15) ENOTSOCK (cond (n == 16) EADDRINUSE
-    (cond (n == 17) EBADF EOPNOTSUPP)))))))))))))))))
+    (cond (n == 17) EBADF (cond (n == 18) EOPNOTSUPP EXDEV))))))))))))))))))
 
 answer_from : ℕ → Answer
-answer_from n = cond (n == 19) Okay (cond (n == 20) Killed (cond (n == 21) Gone (Failed (errno_from n))))
+answer_from n = cond (n == 20) Okay (cond (n == 21) Killed (cond (n == 22) Gone (Failed (errno_from n))))
 
 back : (a : Answer) → answer_from (answer_number a) ≡ a
 unfolding errno_from answer_from
@@ -114,6 +114,7 @@ back (Failed ENOTSOCK) = refl
 back (Failed EADDRINUSE) = refl
 back (Failed EBADF) = refl
 back (Failed EOPNOTSUPP) = refl
+back (Failed EXDEV) = refl
 
 pub same_number : (a b : Answer) → answer_number a ≡ answer_number b → a ≡ b
 same_number a b e = sym (back a) ∙ ap answer_from e ∙ back b

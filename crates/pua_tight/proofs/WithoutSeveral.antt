@@ -18,7 +18,7 @@ use Rattle.pua_tight.specs.Tight.{Piece, InVeil, Line, asked_in, asks_of, lines_
 use Rattle.pua_tight.specs.Laws.{IsPieceOf, AreOkay, leave_out}
 use Rattle.pua_tight.specs.Left.{lines_by, put_back_at}
 use Rattle.pua_tight.specs.Trials.{Trial, trials_from, all_tried}
-use Rattle.pua_tight.specs.Several.{AreDone, AreUpTo, Descend, IsToTry, all_back, all_left}
+use Rattle.pua_tight.specs.Several.{AreDone, AreFrom, AreUpTo, Descend, IsToTry, all_back, all_left}
 use Rattle.pua_tight.specs.declared.together.Kept.{Kept}
 use Rattle.pua_tight.proofs.PromisesTogether.{again, one_more}
 use Rattle.pua_tight.proofs.Minimal.{middle_kept, same_self}
@@ -86,6 +86,14 @@ pub back_descends : (want : List Answer) (n : ℕ) (trials : List Trial) → Des
 back_descends want zero trials d = d
 back_descends want (suc n) [] d = tt
 back_descends want (suc n) (trial ∷ trials) d = back_descends want n trials d.2
+
+-- some of what is to be tried, when those before them were
+pub part_to_try : (table : CallTable) (w : World) (want : List Answer) (trials : List Trial) (given now : List Asked) (done more : ℕ) →
+    IsToTry table w want trials given → answers_to table w now ≡ want → IsToTry table w want (take more (drop done trials)) now
+part_to_try table w want trials given now done more to_try answered = record {
+  same = answered;
+  descend = front_descends want more (drop done trials) (back_descends want done trials to_try.descend);
+}
 
 pub left_in_two : (xs ys : List Trial) (asks : List Asked) → all_left (xs ++ ys) asks ≡ all_left ys (all_left xs asks)
 left_in_two [] ys asks = refl
@@ -198,10 +206,6 @@ no_other table w want line piece asks own is gone same =
     ∙ ap (λ l. first_other l want) same ∙ first_self want)
 
 -- the pieces of a script's lines are tried from the last line to the first
-abbrev AreFrom : ℕ → List Trial → Type 0
-AreFrom line [] = Unit {0}
-AreFrom line (trial ∷ trials) = (line ≤ trial.line) × AreFrom line trials
-
 from_less : (less line : ℕ) (trials : List Trial) → less ≤ line → AreFrom line trials → AreFrom less trials
 from_less less line [] small from = tt
 from_less less line (trial ∷ trials) small from = (omega (arith, small, from.0), from_less less line trials small from.1)

@@ -11,5 +11,6 @@ pub mod Uses
 -- What the code's fields say.
 pub mod Left
 pub mod Several
+pub mod Starts
 -- Worked rows, which hold by computation.
 pub mod Examples

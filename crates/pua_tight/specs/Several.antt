@@ -28,6 +28,11 @@ abbrev pub Descend : List Answer → List Trial → Type 0
 Descend want [] = Unit {0}
 Descend want (trial ∷ trials) = (slice_get want trial.line ≡ Some Okay) × AreUpTo trial.line trials × Descend want trials
 
+-- pieces of no line before this one
+abbrev pub AreFrom : ℕ → List Trial → Type 0
+AreFrom line [] = Unit {0}
+AreFrom line (trial ∷ trials) = (line ≤ trial.line) × AreFrom line trials
+
 -- what is to be tried of a script that is answered as is wanted
 pub record IsToTry (table : CallTable) (w : World) (want : List Answer) (trials : List Trial) (asks : List Asked) : Type 0 where
   pub same : answers_to table w asks ≡ want

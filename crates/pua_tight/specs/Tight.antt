@@ -4,7 +4,7 @@ use Rattle.std.specs.Prelude.{ℕ, ◌==◌, Bool, true, false, ◌&&◌, if◌t
 use Rattle.std.specs.Prelude.{Some, option_map}
 use Rattle.pua_path.specs.declared.errno.Errno.{Errno}
 use Rattle.pua_path.specs.declared.errno.Errno.TheVariants.{EPERM, ENOENT, E2BIG, EACCES, EAGAIN, EBUSY, EEXIST, ENOTDIR, EISDIR, EINVAL}
-use Rattle.pua_path.specs.declared.errno.Errno.TheVariants.{ENOSPC, ELOOP, ENAMETOOLONG, ENOTEMPTY, ENOSYS, EOPNOTSUPP, ENOTSOCK, EADDRINUSE, EBADF}
+use Rattle.pua_path.specs.declared.errno.Errno.TheVariants.{ENOSPC, ELOOP, ENAMETOOLONG, ENOTEMPTY, ENOSYS, EOPNOTSUPP, ENOTSOCK, EADDRINUSE, EBADF, EXDEV}
 use Rattle.pua_calls.specs.Promises.{lacking, holds, id, keyword_rows, error, proc, recvfd, sendfd, unveil}
 use Rattle.pua_calls.specs.Calls.{CallTable, rule_of, calls}
 use Rattle.pua_script.specs.Requests.{Asked}
@@ -62,11 +62,12 @@ errno_number ENOTSOCK = 15
 errno_number EADDRINUSE = 16
 errno_number EBADF = 17
 errno_number EOPNOTSUPP = 18
+errno_number EXDEV = 19
 
 abbrev pub answer_number : Answer → ℕ
-answer_number Okay = 19
-answer_number Killed = 20
-answer_number Gone = 21
+answer_number Okay = 20
+answer_number Killed = 21
+answer_number Gone = 22
 answer_number (Failed errno) = errno_number errno
 
 abbrev pub same_answers : List Answer → List Answer → Bool

@@ -1,15 +1,17 @@
 //! Trials: a script without a word, where all of it is then answered as before.
 
-ghost use Rattle.std.specs.Prelude.{◌≡◌, ◌++◌, map, IfOk, IsFalse};
+ghost use Rattle.std.specs.Prelude.{◌≡◌, ◌++◌, map, IfOk, IsFalse, OnOk};
 ghost use Rattle.pua_script.specs.Replay.{answers_to, new_world};
 ghost use Rattle.pua_tight.specs.Laws.{leave_out};
 ghost use Rattle.pua_tight.specs.Trials.{trials_from};
+ghost use Rattle.pua_tight.specs.Starts.{IsStart};
 ghost use Rattle.pua_tight.specs.Uses.{first_other};
 ghost use Rattle.pua_tight.specs.Left.{lines_by, put_back_at};
 
 use crate::arguments::Arguments;
 use crate::line_pieces::line_pieces;
 use crate::piece::Piece;
+use crate::start::Start;
 use crate::wanted::Wanted;
 use pua_calls::Promises;
 use pua_script::{Answer, Request};
@@ -63,21 +65,29 @@ pub(crate) fn add_trials(
 /// unless an error is answered.
 pub(crate) fn other_without(
     wanted: &Wanted<'_>,
+    start: &mut Start,
     trial: &Trial,
     requests: &mut Vec<Request>,
 ) -> Result<Option<usize>, OutOfMemory>
     ensures other { IfOk result (λ other.
         answers_to wanted.now.table.now (new_world wanted.now.tree) requests.old.items
         ≡ wanted.now.answers.items →
+        IsStart wanted.now.table.now (new_world wanted.now.tree) requests.old.items
+        start.old →
         other ≡ first_other (answers_to wanted.now.table.now (new_world wanted.now.tree)
         (leave_out trial.now.line trial.now.piece requests.old.items)) wanted.now.answers.items) }
+    ensures start { OnOk result
+        (IsStart wanted.now.table.now (new_world wanted.now.tree) requests.old.items
+        start.old → IsStart wanted.now.table.now (new_world wanted.now.tree)
+        requests.old.items start.new) }
     ensures kept { IfOk result (λ _. requests.new.items ≡ requests.old.items) }
 {
     if !has_piece(trial, requests.as_slice()) {
         return Ok(None);
     }
+    start.go_near(wanted, requests.as_slice(), trial.line)?;
     let kept = leave_out(trial, requests);
-    let other = wanted.first_other(requests.as_slice())?;
+    let other = start.first_other(wanted, requests.as_slice())?;
     put_back(trial.line, kept, requests);
     Ok(other)
 }

@@ -1,10 +1,11 @@
 //! The answers that a script has to keep, and the first line that is answered otherwise.
 
-ghost use Rattle.std.specs.Prelude.{◌≡◌, IfOk};
+ghost use Rattle.std.specs.Prelude.{◌≡◌, ◌≤◌, drop, length, IfOk};
 ghost use Rattle.pua_script.specs.Replay.{answers_to, new_world};
 ghost use Rattle.pua_script.specs.Worlds.{with_table, world_of};
-ghost use Rattle.pua_tight.specs.Uses.{first_other};
+ghost use Rattle.pua_tight.specs.Starts.{first_from};
 
+use crate::start::release;
 use pua_calls::CallTable;
 use pua_script::{Answer, Request, Script, World, WorldFault};
 use pua_tree::{CopiedTree, OutOfMemory, SlabTree};
@@ -47,19 +48,12 @@ impl<'a> Wanted<'a> {
         })
     }
 
-    /// The index of the first of these requests that is answered otherwise, if there is one.
-    pub(crate) fn first_other(&self, requests: &[Request]) -> Result<Option<usize>, OutOfMemory>
-        ensures { IfOk result (λ other. other ≡ first_other
-            (answers_to self.now.table.now (new_world self.now.tree) requests.now)
-            self.now.answers.items) }
+    /// A new world over a copy of the tree.
+    pub(crate) fn begun(&self) -> Result<World<SlabTree>, OutOfMemory>
+        ensures { IfOk result (λ world. world
+            ≡ with_table self.now.table.now (new_world self.now.tree)) }
     {
-        let mut world = begun(self.alloc, &self.tree, self.table)?;
-        let other = served_otherwise(&mut world, requests, self.answers.as_slice());
-        release(world);
-        match other {
-            Ok(other) => Ok(other),
-            Err(WorldFault::OutOfMemory) => Err(OutOfMemory),
-        }
+        begun(self.alloc, &self.tree, self.table)
     }
 }
 
@@ -71,23 +65,21 @@ fn begun(alloc: Global, tree: &SlabTree, table: &CallTable) -> Result<World<Slab
     World::new(alloc, tree, *table)
 }
 
-/// Gives back the memory of a world: one call, where the world's drop would else be walked and
-/// proved at each exit after it.
-fn release(world: World<SlabTree>) {}
-
-/// Serves requests in a world up to the first that is answered otherwise than is wanted, and
-/// answers its index. Where the lists have other lengths, it is the first that only one of them
-/// has.
-fn served_otherwise(
+/// Serves requests from an index on in a world, up to the first that is answered otherwise than is
+/// wanted, and answers its index. Where the lists have other lengths, it is the first that only one
+/// of them has.
+pub(crate) fn served_otherwise(
     world: &mut World<SlabTree>,
     requests: &[Request],
+    from: usize,
     wanted: &[Answer],
 ) -> Result<Option<usize>, WorldFault>
-    ensures { IfOk result (λ other. other
-        ≡ first_other (answers_to world.old.table (world_of world.old) requests.now) wanted.now) }
+    ensures { IfOk result (λ other. from ≤ length requests.now → other ≡ first_from from
+        (answers_to world.old.table (world_of world.old) (drop from requests.now))
+        (drop from wanted.now)) }
 {
-    for (index, request) in requests.iter().enumerate() {
-        let answer = world.apply(request)?;
+    for index in from..requests.len() {
+        let answer = world.apply(&requests[index])?;
         match wanted.get(index) {
             Some(wanted) if *wanted == answer => {}
             _ => return Ok(Some(index)),

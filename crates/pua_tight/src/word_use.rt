@@ -9,6 +9,7 @@ use crate::asked::asked_in;
 use crate::fault::TightFault;
 use crate::line_pieces::line_pieces;
 use crate::piece::Piece;
+use crate::start::Start;
 use crate::tighten::{begin, tighten};
 use crate::trial::{Trial, add_trials, other_without};
 use crate::wanted::Wanted;
@@ -87,9 +88,10 @@ fn uses_of(
         uses.items ≡ map (use_by wanted.now.table.now (new_world wanted.now.tree)
         wanted.now.answers.items requests.old.items) words.now) }
 {
+    let mut start = Start::first(wanted)?;
     let mut uses = Vec::new(alloc);
     for word in words {
-        let needed_by = other_without(wanted, word, requests)?;
+        let needed_by = other_without(wanted, &mut start, word, requests)?;
         let word = WordUse {
             line: word.line,
             word: word.piece,
@@ -97,5 +99,6 @@ fn uses_of(
         };
         uses.push(word)?;
     }
+    start.end();
     Ok(uses)
 }

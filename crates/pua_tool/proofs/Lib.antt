@@ -18,6 +18,7 @@ pub mod WhyTexts
 pub mod Reasoned
 pub mod HowTexts
 pub mod NowThere
+pub mod RowsBelow
 pub mod RowColumns
 pub mod EverColumns
 pub mod Counts

@@ -49,8 +49,9 @@ use Rattle.pua_texts.specs.EverLines.{kind_of}
 use Rattle.pua_tool.specs.declared.columns.Behind.{Behind}
 use Rattle.pua_tool.specs.declared.script.Replay.{Replay}
 use Rattle.pua_tool.specs.RowColumns.{AreColumns, AreStepsTo, IsColumnAt, IsColumnOf, IsCountTo, done_behind, is_now_on, is_there, tried_behind}
-use Rattle.pua_tool.specs.EverHowTexts.{IsColumn, IsCount, counts_text, is_now, lacking}
+use Rattle.pua_tool.specs.EverHowTexts.{IsColumn, IsCount, counts_text, is_now, lacking, lines_below}
 use Rattle.pua_tool.proofs.NowThere.{now_meant}
+use Rattle.pua_tool.proofs.RowsBelow.{among_below}
 
 -- ---- steps
 
@@ -280,13 +281,14 @@ module _ (rules : Rules) (done : Replayed) (process : ℕ) (h : ProcessState) wh
   columns_meant (line ∷ told) placed columns =
       (column_meant line.0 line.1 (placed line.0 (inl refl)) columns.0, columns_meant told (λ other a. placed other (inr a)) columns.1)
 
-  pub columns_told : WellFormed done.world.tree → (told : List (EverLine × List ℕ)) →
-      map (λ line. line.0) told ≡ shown_lasting done.world.tree (tmp_table done.table) h →
+  pub columns_told : WellFormed done.world.tree → (below : Option Word) (told : List (EverLine × List ℕ)) →
+      map (λ line. line.0) told ≡ lines_below below (shown_lasting done.world.tree (tmp_table done.table) h) →
       AllByRecursion (λ (line : EverLine × List ℕ). IsColumnOf rules done process h line.0 line.1) told →
       AllByRecursion (λ (line : EverLine × List ℕ). IsColumn rules done process h line.0 line.1) told
-  columns_told well told are columns =
+  columns_told well below told are columns =
+      let shown = shown_lasting done.world.tree (tmp_table done.table) h in
       columns_meant told (λ line a. shown_placed done.world.tree (tmp_table done.table) h well line
-      (contained (shown_lasting done.world.tree (tmp_table done.table) h) line (subst (λ (lines : List EverLine). Among lines line) are a))) columns
+      (contained shown line (among_below below shown line (subst (λ (lines : List EverLine). Among lines line) are a)))) columns
 
 -- ---- some columns, where none need be found
 

@@ -1,9 +1,10 @@
 -- The text of the list for ever of a process with the number of steps of a way to each call that the list of now lacks, and what
 -- refuses it. Which plans are laid is in no contract, and so which ways are found: what is, is that there is one of so many steps, or that
 -- none of the plans comes to one, and which calls are told of.
-use Rattle.std.specs.Prelude.{◌≡◌, ℕ, Bool, false, not, ◌&&◌, if◌then◌else◌, List, [], ◌∷◌, ◌++◌, map, filter, length, Option, Some, None}
+use Rattle.std.specs.Prelude.{◌≡◌, ℕ, Bool, true, false, not, ◌&&◌, if◌then◌else◌, List, [], ◌∷◌, ◌++◌, map, filter, length, Option, Some, None}
 use Rattle.std.specs.Prelude.{option_and_then, Result, Ok, Err, ok_or, codes, decimal}
-use Rattle.std.specs.List.{AllByRecursion, Contains}
+use Rattle.std.specs.List.{AllByRecursion, Contains, starts_with}
+use Rattle.pua_tree.specs.Names.{same_bytes}
 use Rattle.pua_tree.specs.Steps.{◌>>=◌}
 use Rattle.pua_tree.specs.Tree.{Tree, is_dir, look}
 use Rattle.pua_path.specs.declared.found.Found.TheVariants.{Whole, Slot}
@@ -25,18 +26,19 @@ use Rattle.pua_tree.specs.declared.node.Kind.TheVariants.{Dir}
 use Rattle.pua_ever.specs.Ever.{EverLine, Thing, Stands, Comes}
 use Rattle.pua_ever.specs.Refusals.{refusal}
 use Rattle.pua_ever.specs.ShownForEver.{shown_lasting}
-use Rattle.pua_how.specs.PathQuestion.{PathQuestion, question_by, directory_at_name, targets_of, thing_word}
+use Rattle.pua_how.specs.PathQuestion.{PathQuestion, Standing, Making, question_by, path_question, directory_at_name, targets_of, thing_word}
 use Rattle.pua_how.specs.Steps.{NoneComes}
 use Rattle.pua_how.specs.Targets.{IsLast}
 use Rattle.pua_how.specs.Ways.{IsWay}
 use Rattle.pua_how.specs.declared.target.Target.{Target}
+use Rattle.pua_how.specs.declared.target.Target.TheVariants as target
 use Rattle.pua_how.specs.declared.way.NoWay.{NoWay}
 use Rattle.pua_texts.specs.EverHowLines.{ever_list_with}
 use Rattle.pua_texts.specs.Lines.{answer_lines, with_end}
 use Rattle.pua_tool.specs.EverTexts.{unless_reason}
 use Rattle.pua_tool.specs.Texts.{Chosen, Replayed, replay_of}
 use Rattle.pua_tool.specs.declared.fault.ToolFault.{ToolFault}
-use Rattle.pua_tool.specs.declared.fault.ToolFault.TheVariants.{NoProcess}
+use Rattle.pua_tool.specs.declared.fault.ToolFault.TheVariants.{NoProcess, BelowPath, BelowThing}
 
 -- what stands at a name now, as a line of a kind is about it: a directory or its further names, what is no directory, or the name
 -- where nothing stands; nothing, where a line of this kind is about what doesn't stand there now
@@ -135,26 +137,65 @@ pub record IsColumn (rules : Rules) (done : Replayed) (process : ℕ) (h : Proce
   pub counted : AllByRecursion (IsCount rules done process h (question_by line.word line.thing) kind) counts
   pub is : text ≡ with_end (counts_text 32 counts)
 
--- the list for ever of a process, which goes by the table with `tmppath`, and behind the calls of each line its column
-pub record IsEverHowList (rules : Rules) (done : Replayed) (process : ℕ) (h : ProcessState) (text : List ℕ) : Type 0 where
+-- what stands or could stand now has a path
+abbrev pub has_path : Thing → Bool
+has_path (Stands subject) = true
+has_path (Comes new) = false
+
+-- a line is at a path, or below it
+abbrev pub is_below : Word → EverLine → Bool
+is_below path line = has_path line.thing && starts_with same_bytes line.word path
+
+-- all lines, or those at or below a path
+abbrev pub lines_below : Option Word → List EverLine → List EverLine
+lines_below None lines = lines
+lines_below (Some path) lines = filter (is_below path) lines
+
+-- something stands at a path, or its last name has a veil of its own: more is meant by it than one of the further names of a directory
+abbrev pub is_known : List Target → Bool
+is_known [] = false
+is_known (target.Others dir ∷ more) = false
+is_known (thing ∷ more) = true
+
+-- the names of a path at or below which lines are asked for, or its fault: no list prints it, or nothing is known there
+abbrev pub names_asked : Tree → ProcessState → Option PathQuestion → Result (Option Word) ToolFault
+names_asked t h None = Err BelowPath
+names_asked t h (Some Making) = Err BelowPath
+names_asked t h (Some (Standing names)) =
+    if is_known (targets_of t h 0 (Standing names) None) then Ok (Some names) else Err BelowThing
+
+abbrev pub below_asked : Tree → ProcessState → Option (List ℕ) → Result (Option Word) ToolFault
+below_asked t h None = Ok None
+below_asked t h (Some path) = names_asked t h (path_question path)
+
+-- the list for ever of a process, which goes by the table with `tmppath`, or its lines at or below a path, and behind the calls of
+-- each line its column
+pub record IsEverHowList (rules : Rules) (done : Replayed) (process : ℕ) (h : ProcessState) (below : Option Word) (text : List ℕ) : Type 0 where
   pub lines : List (EverLine × List ℕ)
-  pub are : map (λ line. line.0) lines ≡ shown_lasting done.world.tree (tmp_table done.table) h
+  pub are : map (λ line. line.0) lines ≡ lines_below below (shown_lasting done.world.tree (tmp_table done.table) h)
   pub columns : AllByRecursion (λ line. IsColumn rules done process h line.0 line.1) lines
   pub is : text ≡ ever_list_with rules (tmp_table done.table) done.world.tree process h lines
 
--- the answers, and then such a list, or what refuses it: the process was never made, or there is a reason for none
-pub record IsEverHowAfter (rules : Rules) (done : Replayed) (process : ℕ) (answer : Result (List ℕ) ToolFault) : Type 0 where
-  pub list : List ℕ
-  pub sound : (h : ProcessState) → kept_at done.world process ≡ Some h → refusal done.table h ≡ None → IsEverHowList rules done process h list
-  pub is : answer
-      ≡ (ok_or (kept_at done.world process) NoProcess
-      >>= λ h. unless_reason process (refusal done.table h) (answer_lines 1 done.answers ++ list))
+-- a text, unless there is a reason for none, or a fault of the path
+abbrev pub unless_refused : Replayed → ℕ → Option (List ℕ) → List ℕ → ProcessState → Result (List ℕ) ToolFault
+unless_refused done process path text h =
+    unless_reason process (refusal done.table h) text >>= λ told. below_asked done.world.tree h path >>= λ below. Ok told
+
+-- the answers, and then such a list, at or below a path if one is given; or what refuses it: the process was never made, there is a
+-- reason for none, or a fault of the path
+pub record IsEverHowAfter (rules : Rules) (done : Replayed) (process : ℕ) (path : Option (List ℕ)) (answer : Result (List ℕ) ToolFault) : Type 0
+  where
+    pub list : List ℕ
+    pub sound : (h : ProcessState) (below : Option Word) → kept_at done.world process ≡ Some h → refusal done.table h ≡ None
+        → below_asked done.world.tree h path ≡ Ok below → IsEverHowList rules done process h below list
+    pub is : answer
+        ≡ (ok_or (kept_at done.world process) NoProcess >>= unless_refused done process path (answer_lines 1 done.answers ++ list))
 
 -- the same of a script over a listing, by the table that is chosen, or the first fault: the table's, the listing's, or the script's
-abbrev pub IsEverHowBehind : Rules → Result Replayed ToolFault → ℕ → Result (List ℕ) ToolFault → Type 0
-IsEverHowBehind rules (Ok done) process answer = IsEverHowAfter rules done process answer
-IsEverHowBehind rules (Err fault) process answer = answer ≡ Err fault
+abbrev pub IsEverHowBehind : Rules → Result Replayed ToolFault → ℕ → Option (List ℕ) → Result (List ℕ) ToolFault → Type 0
+IsEverHowBehind rules (Ok done) process path answer = IsEverHowAfter rules done process path answer
+IsEverHowBehind rules (Err fault) process path answer = answer ≡ Err fault
 
-unfoldable pub IsEverHowText : Chosen → List ℕ → List ℕ → ℕ → Result (List ℕ) ToolFault → Type 0
-IsEverHowText choice tree_bytes script_bytes process answer =
-    IsEverHowBehind choice.rules (replay_of choice tree_bytes script_bytes) process answer
+unfoldable pub IsEverHowText : Chosen → List ℕ → List ℕ → ℕ → Option (List ℕ) → Result (List ℕ) ToolFault → Type 0
+IsEverHowText choice tree_bytes script_bytes process path answer =
+    IsEverHowBehind choice.rules (replay_of choice tree_bytes script_bytes) process path answer

@@ -11,6 +11,7 @@ use Rattle.pua_tool.specs.declared.fault.ToolFault.{ToolFault}
 use Rattle.pua_tool.specs.declared.fault.ToolFault.TheVariants.{Listing, Script, Request, NoProcess, Audit, OutOfMemory, Table, CanUnveil}
 use Rattle.pua_tool.specs.declared.fault.ToolFault.TheVariants.{LacksC, RenameLacksC, LinkLacksC, OtherVeils, SeveralWhy, NowHow, SeveralHow, EverImages, WhyImages}
 use Rattle.pua_tool.specs.declared.fault.ToolFault.TheVariants.{NowBeside, WhyBeside, HowBeside, ImagesBeside}
+use Rattle.pua_tool.specs.declared.fault.ToolFault.TheVariants.{PlainBelow, BelowPath, BelowThing}
 use Rattle.pua_tool.specs.declared.fault.ToolFault.TheVariants.{NoLine, HowCall, HowPath, HowThing, HowLink, TooManyNames}
 
 -- the line of an input that is to blame, if one is, and what is wrong
@@ -52,6 +53,9 @@ fault_line NowBeside = with_end (codes "pua: objects: no list of now with --besi
 fault_line WhyBeside = with_end (codes "pua: objects: no list with --why and --beside")
 fault_line HowBeside = with_end (codes "pua: objects: no list with --how and --beside")
 fault_line ImagesBeside = with_end (codes "pua: objects: no list with --images and --beside")
+fault_line PlainBelow = with_end (codes "pua: objects: no list with --below without --ever --how")
+fault_line BelowPath = with_end (codes "pua: objects: bad path")
+fault_line BelowThing = with_end (codes "pua: objects: no such path")
 fault_line (NoLine line) = codes "pua: script: " ++ blame_line (Some line) (codes "no such line")
 fault_line HowCall = with_end (codes "pua: how: bad call")
 fault_line HowPath = with_end (codes "pua: how: bad path")

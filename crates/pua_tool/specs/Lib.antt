@@ -46,4 +46,5 @@ pub mod TwoWorlds
 pub mod Questions
 pub mod BesideFound
 pub mod RowColumns
+pub mod RowsBelow
 pub mod EverColumns

@@ -4,8 +4,9 @@ ghost use Rattle.std.specs.Prelude.{ℕ, List, Ok, Result};
 ghost use Rattle.pua_tool.specs.Answers.{AnswersTo};
 ghost use Rattle.pua_tool.specs.EverHowTexts.{IsEverHowAfter, IsEverHowText};
 ghost use Rattle.pua_tool.specs.RowColumns.{done_behind};
-ghost use Rattle.pua_tool.specs.Texts.{choice_of};
+ghost use Rattle.pua_tool.specs.Texts.{choice_of, given_bytes};
 
+use crate::below::keep_below;
 use crate::columns::{Behind, columns_of};
 use crate::ever_fault::fault_of;
 use crate::fault::ToolFault;
@@ -19,17 +20,20 @@ use pua_texts::{answer_text, begin_ever_with};
 use pua_tree::FileTree;
 use std::alloc::Global;
 
-/// Writes the list for ever of a process with the number of steps of ways.
+/// Writes the list for ever of a process with the number of steps of ways, or its lines at or below
+/// a path.
 pub(crate) fn ever_how_to<S: Sink>(
     alloc: Global,
     tree_bytes: &[u8],
     script_bytes: &[u8],
     table: TableChoice<'_>,
     process: u32,
+    path: Option<&[u8]>,
     sink: &mut S,
 ) -> Result<(), WriteFault>
     ensures text { (answer : Result (List ℕ) ToolFault)
-        × IsEverHowText (choice_of table.entry) tree_bytes.now script_bytes.now process answer
+        × IsEverHowText (choice_of table.entry) tree_bytes.now script_bytes.now process
+        (given_bytes path.entry) answer
         × AnswersTo S.written S.failed answer result sink.old sink.new }
 {
     let replay = replay_script(alloc, tree_bytes, script_bytes, table)?;
@@ -38,16 +42,23 @@ pub(crate) fn ever_how_to<S: Sink>(
         rules: table.rules,
         number: process,
     };
-    let written = list_to(alloc, &behind, sink);
+    let written = list_to(alloc, &behind, path, sink);
     replay.release();
     written
 }
 
 /// Writes the answers of a script, and then the list for ever of the process where the script ends,
-/// with its columns. The list goes by the table with tmppath.
-fn list_to<S: Sink>(alloc: Global, behind: &Behind<'_>, sink: &mut S) -> Result<(), WriteFault>
+/// or its lines at or below a path, with its columns. The list goes by the table with tmppath. Ways
+/// are looked for to the calls of these lines alone.
+fn list_to<S: Sink>(
+    alloc: Global,
+    behind: &Behind<'_>,
+    path: Option<&[u8]>,
+    sink: &mut S,
+) -> Result<(), WriteFault>
     ensures { (answer : Result (List ℕ) ToolFault)
-        × IsEverHowAfter behind.now.rules (done_behind behind.now) behind.now.number answer
+        × IsEverHowAfter behind.now.rules (done_behind behind.now) behind.now.number
+        (given_bytes path.entry) answer
         × AnswersTo S.written S.failed answer result sink.old sink.new }
 {
     let (number, world) = (behind.number, &behind.replay.world);
@@ -62,6 +73,7 @@ fn list_to<S: Sink>(alloc: Global, behind: &Behind<'_>, sink: &mut S) -> Result<
         Ok(list) => list,
         Err(fault) => return Err(NoText(fault_of(number, fault))),
     };
+    let list = keep_below(alloc, tree, process, path, list)?;
     let columns = columns_of(alloc, behind, process, list.rows.as_slice())?;
     let front = answer_text(alloc, behind.replay.answers.as_slice())?;
     let lists = begin_ever_with(alloc, tree, behind.rules, number, process, &list, columns)?;

@@ -74,6 +74,13 @@ pub enum ToolFault {
     HowBeside,
     /// There is no list with the help of others and with what processes were.
     ImagesBeside,
+    /// There is no list of what is at or below a path but for ever, with ways.
+    PlainBelow,
+    /// At or below what lines are asked for is no path as a list for ever prints it.
+    BelowPath,
+    /// Nothing stands at the path at or below which lines are asked for, and the name there has no
+    /// veil of its own.
+    BelowThing,
     /// The tree that the script leaves has more names than a listing has lines: over 1,000,000, the
     /// root counted as one.
     TooManyNames,
@@ -181,6 +188,9 @@ impl ToolFault {
             ToolFault::WhyBeside => one("pua: objects: no list with --why and --beside"),
             ToolFault::HowBeside => one("pua: objects: no list with --how and --beside"),
             ToolFault::ImagesBeside => one("pua: objects: no list with --images and --beside"),
+            ToolFault::PlainBelow => one("pua: objects: no list with --below without --ever --how"),
+            ToolFault::BelowPath => one("pua: objects: bad path"),
+            ToolFault::BelowThing => one("pua: objects: no such path"),
             ToolFault::NoLine(line) => blamed("pua: script: ", (Some(line), "no such line")),
             ToolFault::HowCall => one("pua: how: bad call"),
             ToolFault::HowPath => one("pua: how: bad path"),

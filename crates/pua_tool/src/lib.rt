@@ -5,6 +5,7 @@
 mod acting;
 mod advised;
 mod audit;
+mod below;
 mod beside;
 mod cli;
 mod columns;

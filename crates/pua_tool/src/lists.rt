@@ -1,11 +1,12 @@
 //! The text of a list, whosever it is, of whatever time, with whatever columns.
 
-ghost use Rattle.std.specs.Prelude.{ℕ, List, Result};
+ghost use Rattle.std.specs.Prelude.{◌≡◌, ℕ, List, Result};
 ghost use Rattle.pua_tool.specs.Answers.{AnswersTo};
-ghost use Rattle.pua_tool.specs.ListTexts.{IsHelpedBy, IsHelpedWith, IsListBy, IsListText};
-ghost use Rattle.pua_tool.specs.ListTexts.{IsListWith, IsWaysText, lasting_text};
+ghost use Rattle.pua_tool.specs.ListTexts.{IsHelpedBy, IsHelpedWith, IsListBy, IsListOf};
+ghost use Rattle.pua_tool.specs.ListTexts.{IsListText, IsListWith, IsWaysText, asks_for_ways};
+ghost use Rattle.pua_tool.specs.ListTexts.{is_plain_below, lasting_text};
 ghost use Rattle.pua_tool.specs.ListTexts.{lasting_why_text, with_images_text};
-ghost use Rattle.pua_tool.specs.Texts.{choice_of};
+ghost use Rattle.pua_tool.specs.Texts.{choice_of, given_bytes};
 
 use crate::beside::beside_to;
 use crate::ever::ever_to;
@@ -85,27 +86,64 @@ use std::alloc::Global;
 /// and these calls in their order, with commas between them, each with a blank and the number of
 /// steps of a way to it on what the line's path and kind mean, as [`how_to`](crate::how_to) writes
 /// one; or `?`, where none was found. Each plan is served in a copy of the world that the script
-/// left.
+/// left. At or below a path, the list with this column has those of its lines whose names begin with
+/// those of the path, in their order, and none of `new`: ways are looked for to the calls of these
+/// alone. The path is spelled as a list prints it.
 ///
-/// The first that holds of these is answered before anything is written: `SeveralWhy`, `NowHow`,
-/// `SeveralHow`, `EverImages`, `WhyImages`, `ImagesBeside`, `NowBeside`, `WhyBeside` or
+/// The first that holds of these is answered before anything is written: `PlainBelow`, `SeveralWhy`,
+/// `NowHow`, `SeveralHow`, `EverImages`, `WhyImages`, `ImagesBeside`, `NowBeside`, `WhyBeside` or
 /// `HowBeside`, where there is no such list; `Table`, `Listing` and `Script`; `NoProcess`; of a
 /// list for ever that of `CanUnveil`, `LacksC`, `RenameLacksC` and `LinkLacksC` which the first
-/// process has that has one, those whose lists are asked for before those that help; and of a list
-/// of several `OtherVeils`, of the first that lives and the first after it that lives and has
-/// another place with a veil, or other letters at one. So is `OutOfMemory`, wherever a growth was
-/// refused. `Put` is answered only where a put failed in this call, and a front of the text is then
-/// written.
+/// process has that has one, those whose lists are asked for before those that help; of a list of
+/// several `OtherVeils`, of the first that lives and the first after it that lives and has another
+/// place with a veil, or other letters at one; and at or below a path `BelowPath` and `BelowThing`.
+/// So is `OutOfMemory`, wherever a growth was refused. `Put` is answered only where a put failed in
+/// this call, and a front of the text is then written.
 pub fn list_to<S: Sink>(
     alloc: Global,
     tree_bytes: &[u8],
     script_bytes: &[u8],
     table: TableChoice<'_>,
-    list: &ListWords,
+    list: &ListWords<'_>,
     sink: &mut S,
 ) -> Result<(), WriteFault>
     ensures text { (answer : Result (List ℕ) ToolFault)
         × IsListText (choice_of table.entry) tree_bytes.now script_bytes.now list.now answer
+        × AnswersTo S.written S.failed answer result sink.old sink.new }
+{
+    if is_plain_below(list) {
+        return Err(NoText(ToolFault::PlainBelow));
+    }
+    sound_to(alloc, tree_bytes, script_bytes, table, list, sink)
+}
+
+/// Whether what is at or below a path is asked for, and no ways to it.
+fn is_plain_below(list: &ListWords<'_>) -> bool
+    ensures { result ≡ is_plain_below list.now }
+{
+    list.below.is_some() && !asks_for_ways(list.span, list.columns)
+}
+
+/// Whether ways are asked for in a list for ever.
+fn asks_for_ways(span: Time, columns: Columns) -> bool
+    ensures { result ≡ asks_for_ways span columns }
+{
+    matches!((span, columns), (Time::Ever, Columns::How))
+}
+
+/// Writes a list, at or below a path only where ways are asked for.
+fn sound_to<S: Sink>(
+    alloc: Global,
+    tree_bytes: &[u8],
+    script_bytes: &[u8],
+    table: TableChoice<'_>,
+    list: &ListWords<'_>,
+    sink: &mut S,
+) -> Result<(), WriteFault>
+    ensures text { (answer : Result (List ℕ) ToolFault)
+        × IsListOf list.now.beside list.now.images list.now.span list.now.columns
+        (given_bytes list.now.below) list.now.whose (choice_of table.entry) tree_bytes.now
+        script_bytes.now answer
         × AnswersTo S.written S.failed answer result sink.old sink.new }
 {
     match &list.beside {
@@ -120,7 +158,7 @@ fn helped_to<S: Sink>(
     tree_bytes: &[u8],
     script_bytes: &[u8],
     table: TableChoice<'_>,
-    list: &ListWords,
+    list: &ListWords<'_>,
     helping: &Processes,
     sink: &mut S,
 ) -> Result<(), WriteFault>
@@ -141,7 +179,7 @@ fn plain_helped_to<S: Sink>(
     tree_bytes: &[u8],
     script_bytes: &[u8],
     table: TableChoice<'_>,
-    list: &ListWords,
+    list: &ListWords<'_>,
     helping: &Processes,
     sink: &mut S,
 ) -> Result<(), WriteFault>
@@ -167,12 +205,12 @@ fn unhelped_to<S: Sink>(
     tree_bytes: &[u8],
     script_bytes: &[u8],
     table: TableChoice<'_>,
-    list: &ListWords,
+    list: &ListWords<'_>,
     sink: &mut S,
 ) -> Result<(), WriteFault>
     ensures text { (answer : Result (List ℕ) ToolFault)
-        × IsListWith list.now.images list.now.span list.now.columns list.now.whose
-        (choice_of table.entry) tree_bytes.now script_bytes.now answer
+        × IsListWith list.now.images list.now.span list.now.columns (given_bytes list.now.below)
+        list.now.whose (choice_of table.entry) tree_bytes.now script_bytes.now answer
         × AnswersTo S.written S.failed answer result sink.old sink.new }
 {
     if list.images {
@@ -187,7 +225,7 @@ fn with_images_to<S: Sink>(
     tree_bytes: &[u8],
     script_bytes: &[u8],
     table: TableChoice<'_>,
-    list: &ListWords,
+    list: &ListWords<'_>,
     sink: &mut S,
 ) -> Result<(), WriteFault>
     ensures { AnswersTo S.written S.failed
@@ -210,12 +248,12 @@ fn alone_to<S: Sink>(
     tree_bytes: &[u8],
     script_bytes: &[u8],
     table: TableChoice<'_>,
-    list: &ListWords,
+    list: &ListWords<'_>,
     sink: &mut S,
 ) -> Result<(), WriteFault>
     ensures text { (answer : Result (List ℕ) ToolFault)
-        × IsListBy list.now.span list.now.columns list.now.whose (choice_of table.entry)
-        tree_bytes.now script_bytes.now answer
+        × IsListBy list.now.span list.now.columns (given_bytes list.now.below) list.now.whose
+        (choice_of table.entry) tree_bytes.now script_bytes.now answer
         × AnswersTo S.written S.failed answer result sink.old sink.new }
 {
     let (tree, script, whose) = (tree_bytes, script_bytes, &list.whose);
@@ -225,7 +263,9 @@ fn alone_to<S: Sink>(
         (Time::Now, Columns::How) => Err(NoText(ToolFault::NowHow)),
         (Time::Ever, Columns::Plain) => lasting_to(alloc, tree, script, table, whose, sink),
         (Time::Ever, Columns::Why) => reasons_to(alloc, tree, script, table, whose, sink),
-        (Time::Ever, Columns::How) => ways_to(alloc, tree, script, table, whose, sink),
+        (Time::Ever, Columns::How) => {
+            ways_to(alloc, tree, script, table, list.below, whose, sink)
+        }
     }
 }
 
@@ -271,22 +311,25 @@ fn reasons_to<S: Sink>(
     }
 }
 
-/// Writes the list for ever of one process with the number of steps of ways.
+/// Writes the list for ever of one process with the number of steps of ways, or its lines at or
+/// below a path.
 fn ways_to<S: Sink>(
     alloc: Global,
     tree_bytes: &[u8],
     script_bytes: &[u8],
     table: TableChoice<'_>,
+    path: Option<&[u8]>,
     whose: &Processes,
     sink: &mut S,
 ) -> Result<(), WriteFault>
     ensures text { (answer : Result (List ℕ) ToolFault)
-        × IsWaysText (choice_of table.entry) tree_bytes.now script_bytes.now whose.now answer
+        × IsWaysText (choice_of table.entry) tree_bytes.now script_bytes.now
+        (given_bytes path.entry) whose.now answer
         × AnswersTo S.written S.failed answer result sink.old sink.new }
 {
     match whose {
         Processes::One(number) => {
-            ever_how_to(alloc, tree_bytes, script_bytes, table, *number, sink)
+            ever_how_to(alloc, tree_bytes, script_bytes, table, *number, path, sink)
         }
         Processes::Named(_) | Processes::All => Err(NoText(ToolFault::SeveralHow)),
     }

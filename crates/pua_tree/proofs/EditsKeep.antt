@@ -8,7 +8,8 @@ use Rattle.pua_tree.proofs.Common.{without_row, without_unnamed, with_row_moved}
 use Rattle.std.proofs.Common.{ne_eqb}
 use Rattle.std.specs.FinMap.{find as find_key}
 use Rattle.std.proofs.lemmas.Bool.{or_parts, not-false}
-use Rattle.pua_tree.specs.Tree.{node_at, climb}
+use Rattle.pua_tree.specs.Tree.{node_at, climb, mount_fits, mark_fits}
+use Rattle.pua_tree.proofs.Mounts.{mark_from}
 use Rattle.pua_tree.specs.Tree.{has_no_row, rows_of}
 use Rattle.pua_tree.specs.Edits.{without_node, with_new, add, tie, cut, cut_found, shift}
 use Rattle.pua_tree.specs.Edits.{shift_found, is_full_dir, is_inside, is_same_node, is_full_dir_there, has_room}
@@ -133,8 +134,8 @@ module _ (t : Tree) (f : Sound t) (dir : ℕ) (name : List ℕ) (node : Node) (f
           above_dir t f d h n,
         ))
 
-    pub add_keeps : is_name name ≡ true → target_fits node.kind node.target ≡ true → Sound grown
-    add_keeps is_one fits = record {
+    pub add_keeps : is_name name ≡ true → target_fits node.kind node.target ≡ true → mount_fits node ≡ true → Sound grown
+    add_keeps is_one fits mounts = record {
       rows_sorted = is_sorted-put spot_cmp spots_total (dir, name) t.next t.rows f.rows_sorted;
       nodes_sorted = is_sorted-put nat_cmp nat_cmp_total t.next node t.nodes f.nodes_sorted;
       root = old_dir 0 f.root;
@@ -150,6 +151,11 @@ module _ (t : Tree) (f : Sound t) (dir : ℕ) (name : List ℕ) (node : Node) (f
         | inl new ↦ (let made : node ≡ n = same_Some node n (sym new_at ∙ ap (node_at grown) (sym new) ∙ e) in
             (omega arith, subst (λ m. target_fits m.kind m.target ≡ true) made fits))
         | inr old ↦ (let says = f.node x n (sym (old_at x old) ∙ e) in (omega arith, says.1))
+      ];
+      marks = λ x n e. elim (same_number_or_other x t.next) [
+        | inl new ↦ (let made : node ≡ n = same_Some node n (sym new_at ∙ ap (node_at grown) (sym new) ∙ e) in
+            mark_from x n (subst (λ m. mount_fits m ≡ true) made mounts) (λ root. next_not_root t f (sym new ∙ root)))
+        | inr old ↦ f.marks x n (sym (old_at x old) ∙ e)
       ];
       unnamed_root = old_rows 0 (λ e. next_not_root t f (sym e)) ∙ f.unnamed_root;
       named = λ x living n. elim (same_number_or_other x t.next) [
@@ -216,6 +222,7 @@ module _ (t : Tree) (f : Sound t) (dir : ℕ) (name : List ℕ) (x : ℕ) (free 
       | inr there ↦ f.row s y (sym (stays_row s there) ∙ e)
     ];
     node = f.node;
+    marks = f.marks;
     unnamed_root = as_before 0 (not_tied 0 f.root) ∙ f.unnamed_root;
     named = λ y lives n. (let rows = tied_rows y in let some = f.named y lives n in omega arith);
     once = λ d h n. as_before d (not_tied d h) ∙ f.once d h n;
@@ -229,6 +236,7 @@ record Loose (t : Tree) (y : ℕ) : Type 0 where
   root : is_dir t 0 ≡ true
   row : (s : Spot) (x : ℕ) → InRow t s x → row_fits t (s, x) ≡ true
   node : (x : ℕ) (n : Node) → node_at t x ≡ Some n → (x < t.next) × (target_fits n.kind n.target ≡ true)
+  marks : (x : ℕ) (n : Node) → node_at t x ≡ Some n → mark_fits (x, n) ≡ true
   unnamed_root : rows_with t 0 ≡ 0
   named : (x : ℕ) → is_living t x ≡ true → x ≢ 0 → x ≢ y → 1 ≤ rows_with t x
   once : (d : ℕ) → is_dir t d ≡ true → d ≢ 0 → d ≢ y → rows_with t d ≡ 1
@@ -244,6 +252,7 @@ sound_where_named t y l some = record {
   root = l.root;
   row = l.row;
   node = l.node;
+  marks = l.marks;
   unnamed_root = l.unnamed_root;
   named = λ x living n. elim (same_number_or_other x y) [
     | inl e ↦ subst (λ z. 1 ≤ rows_with t z) (sym e) (some (ap (is_living t) (sym e) ∙ living))
@@ -304,6 +313,7 @@ module _ (t : Tree) (y : ℕ) (l : Loose t y) (none : rows_with t y ≡ 0) where
         omega arith) in
         row_made thinned s x (still_dir s.0 (l.alone s x e) says.0) says.1 (ap is_some (left_at x other) ∙ says.2) says.3);
     node = λ x n e. l.node x n (left_node x n e).1;
+    marks = λ x n e. l.marks x n (left_node x n e).1;
     unnamed_root = l.unnamed_root;
     named = λ x living n. (let old = left_living x living in l.named x old.1 n old.0);
     once = λ d h n. (let old = left_dir d h in l.once d old.1 n old.0);
@@ -377,6 +387,7 @@ module _ (t : Tree) (f : Sound t) (dir : ℕ) (name : List ℕ) (x : ℕ) (found
           root = f.root;
           row = λ s z e. f.row s z (cleared_row s z e);
           node = f.node;
+          marks = f.marks;
           unnamed_root = other_rows 0 (λ e. says.3 (sym e)) ∙ f.unnamed_root;
           named = λ z living n other. subst (λ r. 1 ≤ r) (sym (other_rows z other)) (f.named z living n);
           once = λ d h n other. other_rows d other ∙ f.once d h n;
@@ -507,6 +518,7 @@ module _ (t : Tree) (f : Sound t) (from : ℕ) (name : List ℕ) (to : ℕ) (new
       | inr other ↦ f.row s z (shifted_row s z other e)
     ];
     node = f.node;
+    marks = f.marks;
     unnamed_root = same_rows 0 (λ e. not_root (sym e)) ∙ f.unnamed_root;
     named = λ z living n other. subst (λ r. 1 ≤ r) (sym (same_rows z other)) (f.named z living n);
     once = λ d h n other. same_rows d other ∙ f.once d h n;
@@ -548,9 +560,9 @@ abbrev Kept : Tree → Tree → Type 0
 Kept t after = WellFormed after × (t.next ≤ after.next)
 
 adding : (t after : Tree) (dir x : ℕ) (name : List ℕ) (node : Node) → WellFormed t → is_name name ≡ true →
-    target_fits node.kind node.target ≡ true
+    target_fits node.kind node.target ≡ true → mount_fits node ≡ true
     → add t dir name node ≡ Ok (x, after) → Kept t after
-adding t after dir x name node w is_one fits e =
+adding t after dir x name node w is_one fits mounts e =
     let f = sound_from t w in
     let a = past (not (is_dir t dir)) NotDir _ (x, after) e in
     let b = past (is_some (look t dir name)) Taken _ (x, after) a.1 in
@@ -558,7 +570,7 @@ adding t after dir x name node w is_one fits e =
     let is : grown ≡ after = ap (λ (p : ℕ × Tree). p.1) (tested (has_room t) Full (t.next, grown) (x, after) b.1).1 in
     subst (Kept t) is (
       well_formed_from grown (add_keeps t f dir name node (none (look t dir name) b.0) (not-false (is_dir t dir) a.0)
-          is_one fits),
+          is_one fits mounts),
       omega arith,
     )
 

@@ -32,7 +32,7 @@ passes t e f = by e.made f.enters
         let room = tested (has_name_room t) Full _ _ free.1 in
         rw (not-false _ in_dir.0, number, small, free.0, room.0, not-false _ lives.0, other.0) refl
     by (Some made) added =
-        let in_dir = past (not (is_dir t e.parent)) NotDir _ _ added.2 in
+        let in_dir = past (not (is_dir t e.parent)) NotDir _ _ added.3 in
         let free = past (is_some (look t e.parent e.name)) Taken _ _ in_dir.1 in
         let room = and_parts (has_name_room t) _ (tested (has_name_room t && ltb e.number 4294967295) Full _ _ free.1).0 in
         rw (not-false _ in_dir.0, number, small, free.0, room.0, eq-eqb e.node e.number added.0) refl
@@ -70,4 +70,4 @@ follows_from t dir name stands named h =
         let living : is_living t stands.node ≡ true = other.0 in
         let no_dir : is_dir t stands.node ≡ false = not-true _ other.1 in
         rw (in_dir, living, no_dir, free, few) refl
-    enters small in_dir free few (Some made) h = (eqb-true stands.node stands.number h, made.fits, rw (in_dir, free, few, small) refl)
+    enters small in_dir free few (Some made) h = (eqb-true stands.node stands.number h, made.fits, made.mounts, rw (in_dir, free, few, small) refl)

@@ -17,6 +17,8 @@ pub use Rattle.pua_tree.proofs.Sound.{Sound, Reaches, InRow, sound_from, row_say
 pub use Rattle.pua_tree.proofs.Tallies.{only_key}
 -- what each edit leaves is a tree, and a directory lives
 pub use Rattle.pua_tree.proofs.EditsKeep.{edits_keep_trees, is_living_dir}
+-- no edit takes a directory off its device
+pub use Rattle.pua_tree.proofs.DevicesKeep.{edits_keep_devices}
 -- what is found at a key, also after another one was put or taken away, tests of all entries or of some, and how often a value is found
 pub use Rattle.pua_tree.proofs.Tallies.{same_or_other, put_here, put_elsewhere, without_here, without_elsewhere, all_found, none_found}
 pub use Rattle.pua_tree.proofs.Tallies.{all_from_found, tally_counts, tally_found}

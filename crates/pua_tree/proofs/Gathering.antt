@@ -1,7 +1,7 @@
 -- What a reader has gathered of a listing, looked up and added to.
 use Rattle.pua_tree.specs.declared.form.Form.{Form}
 use Rattle.pua_tree.specs.Listing.{most_lines_of}
-use Rattle.pua_tree.proofs.Common.{◌≡◌, ◌<◌, ◌≤◌, ℕ, Bool, List, [], ◌∷◌, ◌++◌, Ok, Err, true, false, is_some, ltb, refl, sym, ap, subst}
+use Rattle.pua_tree.proofs.Common.{◌≡◌, ◌<◌, ◌≤◌, ℕ, List, [], ◌∷◌, ◌++◌, Ok, Err, true, false, is_some, ltb, refl, sym, ap, subst}
 use Rattle.pua_tree.proofs.Common.{◌∙◌, ◌+◌, length, false≢true, le-ltb, lt-ltb, Tree, look, is_taken, Gathers, Follows, tree_with}
 use Rattle.pua_tree.specs.Listing as listing
 use Rattle.pua_tree.specs.Listing.{entry_of, entry_or_fault}

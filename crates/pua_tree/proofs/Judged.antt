@@ -3,7 +3,7 @@ use Rattle.pua_tree.specs.declared.form.Form.{Form}
 use Rattle.pua_tree.proofs.Common.{◌≡◌, ℕ, not, ◌&&◌, List, [], Option, Some, None, Ok, Err, ltb, refl, ap, ◌∙◌, is_target, name_of}
 use Rattle.pua_tree.proofs.Common.{number_within, bytes_spelled, Node, Tree, is_dir, is_living, ListingLine, only_if, number_in, parent_in}
 use Rattle.pua_tree.proofs.Common.{hard_node_in, node_of, listing_line, entry_of, is_earlier_dir, is_earlier_other, Gathers}
-use Rattle.pua_tree.proofs.Common.{Kind, Link, ListingFault}
+use Rattle.pua_tree.proofs.Common.{Kind, Link, ListingFault, is_dir_kind}
 use Rattle.std.proofs.Common.{IsTrue}
 use Rattle.pua_tree.specs.Listing as listing
 use Rattle.pua_tree.specs.Listing.{entry_or_fault}
@@ -74,5 +74,5 @@ whole_entry form es n text line number parent name node made l m p q k = rw (l, 
 -- a link's target that was read
 pub link_target : (es : List listing.Entry) (n number : ℕ) (line : ListingLine) (kind : Kind) (target : List ℕ) → kind ≡ Link →
     bytes_spelled line.last ≡ Some target → IsTrue (is_target target)
-    → node_of es n number line (Some kind) ≡ Ok (number, Some (record { kind = kind; target = Some target }))
+    → node_of es n number line (Some kind) ≡ Ok (number, Some (record { kind = kind; target = Some target; mount = is_dir_kind (Some kind) && line.mount }))
 link_target es n number line kind target k u t = rw (k, u, t) refl

@@ -5,7 +5,7 @@ use Rattle.pua_tree.proofs.Common.{listing_line, line_of_fields, Kind}
 use Rattle.std.specs.Borrow.{Bor}
 use Rattle.pua_tree.specs.Fields.{first_fields}
 use Rattle.pua_tree.specs.declared.form.Form.{Form}
-use Rattle.pua_tree.specs.Listing.{knows_hard, knows_types, plain_kind, long_kind}
+use Rattle.pua_tree.specs.Listing.{knows_hard, knows_types, is_mount_word, plain_kind, long_kind}
 
 -- a line with six fields or more is none
 line_of_fields-take : (form : Form) (all : List (List ℕ)) → line_of_fields form all ≡ line_of_fields form (take 6 all)
@@ -30,7 +30,14 @@ line_of-first_fields form text kept e = by_test form (list_all is_field (fields 
 -- the line of four fields, where they lie in the text
 abbrev pub plain_line : List (Bor (List ℕ)) → Bor (List ℕ) → Kind → ListingLine
 plain_line s d kind =
-    record { number = (get_or s 0 d).now; kind = Some kind; parent = (get_or s 2 d).now; name = (get_or s 3 d).now; last = [] }
+    record {
+      number = (get_or s 0 d).now;
+      kind = Some kind;
+      mount = is_mount_word (get_or s 1 d).now;
+      parent = (get_or s 2 d).now;
+      name = (get_or s 3 d).now;
+      last = [];
+    }
 
 pub line_of_fields-four : (form : Form) (s : List (Bor (List ℕ))) (d : Bor (List ℕ)) → length s ≡ 4
     → line_of_fields form (map (λ f. f.now) s) ≡ option_map (plain_line s d) (plain_kind (knows_types form) (get_or s 1 d).now)
@@ -57,6 +64,7 @@ abbrev pub long_line : List (Bor (List ℕ)) → Bor (List ℕ) → Option Kind 
 long_line s d kind = record {
   number = (get_or s 0 d).now;
   kind = kind;
+  mount = false;
   parent = (get_or s 2 d).now;
   name = (get_or s 3 d).now;
   last = (get_or s 4 d).now;

@@ -19,9 +19,13 @@ use Rattle.std.proofs.lemmas.Bool.{eq-eqb, eqb-true}
 use Rattle.pua_tree.specs.Names.{has_short_components}
 use Rattle.pua_tree.specs.Spelling.{spelling}
 use Rattle.pua_tree.specs.Steps.{◌>>=◌}
-use Rattle.pua_tree.specs.Listing.{file_by, plain_kind, long_kind, typed_kind}
+use Rattle.pua_tree.specs.Listing.{file_by, is_mount_word, plain_kind, long_kind, typed_kind}
 use Rattle.pua_tree.specs.Listing.{target_in}
 use Rattle.pua_tree.specs.Listing.{entries_of, header, after_header, listing_of_lines}
+use Rattle.std.specs.Prelude.{if◌then◌else◌}
+use Rattle.pua_tree.proofs.Common.{is_dir_kind}
+use Rattle.std.proofs.Math.Bool.{and-false}
+use Rattle.pua_tree.specs.Grammar.{mount_known, is_mount_made, dir_word}
 use Rattle.pua_tree.specs.Grammar.{kind_known, file_word, listing_kind_word, line_word, target_field, last_field, entry_text, target_stands}
 use Rattle.pua_tree.specs.Grammar.{header_text, ListingsAreRead, SecondFormsAgree, ThirdFormsAgree, ListingsListTrees, SpellingsAreRead}
 use Rattle.pua_tree.specs.declared.fault.ListingFault.TheVariants.{BadHeader, BadLine, BadNumber, BadParent, BadName, BadTarget, Taken}
@@ -44,20 +48,25 @@ last_text (Some Prog) last = []
 last_text (Some (Known type)) last = []
 
 abbrev line_text : Form → ListingLine → List ℕ
-line_text form l = l.number ++ 32 ∷ (line_word form l.kind ++ 32 ∷ (l.parent ++ 32 ∷ (l.name ++ last_text l.kind l.last)))
+line_text form l = l.number ++ 32 ∷ (line_word form l.mount l.kind ++ 32 ∷ (l.parent ++ 32 ∷ (l.name ++ last_text l.kind l.last)))
 
 regrouped : (a b c d t : List ℕ) → a ++ 32 ∷ b ++ 32 ∷ c ++ 32 ∷ d ++ t ≡ a ++ 32 ∷ (b ++ 32 ∷ (c ++ 32 ∷ (d ++ t)))
 regrouped a b c d t = append_assoc (a ++ 32 ∷ b ++ 32 ∷ c) (32 ∷ d) t ∙ append_assoc (a ++ 32 ∷ b) (32 ∷ c) (32 ∷ (d ++ t)) ∙
     append_assoc a (32 ∷ b) (32 ∷ (c ++ 32 ∷ (d ++ t)))
 
+-- a mount is known where types are
+abbrev mark_known : Form → Bool → Bool
+mark_known form mount = if mount then knows_types form else true
+
 -- a word names one kind, whose word it is, and which the form knows
 abbrev IsPlain : Form → List ℕ → Kind → Type 0
-IsPlain form word kind = (word ≡ listing_kind_word form kind) × IsTrue (kind_known form kind) × ((last : List ℕ) → last_text (Some kind) last ≡ [])
+IsPlain form word kind = (word ≡ listing_kind_word form (is_mount_word word) kind) × IsTrue (kind_known form kind)
+    × ((last : List ℕ) → last_text (Some kind) last ≡ []) × IsTrue (mark_known form (is_mount_word word))
 
 file_read : (form : Form) (word : List ℕ) → word ≡ codes "file" → IsPlain form word (file_by (knows_types form))
-file_read First word e = (e, refl, λ last. refl)
-file_read Second word e = (e, refl, λ last. refl)
-file_read Third word e = (e, refl, λ last. refl)
+file_read First word e = (e, refl, λ last. refl, ap (λ w. mark_known First (is_mount_word w)) e)
+file_read Second word e = (e, refl, λ last. refl, ap (λ w. mark_known Second (is_mount_word w)) e)
+file_read Third word e = (e, refl, λ last. refl, ap (λ w. mark_known Third (is_mount_word w)) e)
 
 plain_kind_read : (form : Form) (word : List ℕ) (kind : Kind) → plain_kind (knows_types form) word ≡ Some kind → IsPlain form word kind
 plain_kind_read form word kind e =
@@ -66,37 +75,58 @@ plain_kind_read form word kind e =
     is : (k : Kind) → IsPlain form word k → Some k ≡ Some kind → IsPlain form word kind
     is k p q = subst (IsPlain form word) (same_Some k kind q) p
 
-    typed : (a b c d : Bool) → same_bytes word (codes "any") ≡ a → same_bytes word (codes "sock") ≡ b → same_bytes word (codes "fifo") ≡ c
-        → same_bytes word (codes "dev") ≡ d → form ≡ Third
-        → cond a (Some File) (cond b (Some (Known Sock)) (cond c (Some (Known Fifo)) (cond d (Some (Known Dev)) None))) ≡ Some kind
-        → IsPlain form word kind
-    typed true b c d p q r s third e = is File (same_word word _ p ∙ ap file_word (sym third), refl, λ last. refl) e
-    typed false true c d p q r s third e = is (Known Sock) (same_word word _ q, ap knows_types third, λ last. refl) e
-    typed false false true d p q r s third e = is (Known Fifo) (same_word word _ r, ap knows_types third, λ last. refl) e
-    typed false false false true p q r s third e = is (Known Dev) (same_word word _ s, ap knows_types third, λ last. refl) e
-    typed false false false false p q r s third e = absurd (None≢Some kind e)
+    no_mount : (other : List ℕ) → word ≡ other → is_mount_word other ≡ false → IsTrue (mark_known form (is_mount_word word))
+    no_mount other e none = ap (mark_known form) (ap is_mount_word e ∙ none)
+
+    typed : (a b c d f : Bool) → same_bytes word (codes "any") ≡ a → same_bytes word (codes "sock") ≡ b
+        → same_bytes word (codes "fifo") ≡ c → same_bytes word (codes "dev") ≡ d → is_mount_word word ≡ f → form ≡ Third
+        → cond a (Some File) (cond b (Some (Known Sock)) (cond c (Some (Known Fifo)) (cond d (Some (Known Dev)) (cond f (Some Dir) None))))
+        ≡ Some kind → IsPlain form word kind
+    typed true b c d f p q r s m third e =
+        let any = same_word word _ p in
+        is File (any ∙ ap file_word (sym third), refl, λ last. refl, no_mount (codes "any") any refl) e
+    typed false true c d f p q r s m third e =
+        let sock = same_word word _ q in
+        is (Known Sock) (sock, ap knows_types third, λ last. refl, no_mount (codes "sock") sock refl) e
+    typed false false true d f p q r s m third e =
+        let fifo = same_word word _ r in
+        is (Known Fifo) (fifo, ap knows_types third, λ last. refl, no_mount (codes "fifo") fifo refl) e
+    typed false false false true f p q r s m third e =
+        let dev = same_word word _ s in
+        is (Known Dev) (dev, ap knows_types third, λ last. refl, no_mount (codes "dev") dev refl) e
+    typed false false false false true p q r s m third e =
+        let mount = same_word word _ m in
+        is Dir (mount ∙ ap dir_word (sym m), refl, λ last. refl, ap (mark_known form) m ∙ ap knows_types third) e
+    typed false false false false false p q r s m third e = absurd (None≢Some kind e)
 
     other : (f : Form) → form ≡ f → cond (knows_types f) (typed_kind word) None ≡ Some kind → IsPlain form word kind
     other First is e = absurd (None≢Some kind e)
     other Second is e = absurd (None≢Some kind e)
     other Third is e = typed (same_bytes word (codes "any")) (same_bytes word (codes "sock")) (same_bytes word (codes "fifo"))
-        (same_bytes word (codes "dev")) refl refl refl refl is e
+        (same_bytes word (codes "dev")) (is_mount_word word) refl refl refl refl refl is e
 
     dir : (a b c : Bool) → same_bytes word (codes "dir") ≡ a → same_bytes word (codes "file") ≡ b → same_bytes word (codes "prog") ≡ c
         → cond a (Some Dir) (cond b (Some (file_by (knows_types form))) (cond c (Some Prog) (cond (knows_types form) (typed_kind word) None)))
         ≡ Some kind → IsPlain form word kind
-    dir true b c p q r e = is Dir (same_word word _ p, refl, λ last. refl) e
+    dir true b c p q r e =
+        let plain = same_word word _ p in
+        is Dir (plain ∙ ap dir_word (sym (ap is_mount_word plain)), refl, λ last. refl, no_mount (codes "dir") plain refl) e
     dir false true c p q r e = is (file_by (knows_types form)) (file_read form word (same_word word _ q)) e
-    dir false false true p q r e = is Prog (same_word word _ r, refl, λ last. refl) e
+    dir false false true p q r e =
+        let prog = same_word word _ r in
+        is Prog (prog, refl, λ last. refl, no_mount (codes "prog") prog refl) e
     dir false false false p q r e = other form refl e
 
--- a line's kind is known in the form, and is none where hard links are known
-abbrev IsKnown : Form → Option Kind → Type 0
-IsKnown form None = IsTrue (knows_hard form)
-IsKnown form (Some kind) = IsTrue (kind_known form kind)
+-- a line's kind is known in the form, and is none where hard links are known; and so is a mount
+abbrev KindKnown : Form → Option Kind → Type 0
+KindKnown form None = IsTrue (knows_hard form)
+KindKnown form (Some kind) = IsTrue (kind_known form kind)
+
+abbrev IsKnown : Form → Bool → Option Kind → Type 0
+IsKnown form mount kind = KindKnown form kind × IsTrue (mark_known form mount)
 
 abbrev IsLong : Form → List ℕ → Option Kind → Type 0
-IsLong form word kind = (word ≡ line_word form kind) × IsKnown form kind × ((last : List ℕ) → last_text kind last ≡ 32 ∷ last)
+IsLong form word kind = (word ≡ line_word form false kind) × KindKnown form kind × ((last : List ℕ) → last_text kind last ≡ 32 ∷ last)
 
 long_kind_read : (form : Form) (word : List ℕ) (kind : Option Kind) → long_kind (knows_hard form) word ≡ Some kind → IsLong form word kind
 long_kind_read form word kind e = link (same_bytes word (codes "link")) (knows_hard form && same_bytes word (codes "hard")) refl refl e
@@ -112,26 +142,29 @@ long_kind_read form word kind e = link (same_bytes word (codes "link")) (knows_h
     link false false p q e = absurd (None≢Some kind e)
 
 fields_read : (form : Form) (fs : List (List ℕ)) (l : ListingLine) → line_of_fields form fs ≡ Some l →
-    (join_with_byte 32 fs ≡ line_text form l) × IsKnown form l.kind
+    (join_with_byte 32 fs ≡ line_text form l) × IsKnown form l.mount l.kind
 fields_read form [] l e = absurd (None≢Some l e)
 fields_read form (a ∷ []) l e = absurd (None≢Some l e)
 fields_read form (a ∷ b ∷ []) l e = absurd (None≢Some l e)
 fields_read form (a ∷ b ∷ c ∷ []) l e = absurd (None≢Some l e)
 fields_read form (a ∷ b ∷ c ∷ d ∷ []) l e =
-    let kind = mapped (λ kind. record { number = a; kind = Some kind; parent = c; name = d; last = [] }) (plain_kind (knows_types form) b) l e in
+    let kind = mapped (λ kind. record { number = a; kind = Some kind; mount = is_mount_word b; parent = c; name = d; last = [] })
+    (plain_kind (knows_types form) b) l e in
     let word = plain_kind_read form b kind.0 kind.1 in
     let text = (λ i. a ++ 32 ∷ (word.0 i ++ 32 ∷ (c ++ 32 ∷ (sym (append-nil d) i)))) ∙
-    ap (λ t. a ++ 32 ∷ (listing_kind_word form kind.0 ++ 32 ∷ (c ++ 32 ∷ (d ++ t)))) (sym (word.2 [])) in
-    (text ∙ ap (line_text form) kind.2, subst (λ (x : ListingLine). IsKnown form x.kind) kind.2 word.1)
+    ap (λ t. a ++ 32 ∷ (listing_kind_word form (is_mount_word b) kind.0 ++ 32 ∷ (c ++ 32 ∷ (d ++ t)))) (sym (word.2 [])) in
+    (text ∙ ap (line_text form) kind.2, subst (λ (x : ListingLine). IsKnown form x.mount x.kind) kind.2 (word.1, word.3))
 fields_read form (a ∷ b ∷ c ∷ d ∷ last ∷ []) l e =
-    let kind = mapped (λ kind. record { number = a; kind = kind; parent = c; name = d; last = last }) (long_kind (knows_hard form) b) l e in
+    let kind = mapped (λ kind. record { number = a; kind = kind; mount = false; parent = c; name = d; last = last })
+    (long_kind (knows_hard form) b) l e in
     let word = long_kind_read form b kind.0 kind.1 in
     let text = ap (λ w. a ++ 32 ∷ (w ++ 32 ∷ (c ++ 32 ∷ (d ++ 32 ∷ last)))) word.0 ∙
-    ap (λ t. a ++ 32 ∷ (line_word form kind.0 ++ 32 ∷ (c ++ 32 ∷ (d ++ t)))) (sym (word.2 last)) in
-    (text ∙ ap (line_text form) kind.2, subst (λ (x : ListingLine). IsKnown form x.kind) kind.2 word.1)
+    ap (λ t. a ++ 32 ∷ (line_word form false kind.0 ++ 32 ∷ (c ++ 32 ∷ (d ++ t)))) (sym (word.2 last)) in
+    (text ∙ ap (line_text form) kind.2, subst (λ (x : ListingLine). IsKnown form x.mount x.kind) kind.2 (word.1, refl))
 fields_read form (a ∷ b ∷ c ∷ d ∷ f ∷ g ∷ more) l e = absurd (None≢Some l e)
 
-line_read : (form : Form) (text : List ℕ) (l : ListingLine) → listing_line form text ≡ Some l → (text ≡ line_text form l) × IsKnown form l.kind
+line_read : (form : Form) (text : List ℕ) (l : ListingLine) → listing_line form text ≡ Some l →
+    (text ≡ line_text form l) × IsKnown form l.mount l.kind
 line_read form text l e =
     let read = fields_read form (fields text) l (go (list_all is_field (fields text)) e) in
     (sym (fields_joined text) ∙ read.0, read.1)
@@ -146,28 +179,38 @@ module _ (form : Form) (earlier : List Entry) (n number parent : ℕ) (name : Li
   entry p = record { number = number; parent = parent; name = name; node = p.0; made = p.1 }
 
   abbrev Told : Option Kind → ℕ × Option Node → Type 0
-  Told kind p = (option_map (λ m. m.kind) p.1 ≡ kind) × IsTrue (made_fits form earlier (entry p) p.1) ×
-      (last_text kind l.last ≡ last_field p.0 p.1)
+  Told kind p = (line_word form (is_mount_made p.1) (option_map (λ m. m.kind) p.1) ≡ line_word form l.mount kind)
+      × IsTrue (made_fits form earlier (entry p) p.1) × (last_text kind l.last ≡ last_field p.0 p.1)
 
-  node_read : (kind : Option Kind) (p : ℕ × Option Node) → IsKnown form kind → node_of earlier n number l kind ≡ Ok p → Told kind p
+  mark_made : (b : Bool) → IsTrue (mark_known form b) → IsTrue (if b then knows_types form && true else true)
+  mark_made false known = refl
+  mark_made true known = and_from (knows_types form) true known refl
+
+  node_read : (kind : Option Kind) (p : ℕ × Option Node) → IsKnown form l.mount kind → node_of earlier n number l kind ≡ Ok p → Told kind p
   node_read None p known e =
       let read = step_read (ok_or (hard_node_in earlier l) (BadNode n)) (λ x. Ok (x, None)) p e in
       let node = only_if_read (is_earlier_other earlier) (number_within 1 999999 l.last) read.0
       (ok_or_read (hard_node_in earlier l) (BadNode n) read.0 read.1) in
       let spelled = number_read 1 999999 l.last read.0 (omega arith) node.0 in
-      subst (Told None) (same_Ok (read.0, None) p read.2) (refl, and_from (knows_hard form) _ known node.1, ap (λ s. 32 ∷ s) spelled.0)
-  node_read (Some Dir) p known e = subst (Told (Some Dir)) (same_Ok _ p e) (refl, and_from _ _ (eq-eqb number number refl) refl, refl)
+      subst (Told None) (same_Ok (read.0, None) p read.2) (refl, and_from (knows_hard form) _ known.0 node.1, ap (λ s. 32 ∷ s) spelled.0)
+  node_read (Some Dir) p known e = subst (Told (Some Dir)) (same_Ok _ p e) (
+    refl,
+    and_from _ _ (eq-eqb number number refl) (mark_made l.mount known.1),
+    refl,
+  )
   node_read (Some File) p known e = subst (Told (Some File)) (same_Ok _ p e) (refl, and_from _ _ (eq-eqb number number refl) refl, refl)
   node_read (Some Prog) p known e = subst (Told (Some Prog)) (same_Ok _ p e) (refl, and_from _ _ (eq-eqb number number refl) refl, refl)
   node_read (Some (Known type)) p known e =
-      subst (Told (Some (Known type))) (same_Ok _ p e) (refl, and_from _ _ (eq-eqb number number refl) (and_from _ _ known refl), refl)
+      subst (Told (Some (Known type))) (same_Ok _ p e) (refl, and_from _ _ (eq-eqb number number refl) (and_from _ _ known.0 refl), refl)
   node_read (Some Link) p known e =
-      let read = step_read (ok_or (target_in l) (BadTarget n)) (λ target. Ok (number, Some (record { kind = Link; target = Some target })))
-      p e in
+      let read = step_read (ok_or (target_in l) (BadTarget n)) (λ target. Ok (
+        number,
+        Some (record { kind = Link; target = Some target; mount = false }),
+      )) p e in
       let target = only_if_read is_target (bytes_spelled l.last) read.0 (ok_or_read (target_in l) (BadTarget n) read.0 read.1) in
       subst (Told (Some Link)) (same_Ok _ p read.2) (
         refl,
-        and_from _ _ (eq-eqb number number refl) (and_from _ _ target.1 (bytes_unspelled l.last read.0 target.0)),
+        and_from _ _ (eq-eqb number number refl) (and_from _ true (and_from _ _ target.1 (bytes_unspelled l.last read.0 target.0)) refl),
         ap (λ s. 32 ∷ s) (spelling-unspelled l.last read.0 target.0),
       )
 
@@ -194,8 +237,8 @@ parts_read form earlier n text l number parent name p e place line_is number_is 
     let same : entry ≡ e = same_Ok entry e (passed (ltb (most_lines_of form) n) (TooMany n) _ e rest) in
     subst (λ x. (text ≡ entry_text form x) × Fits form earlier x) same (
       line.0
-          ∙ (λ i. b.0 i ++ 32 ∷ (line_word form (sym g.0 i) ++ 32 ∷ (d.0 i ++ 32 ∷ (f.0 i ++ g.2 i))))
-          ∙ sym (regrouped (decimal number) (line_word form (option_map (λ m. m.kind) p.1)) (decimal parent) (spelling name)
+          ∙ (λ i. b.0 i ++ 32 ∷ (sym g.0 i ++ 32 ∷ (d.0 i ++ 32 ∷ (f.0 i ++ g.2 i))))
+          ∙ sym (regrouped (decimal number) (line_word form (is_mount_made p.1) (option_map (λ m. m.kind) p.1)) (decimal parent) (spelling name)
           (last_field p.0 p.1)),
       record {
         above = ltb-true _ _ a.1;
@@ -245,26 +288,40 @@ from_fields form text fs l e h g = ap (λ (xs : List (List ℕ)). cond (list_all
 plain_line : (form : Form) (a w c d : List ℕ) (kind : Kind) → IsTrue (is_field a) → IsTrue (is_field c) → IsTrue (is_field d) →
     IsTrue (is_field w) → plain_kind (knows_types form) w ≡ Some kind
     → listing_line form (a ++ 32 ∷ (w ++ 32 ∷ (c ++ 32 ∷ (d ++ []))))
-    ≡ Some (record { number = a; kind = Some kind; parent = c; name = d; last = [] })
+    ≡ Some (record { number = a; kind = Some kind; mount = is_mount_word w; parent = c; name = d; last = [] })
 plain_line form a w c d kind p q r s e =
     from_fields form (a ++ 32 ∷ (w ++ 32 ∷ (c ++ 32 ∷ (d ++ [])))) (a ∷ w ∷ c ∷ d ∷ [])
-    (record { number = a; kind = Some kind; parent = c; name = d; last = [] })
+    (record { number = a; kind = Some kind; mount = is_mount_word w; parent = c; name = d; last = [] })
     (four_fields a w c (d ++ []) p s q ∙ ap (λ l. a ∷ w ∷ c ∷ l) (ap fields (append-nil d) ∙ fields_one d (visible d r)))
     (and_from (is_field a) _ p (and_from (is_field w) _ s (and_from (is_field c) _ q (and_from (is_field d) _ r refl))))
-    (ap (λ (o : Option Kind). option_map (λ k. record { number = a; kind = Some k; parent = c; name = d; last = [] }) o) e)
+    (ap (λ (o : Option Kind). option_map (λ k. record {
+      number = a;
+      kind = Some k;
+      mount = is_mount_word w;
+      parent = c;
+      name = d;
+      last = [];
+    }) o) e)
 
 long_line : (form : Form) (a w c d f : List ℕ) (kind : Option Kind) → IsTrue (is_field a) → IsTrue (is_field c) → IsTrue (is_field d) →
     IsTrue (is_field f) → IsTrue (is_field w) → long_kind (knows_hard form) w ≡ Some kind
     → listing_line form (a ++ 32 ∷ (w ++ 32 ∷ (c ++ 32 ∷ (d ++ 32 ∷ f))))
-    ≡ Some (record { number = a; kind = kind; parent = c; name = d; last = f })
+    ≡ Some (record { number = a; kind = kind; mount = false; parent = c; name = d; last = f })
 long_line form a w c d f kind p q r s t e =
     from_fields form (a ++ 32 ∷ (w ++ 32 ∷ (c ++ 32 ∷ (d ++ 32 ∷ f)))) (a ∷ w ∷ c ∷ d ∷ f ∷ [])
-    (record { number = a; kind = kind; parent = c; name = d; last = f })
+    (record { number = a; kind = kind; mount = false; parent = c; name = d; last = f })
     (four_fields a w c (d ++ 32 ∷ f) p t q ∙ ap (λ l. a ∷ w ∷ c ∷ l) (fields_cons d f (visible d r) ∙
     ap (λ l. d ∷ l) (fields_one f (visible f s))))
     (and_from (is_field a) _ p
     (and_from (is_field w) _ t (and_from (is_field c) _ q (and_from (is_field d) _ r (and_from (is_field f) _ s refl)))))
-    (ap (λ (o : Option (Option Kind)). option_map (λ k. record { number = a; kind = k; parent = c; name = d; last = f }) o) e)
+    (ap (λ (o : Option (Option Kind)). option_map (λ k. record {
+      number = a;
+      kind = k;
+      mount = false;
+      parent = c;
+      name = d;
+      last = f;
+    }) o) e)
 
 target_parts : (target : List ℕ) → IsTrue (is_target target && list_all is_byte target) →
     (0 < length target) × IsTrue (is_target target) × IsTrue (list_all is_byte target)
@@ -277,71 +334,115 @@ target_parts target h =
     )
 
 -- the word of a kind that the form knows is read as that kind
-word_written : (form : Form) (kind : Kind) → IsTrue (kind_known form kind) → IsTrue (target_stands kind None) →
-    IsTrue (is_field (listing_kind_word form kind)) × (plain_kind (knows_types form) (listing_kind_word form kind) ≡ Some kind)
-word_written form Dir known h = (refl, refl)
-word_written form Prog known h = (refl, refl)
-word_written form Link known h = absurd (true≢false (sym h))
-word_written First File known h = (refl, refl)
-word_written Second File known h = (refl, refl)
-word_written Third File known h = (refl, refl)
-word_written First (Known type) known h = absurd (true≢false (sym known))
-word_written Second (Known type) known h = absurd (true≢false (sym known))
-word_written Third (Known Plain) known h = (refl, refl)
-word_written Third (Known Sock) known h = (refl, refl)
-word_written Third (Known Fifo) known h = (refl, refl)
-word_written Third (Known Dev) known h = (refl, refl)
+abbrev WordWritten : Form → Bool → Kind → Type 0
+WordWritten form mount kind = IsTrue (is_field (listing_kind_word form mount kind))
+    × (plain_kind (knows_types form) (listing_kind_word form mount kind) ≡ Some kind)
+    × (is_mount_word (listing_kind_word form mount kind) ≡ mount)
+
+-- a mount that is known
+abbrev made_mount : Form → Bool → Kind → Bool
+made_mount form mount kind = if mount then knows_types form && is_dir_kind (Some kind) else true
+
+word_written : (form : Form) (mount : Bool) (kind : Kind) → IsTrue (kind_known form kind) → IsTrue (target_stands kind None) →
+    IsTrue (made_mount form mount kind) → WordWritten form mount kind
+word_written form false Dir known h m = (refl, refl, refl)
+word_written First true Dir known h m = absurd (true≢false (sym m))
+word_written Second true Dir known h m = absurd (true≢false (sym m))
+word_written Third true Dir known h m = (refl, refl, refl)
+word_written form false Prog known h m = (refl, refl, refl)
+word_written form mount Link known h m = absurd (true≢false (sym h))
+word_written First false File known h m = (refl, refl, refl)
+word_written Second false File known h m = (refl, refl, refl)
+word_written Third false File known h m = (refl, refl, refl)
+word_written First false (Known type) known h m = absurd (true≢false (sym known))
+word_written Second false (Known type) known h m = absurd (true≢false (sym known))
+word_written Third false (Known Plain) known h m = (refl, refl, refl)
+word_written Third false (Known Sock) known h m = (refl, refl, refl)
+word_written Third false (Known Fifo) known h m = (refl, refl, refl)
+word_written Third false (Known Dev) known h m = (refl, refl, refl)
+word_written form true Prog known h m = absurd (true≢false (sym (and_parts (knows_types form) false m).1))
+word_written form true File known h m = absurd (true≢false (sym (and_parts (knows_types form) false m).1))
+word_written form true (Known type) known h m = absurd (true≢false (sym (and_parts (knows_types form) false m).1))
+
+no_mount_link : (form : Form) (mount : Bool) → IsTrue (made_mount form mount Link) → mount ≡ false
+no_mount_link form false m = refl
+no_mount_link form true m = absurd (true≢false (sym (and_parts (knows_types form) false m).1))
 
 -- an entry's line is that of its fields
-line_made : (form : Form) (a c d : List ℕ) (node : ℕ) (kind : Kind) (target : Option (List ℕ)) → IsTrue (is_field a) → IsTrue (is_field c) →
-    IsTrue (is_field d) → IsTrue (kind_known form kind) → IsTrue (target_stands kind target)
-    → listing_line form (a ++ 32 ∷ (listing_kind_word form kind ++ 32 ∷ (c ++ 32 ∷ (d ++ target_field target))))
+line_made : (form : Form) (a c d : List ℕ) (node : ℕ) (kind : Kind) (target : Option (List ℕ)) (mount : Bool) → IsTrue (is_field a) →
+    IsTrue (is_field c) → IsTrue (is_field d) → IsTrue (kind_known form kind) → IsTrue (target_stands kind target) →
+    IsTrue (made_mount form mount kind)
+    → listing_line form (a ++ 32 ∷ (listing_kind_word form mount kind ++ 32 ∷ (c ++ 32 ∷ (d ++ target_field target))))
     ≡ Some (record {
       number = a;
       kind = Some kind;
+      mount = mount;
       parent = c;
       name = d;
-      last = spelled_last node (Some (record { kind = kind; target = target }));
+      last = spelled_last node (Some (record { kind = kind; target = target; mount = mount }));
     })
-line_made form a c d node kind None p q r known h =
-    let word = word_written form kind known h in
-    plain_line form a (listing_kind_word form kind) c d kind p q r word.0 word.1
-line_made form a c d node Dir (Some t) p q r known h = absurd (true≢false (sym h))
-line_made form a c d node File (Some t) p q r known h = absurd (true≢false (sym h))
-line_made form a c d node Prog (Some t) p q r known h = absurd (true≢false (sym h))
-line_made form a c d node (Known type) (Some t) p q r known h = absurd (true≢false (sym h))
-line_made form a c d node Link (Some t) p q r known h = let parts = target_parts t h in
-    long_line form a (listing_kind_word form Link) c d (spelling t) (Some Link) p q r (is_field-spelling t parts.0 parts.2) refl refl
+line_made form a c d node kind None mount p q r known h m =
+    let word = word_written form mount kind known h m in
+    plain_line form a (listing_kind_word form mount kind) c d kind p q r word.0 word.1
+    ∙ ap (λ marked. Some (record { number = a; kind = Some kind; mount = marked; parent = c; name = d; last = [] })) word.2
+line_made form a c d node Dir (Some t) mount p q r known h m = absurd (true≢false (sym h))
+line_made form a c d node File (Some t) mount p q r known h m = absurd (true≢false (sym h))
+line_made form a c d node Prog (Some t) mount p q r known h m = absurd (true≢false (sym h))
+line_made form a c d node (Known type) (Some t) mount p q r known h m = absurd (true≢false (sym h))
+line_made form a c d node Link (Some t) mount p q r known h m =
+    let parts = target_parts t h in
+    long_line form a (codes "link") c d (spelling t) (Some Link) p q r (is_field-spelling t parts.0 parts.2) refl refl
+    ∙ ap (λ marked. Some (record { number = a; kind = Some Link; mount = marked; parent = c; name = d; last = spelling t }))
+    (sym (no_mount_link form mount m))
 
 line_tied : (form : Form) (a c d : List ℕ) (node : ℕ) → IsTrue (knows_hard form) → IsTrue (is_field a) → IsTrue (is_field c) →
     IsTrue (is_field d) → IsTrue (is_field (decimal node))
     → listing_line form (a ++ 32 ∷ (codes "hard" ++ 32 ∷ (c ++ 32 ∷ (d ++ 32 ∷ decimal node))))
-    ≡ Some (record { number = a; kind = None; parent = c; name = d; last = decimal node })
+    ≡ Some (record { number = a; kind = None; mount = false; parent = c; name = d; last = decimal node })
 line_tied form a c d node known p q r s =
     long_line form a (codes "hard") c d (decimal node) None p q r s refl (ap (λ b. long_kind b (codes "hard")) known)
 
 -- what it makes is read from its last field
-node_made : (earlier : List Entry) (n number node : ℕ) (l : ListingLine) (kind : Kind) (target : Option (List ℕ)) →
-    l.last ≡ spelled_last node (Some (record { kind = kind; target = target })) → node ≡ number → IsTrue (target_stands kind target)
-    → node_of earlier n number l (Some kind) ≡ Ok (node, Some (record { kind = kind; target = target }))
-node_made earlier n number node l Dir None e own h = ap (λ x. Ok (x, Some (record { kind = Dir; target = None }))) (sym own)
-node_made earlier n number node l File None e own h = ap (λ x. Ok (x, Some (record { kind = File; target = None }))) (sym own)
-node_made earlier n number node l Prog None e own h = ap (λ x. Ok (x, Some (record { kind = Prog; target = None }))) (sym own)
-node_made earlier n number node l (Known type) None e own h = ap (λ x. Ok (x, Some (record { kind = Known type; target = None }))) (sym own)
-node_made earlier n number node l Link None e own h = absurd (true≢false (sym h))
-node_made earlier n number node l Dir (Some t) e own h = absurd (true≢false (sym h))
-node_made earlier n number node l File (Some t) e own h = absurd (true≢false (sym h))
-node_made earlier n number node l Prog (Some t) e own h = absurd (true≢false (sym h))
-node_made earlier n number node l (Known type) (Some t) e own h = absurd (true≢false (sym h))
-node_made earlier n number node l Link (Some t) e own h =
-    let parts = target_parts t h in
-    step_from (ok_or (target_in l) (BadTarget n)) (λ target. Ok (number, Some (record { kind = Link; target = Some target }))) t (
-      node,
-      Some (record { kind = Link; target = Some t }),
-    )
-    (ap (λ o. ok_or (only_if is_target o) (BadTarget n)) (ap bytes_spelled e ∙ unspelled-spelling t parts.2) ∙
-    ap (λ o. ok_or o (BadTarget n)) (cond-true (is_target t) (Some t) None parts.1))
-    (ap (λ x. Ok (x, Some (record { kind = Link; target = Some t }))) (sym own))
+node_made : (form : Form) (earlier : List Entry) (n number node : ℕ) (l : ListingLine) (kind : Kind) (target : Option (List ℕ)) →
+    l.last ≡ spelled_last node (Some (record { kind = kind; target = target; mount = l.mount })) → node ≡ number →
+    IsTrue (target_stands kind target) → IsTrue (made_mount form l.mount kind)
+    → node_of earlier n number l (Some kind) ≡ Ok (node, Some (record { kind = kind; target = target; mount = l.mount }))
+node_made form earlier n number node l kind target e own h m = by kind target e h (no_mount kind m)
+  where
+    no_mount : (k : Kind) → IsTrue (made_mount form l.mount k) → (is_dir_kind (Some k) && l.mount) ≡ l.mount
+    no_mount k known = at l.mount known
+      where
+        at : (b : Bool) → IsTrue (made_mount form b k) → (is_dir_kind (Some k) && b) ≡ b
+        at true known = and_from _ true (and_parts (knows_types form) _ known).1 refl
+        at false known = and-false (is_dir_kind (Some k))
+
+    made : (k : Kind) → (is_dir_kind (Some k) && l.mount) ≡ l.mount → ◌≡◌ {A = Result (ℕ × Option Node) ListingFault} (Ok (
+      number,
+      Some (record { kind = k; target = None; mount = is_dir_kind (Some k) && l.mount }),
+    )) (Ok (node, Some (record { kind = k; target = None; mount = l.mount })))
+    made k marked = λ i. Ok (sym own i, Some (record { kind = k; target = None; mount = marked i }))
+
+    by : (k : Kind) (o : Option (List ℕ)) → l.last ≡ spelled_last node (Some (record { kind = k; target = o; mount = l.mount })) →
+        IsTrue (target_stands k o) → (is_dir_kind (Some k) && l.mount) ≡ l.mount
+        → node_of earlier n number l (Some k) ≡ Ok (node, Some (record { kind = k; target = o; mount = l.mount }))
+    by Dir None e h marked = made Dir marked
+    by File None e h marked = made File marked
+    by Prog None e h marked = made Prog marked
+    by (Known type) None e h marked = made (Known type) marked
+    by Link None e h marked = absurd (true≢false (sym h))
+    by Dir (Some t) e h marked = absurd (true≢false (sym h))
+    by File (Some t) e h marked = absurd (true≢false (sym h))
+    by Prog (Some t) e h marked = absurd (true≢false (sym h))
+    by (Known type) (Some t) e h marked = absurd (true≢false (sym h))
+    by Link (Some t) e h marked =
+        let parts = target_parts t h in
+        step_from (ok_or (target_in l) (BadTarget n)) (λ target. Ok (
+          number,
+          Some (record { kind = Link; target = Some target; mount = false }),
+        )) t (node, Some (record { kind = Link; target = Some t; mount = l.mount }))
+        (ap (λ o. ok_or (only_if is_target o) (BadTarget n)) (ap bytes_spelled e ∙ unspelled-spelling t parts.2) ∙
+        ap (λ o. ok_or o (BadTarget n)) (cond-true (is_target t) (Some t) None parts.1))
+        (λ i. Ok (sym own i, Some (record { kind = Link; target = Some t; mount = marked i })))
 
 node_tied : (earlier : List Entry) (n number node : ℕ) (l : ListingLine) → l.last ≡ decimal node → IsTrue (is_earlier_other earlier node) →
     1 ≤ node → node ≤ 999999 → node_of earlier n number l None ≡ Ok (node, None)
@@ -363,6 +464,7 @@ abbrev line_by : Entry → Option Node → ListingLine
 line_by e m = record {
   number = decimal e.number;
   kind = option_map (λ made. made.kind) m;
+  mount = is_mount_made m;
   parent = decimal e.parent;
   name = spelling e.name;
   last = spelled_last e.node m;
@@ -373,8 +475,8 @@ line_for e = line_by e e.made
 
 abbrev Written : Form → List Entry → ℕ → Entry → Option Node → Type 0
 Written form earlier n e m =
-    (listing_line form (decimal e.number ++ 32 ∷ line_word form (option_map (λ made. made.kind) m) ++ 32 ∷ decimal e.parent ++ 32
-    ∷ spelling e.name ++ last_field e.node m) ≡ Some (line_by e m))
+    (listing_line form (decimal e.number ++ 32 ∷ line_word form (is_mount_made m) (option_map (λ made. made.kind) m) ++ 32
+    ∷ decimal e.parent ++ 32 ∷ spelling e.name ++ last_field e.node m) ≡ Some (line_by e m))
     × (node_of earlier n e.number (line_by e m) (option_map (λ made. made.kind) m) ≡ Ok (e.node, m))
 
 last_written : (form : Form) (earlier : List Entry) (n : ℕ) (e : Entry) → IsTrue (entries_fit form [] earlier) → Fits form earlier e
@@ -395,13 +497,16 @@ last_written form earlier n e h f p q r = by e.made refl
           node_tied earlier n e.number e.node (line_by e None) refl fits.1 (omega (arith, between.0)) (omega (arith, between.1, f.small)),
         )
     by (Some made) is =
-        let fits = and_parts _ (kind_known form made.kind && target_stands made.kind made.target)
+        let fits = and_parts _ (kind_known form made.kind && (target_stands made.kind made.target && mount_known form made))
         (subst (λ m. IsTrue (made_fits form earlier e m)) is f.made) in
-        let stands = and_parts (kind_known form made.kind) _ fits.1 in (
-          ap (listing_line form) (regrouped (decimal e.number) (listing_kind_word form made.kind) (decimal e.parent) (spelling e.name)
+        let known = and_parts (kind_known form made.kind) _ fits.1 in
+        let stands = and_parts (target_stands made.kind made.target) _ known.1 in (
+          ap (listing_line form) (regrouped (decimal e.number) (listing_kind_word form made.mount made.kind) (decimal e.parent) (spelling e.name)
               (target_field made.target))
-              ∙ line_made form (decimal e.number) (decimal e.parent) (spelling e.name) e.node made.kind made.target p q r stands.0 stands.1,
-          node_made earlier n e.number e.node (line_by e (Some made)) made.kind made.target refl (eqb-true e.node e.number fits.0) stands.1,
+              ∙ line_made form (decimal e.number) (decimal e.parent) (spelling e.name) e.node made.kind made.target made.mount p q r known.0
+              stands.0 stands.1,
+          node_made form earlier n e.number e.node (line_by e (Some made)) made.kind made.target refl (eqb-true e.node e.number fits.0)
+              stands.0 stands.1,
         )
 
 -- an entry that fits is read from its line
@@ -528,7 +633,8 @@ made_more earlier e None h = absurd (true≢false (sym h))
 made_more earlier e (Some made) h =
     let parts = and_parts _ _ h in
     let known = and_parts (kind_known First made.kind) _ parts.1 in
-    and_from _ _ parts.0 (and_from _ _ (by made.kind known.0) known.1)
+    let stands = and_parts (target_stands made.kind made.target) _ known.1 in
+    and_from _ _ parts.0 (and_from _ _ (by made.kind known.0) (and_from _ _ stands.0 (ap (marked made.kind) (unmarked made.mount stands.1))))
   where
     by : (kind : Kind) → IsTrue (kind_known First kind) → IsTrue (kind_known Second kind)
     by Dir h = refl
@@ -536,6 +642,13 @@ made_more earlier e (Some made) h =
     by Prog h = refl
     by Link h = refl
     by (Known type) h = h
+
+    marked : Kind → Bool → Bool
+    marked kind mount = made_mount Second mount kind
+
+    unmarked : (mount : Bool) → IsTrue (made_mount First mount made.kind) → mount ≡ false
+    unmarked false h = refl
+    unmarked true h = absurd (true≢false (sym h))
 
 fit_more : (earlier es : List Entry) → IsTrue (entries_fit First earlier es) → IsTrue (entries_fit Second earlier es)
 fit_more earlier [] h = refl
@@ -555,21 +668,21 @@ fit_more earlier (e ∷ es) h =
     }))
     (fit_more (earlier ++ e ∷ []) es parts.1)
 
-same_kind_word : (kind : Kind) → listing_kind_word First kind ≡ listing_kind_word Second kind
-same_kind_word Dir = refl
-same_kind_word File = refl
-same_kind_word Prog = refl
-same_kind_word Link = refl
-same_kind_word (Known type) = refl
+same_kind_word : (mount : Bool) (kind : Kind) → listing_kind_word First mount kind ≡ listing_kind_word Second mount kind
+same_kind_word mount Dir = refl
+same_kind_word mount File = refl
+same_kind_word mount Prog = refl
+same_kind_word mount Link = refl
+same_kind_word mount (Known type) = refl
 
-same_line_word : (kind : Option Kind) → line_word First kind ≡ line_word Second kind
-same_line_word None = refl
-same_line_word (Some kind) = same_kind_word kind
+same_line_word : (mount : Bool) (kind : Option Kind) → line_word First mount kind ≡ line_word Second mount kind
+same_line_word mount None = refl
+same_line_word mount (Some kind) = same_kind_word mount kind
 
 same_texts : (es : List Entry) → map (entry_text First) es ≡ map (entry_text Second) es
 same_texts [] = refl
 same_texts (e ∷ es) = λ i.
-    (decimal e.number ++ 32 ∷ same_line_word (option_map (λ made. made.kind) e.made) i ++ 32 ∷ decimal e.parent ++ 32 ∷ spelling e.name
+    (decimal e.number ++ 32 ∷ same_line_word (is_mount_made e.made) (option_map (λ made. made.kind) e.made) i ++ 32 ∷ decimal e.parent ++ 32 ∷ spelling e.name
     ++ last_field e.node e.made) ∷ same_texts es i
 
 pub second_forms_agree : SecondFormsAgree
@@ -591,7 +704,12 @@ made_wide : (earlier : List Entry) (e : Entry) (m : Option Node) → IsTrue (mad
 made_wide earlier e None h = h
 made_wide earlier e (Some made) h =
     let parts = and_parts _ _ h in
-    and_from _ _ parts.0 (and_from _ _ (known_there made.kind) (and_parts (kind_known Second made.kind) _ parts.1).1)
+    let stands = and_parts (target_stands made.kind made.target) _ (and_parts (kind_known Second made.kind) _ parts.1).1 in
+    and_from _ _ parts.0 (and_from _ _ (known_there made.kind) (and_from _ _ stands.0 (marked made.mount stands.1)))
+  where
+    marked : (mount : Bool) → IsTrue (made_mount Second mount made.kind) → IsTrue (made_mount Third mount made.kind)
+    marked false h = refl
+    marked true h = absurd (true≢false (sym h))
 
 fit_wide : (earlier es : List Entry) → IsTrue (entries_fit Second earlier es) → IsTrue (entries_fit Third earlier es)
 fit_wide earlier [] h = refl

@@ -9,7 +9,8 @@ use Rattle.pua_tree.proofs.Common.{is_dir, is_living, look, target_fits, Entry, 
 use Rattle.pua_tree.proofs.Common.{Enters, Kind, Dir, File, Prog, Link, Known}
 use Rattle.std.proofs.lemmas.Bool.{eqb-true}
 use Rattle.pua_tree.specs.Listing.{rows_of_entries}
-use Rattle.pua_tree.specs.Grammar.{kind_known, target_stands}
+use Rattle.pua_tree.specs.Grammar.{kind_known, target_stands, mount_known}
+use Rattle.pua_tree.proofs.Mounts.{mount_kept}
 use Rattle.pua_tree.proofs.Raised.{grown_keeps}
 use Rattle.pua_tree.proofs.Entries.{Fits, fits_parts, entries_rise, entries_push, earlier_dir_is_found, earlier_other_is_found}
 use Rattle.pua_tree.proofs.Entries.{taken_is_found, rows_few, tree_push}
@@ -60,12 +61,17 @@ fit_follows form es e h f = record {
         let no_dir : is_dir (tree_of form es) e.node ≡ false = not-true _ other.1 in
         rw (in_dir, living, no_dir, free, few) refl
     enters (Some node) made =
-        let parts = and_parts _ (kind_known form node.kind && target_stands node.kind node.target) made in
+        let parts = and_parts _ (kind_known form node.kind && (target_stands node.kind node.target && mount_known form node)) made in
         let stands = and_parts (kind_known form node.kind) _ parts.1 in
-        (eqb-true e.node e.number parts.0, target_kept node.kind node.target stands.1, rw (in_dir, free, few, small) refl)
+        let kept = and_parts (target_stands node.kind node.target) _ stands.1 in (
+          eqb-true e.node e.number parts.0,
+          target_kept node.kind node.target kept.0,
+          mount_kept form node kept.1,
+          rw (in_dir, free, few, small) refl,
+        )
 
 root_is_tree : (form : Form) → WellFormed (tree_of form [])
-root_is_tree form = record { rows_in_order = refl; nodes_in_order = refl; root = refl; rows_fit = refl; nodes_fit = refl }
+root_is_tree form = record { rows_in_order = refl; nodes_in_order = refl; root = refl; rows_fit = refl; nodes_fit = refl; marks_fit = refl }
 
 still_tree : (form : Form) (earlier es : List Entry) → IsTrue (entries_fit form [] earlier) → WellFormed (tree_of form earlier) →
     IsTrue (entries_fit form earlier es) → WellFormed (tree_of form (earlier ++ es))

@@ -18,6 +18,7 @@ raised_keeps t next w le =
       root = f.root;
       row = f.row;
       node = λ x n e. (let fits = f.node x n e in (omega (arith, fits.0, le), fits.1));
+      marks = f.marks;
       unnamed_root = f.unnamed_root;
       named = f.named;
       once = f.once;
@@ -35,4 +36,4 @@ grown_keeps t e w f = by e.made f.enters
         (raised_keeps t (e.number + 1) w (omega (arith, le))) f.named tied).0
     by (Some made) added =
         (edits_keep_trees.adding (record t { next = e.number }) (grown_by t e (Some made)) e.parent e.number e.name made
-        (raised_keeps t e.number w f.number) f.named added.1 added.2).0
+        (raised_keeps t e.number w f.number) f.named added.1 added.2 added.3).0

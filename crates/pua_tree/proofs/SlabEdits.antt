@@ -246,7 +246,7 @@ put_over spot at x rows h =
 
 -- the root alone is a tree
 pub root_is_tree : (room : ℕ) → WellFormed (root_alone room)
-root_is_tree room = record { rows_in_order = refl; nodes_in_order = refl; root = refl; rows_fit = refl; nodes_fit = refl }
+root_is_tree room = record { rows_in_order = refl; nodes_in_order = refl; root = refl; rows_fit = refl; nodes_fit = refl; marks_fit = refl }
 
 tied_no_dir : (t : Tree) (dir x : ℕ) (name : List ℕ) (after : Tree) → tie t dir name x ≡ Ok after → is_dir t x ≡ false
 tied_no_dir t dir x name after e =

@@ -5,7 +5,7 @@ use Rattle.pua_tree.proofs.Common.{false≢true, sum_by-zero, Tree, WellFormed, 
 use Rattle.pua_tree.proofs.Common.{made_of, held_rows, held_in_slots, AreConsistent, Dir, Slots, SlotNode}
 use Rattle.pua_tree.specs.declared.numbering.Numbering.{Numbering}
 use Rattle.pua_tree.specs.Tree as tree
-use Rattle.pua_tree.specs.Tree.{target_at, spot_of, dir_spot, is_empty, has_no_row}
+use Rattle.pua_tree.specs.Tree.{target_at, spot_of, dir_spot, is_empty, is_mount, has_no_row}
 use Rattle.pua_tree.specs.Tree.{found_at}
 use Rattle.pua_tree.specs.NamedRows.{spot_at}
 use Rattle.pua_tree.specs.Slots.{row_in, standing_of_dir}
@@ -49,6 +49,16 @@ pub kind_known : (s : Slots) (numbering : Numbering) (x : ℕ) → option_map (�
 kind_known s numbering x = fused (node_in s x) ∙ ap (λ (o : Option tree.Node). option_map (λ n. n.kind) o) (sym (nodes_found s x))
   where
     fused : (o : Option SlotNode) → option_map (λ (n : SlotNode). n.kind) o ≡ option_map (λ n. n.kind) (option_map made_of o)
+    fused None = refl
+    fused (Some n) = refl
+
+pub mount_known : (s : Slots) (numbering : Numbering) (x : ℕ) →
+    unwrap_or (option_map (λ (n : SlotNode). n.mount) (node_in s x)) false ≡ is_mount (held_in_slots s numbering) x
+mount_known s numbering x =
+    fused (node_in s x) ∙ ap (λ (o : Option tree.Node). unwrap_or (option_map (λ n. n.mount) o) false) (sym (nodes_found s x))
+  where
+    fused : (o : Option SlotNode) →
+        unwrap_or (option_map (λ (n : SlotNode). n.mount) o) false ≡ unwrap_or (option_map (λ n. n.mount) (option_map made_of o)) false
     fused None = refl
     fused (Some n) = refl
 

@@ -1,7 +1,7 @@
 -- How far the lines of a listing have been read.
 use Rattle.pua_tree.specs.declared.form.Form.{Form}
 use Rattle.pua_tree.specs.Listing.{most_lines_of}
-use Rattle.pua_tree.proofs.Common.{◌≡◌, ◌≢◌, ◌≤◌, ◌+◌, ℕ, suc, Bool, List, [], ◌∷◌, ◌++◌, length, Ok, Err, sym, ap, ◌∙◌, refl, map, arith}
+use Rattle.pua_tree.proofs.Common.{◌≡◌, ◌≢◌, ◌≤◌, ◌+◌, ℕ, suc, List, [], ◌∷◌, ◌++◌, length, Ok, Err, sym, ap, ◌∙◌, refl, map, arith}
 use Rattle.pua_tree.proofs.Common.{Tree, entry_of, tree_of, Gathers, ListingFault}
 use Rattle.std.proofs.Common.{length-append, add-one}
 use Rattle.std.specs.Prelude.{codes}

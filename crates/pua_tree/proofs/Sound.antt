@@ -11,7 +11,7 @@ use Rattle.std.proofs.Common.{le-leb, ltb-true, lt-ltb, find}
 use Rattle.std.specs.FinMap.{find as find_key}
 use Rattle.std.specs.FinMap.Entries.{length_without}
 use Rattle.std.proofs.lemmas.Bool.{or_from, or_left, or_right}
-use Rattle.pua_tree.specs.Tree.{node_at, found_at}
+use Rattle.pua_tree.specs.Tree.{node_at, found_at, mark_fits}
 use Rattle.pua_tree.specs.Tree.{spot_of, dir_spot, parent, rows_of, node_fits, rows_fit_kind}
 use Rattle.pua_tree.proofs.Base.{holds, mapped, None≢Some}
 use Rattle.pua_tree.proofs.Content.{spots_total, exact_spots}
@@ -33,6 +33,7 @@ pub record Sound (t : Tree) : Type 0 where
   pub root : is_dir t 0 ≡ true
   pub row : (s : Spot) (x : ℕ) → find_key spot_cmp s t.rows ≡ Some x → row_fits t (s, x) ≡ true
   pub node : (x : ℕ) (n : Node) → node_at t x ≡ Some n → (x < t.next) × (target_fits n.kind n.target ≡ true)
+  pub marks : (x : ℕ) (n : Node) → node_at t x ≡ Some n → mark_fits (x, n) ≡ true
   pub unnamed_root : rows_with t 0 ≡ 0
   pub named : (x : ℕ) → is_living t x ≡ true → x ≢ 0 → 1 ≤ rows_with t x
   pub once : (d : ℕ) → is_dir t d ≡ true → d ≢ 0 → rows_with t d ≡ 1
@@ -261,6 +262,7 @@ sound_from t w = record {
   root = w.root;
   row = all_found spot_cmp spots_total exact_spots (row_fits t) t.rows w.rows_fit;
   node = λ x n e. (let parts = node_parts t x n (fits x n e) in (parts.0, parts.1));
+  marks = all_found nat_cmp nat_cmp_total nat_cmp-IsAntisymmetric mark_fits t.nodes w.marks_fit;
   unnamed_root = (let n = dir_node (node_at t 0) w.root in tally_counts (λ y. y == 0) t.rows ∙
       eqb-true (rows_of t 0) 0 (rows_fit 0 n.0 n.1));
   named = λ x living z. (let n = living_node (node_at t x) living in
@@ -290,6 +292,7 @@ well_formed_from t f = record {
       (λ x n e. and_from _ _ (lt-ltb x t.next (f.node x n e).0) (and_from _ _ (f.node x n e).1
       (fits_by t f x n.kind (ap is_some e) (λ k. ap (λ o. is_dir_kind (option_map (λ m. m.kind) o)) e ∙
       ap (λ j. is_dir_kind (Some j)) k))));
+  marks_fit = all_from_found nat_cmp nat_cmp_total nat_cmp-IsAntisymmetric mark_fits t.nodes f.nodes_sorted f.marks;
 }
 
 -- bytes that are no name's are found nowhere

@@ -1,8 +1,8 @@
 -- Worked rows on trees and listings.
 use Rattle.pua_tree.specs.declared.form.Form.TheVariants.{First, Second, Third}
-use Rattle.std.specs.Prelude.{◌≡◌, ℕ, List, [], ◌∷◌, ◌++◌, Some, None, Ok, Err, codes, flat_map, refl, take, length, replicate}
+use Rattle.std.specs.Prelude.{◌≡◌, ℕ, true, false, List, [], ◌∷◌, ◌++◌, Some, None, Ok, Err, codes, flat_map, refl, take, length, replicate}
 use Rattle.pua_tree.specs.Limits.{most_wide_names}
-use Rattle.pua_tree.specs.Tree.{Node, Tree, WellFormed, empty_tree, root_alone}
+use Rattle.pua_tree.specs.Tree.{Node, Tree, WellFormed, device, empty_tree, root_alone}
 use Rattle.pua_tree.specs.Edits.{add, tie, cut, shift}
 use Rattle.pua_tree.specs.Spelling.{name_of}
 use Rattle.pua_tree.specs.Listing.{Entry, listing, entry_or_fault}
@@ -24,7 +24,7 @@ example_listing = text_of_lines (codes "tree 1" ∷ codes "0 dir" ∷ codes "1 d
     ∷ codes "4 link 0 t tmp" ∷ codes "5 link 3 up ../etc" ∷ codes "6 link 3 self self" ∷ codes "7 prog 3 sh" ∷ [])
 
 abbrev plain : Node
-plain = record { kind = File; target = None }
+plain = record { kind = File; target = None; mount = false }
 
 abbrev example_entry : Entry
 example_entry = record { number = 1; parent = 0; name = codes "a"; node = 1; made = Some plain }
@@ -35,13 +35,13 @@ example_tree = record empty_tree {
     (3, codes "self"),
     6,
   ) ∷ ((3, codes "sh"), 7) ∷ ((3, codes "up"), 5) ∷ [];
-  nodes = (0, record { kind = Dir; target = None }) ∷ (1, record { kind = Dir; target = None }) ∷ (2, record { kind = File; target = None })
-      ∷ (3, record { kind = Dir; target = None }) ∷ (4, record { kind = Link; target = Some (codes "tmp") }) ∷ (
+  nodes = (0, record { kind = Dir; target = None; mount = false }) ∷ (1, record { kind = Dir; target = None; mount = false }) ∷ (2, record { kind = File; target = None; mount = false })
+      ∷ (3, record { kind = Dir; target = None; mount = false }) ∷ (4, record { kind = Link; target = Some (codes "tmp"); mount = false }) ∷ (
         5,
-        record { kind = Link; target = Some (codes "../etc") },
-      ) ∷ (6, record { kind = Link; target = Some (codes "self") }) ∷ (
+        record { kind = Link; target = Some (codes "../etc"); mount = false },
+      ) ∷ (6, record { kind = Link; target = Some (codes "self"); mount = false }) ∷ (
         7,
-        record { kind = Prog; target = None },
+        record { kind = Prog; target = None; mount = false },
       ) ∷ [];
   next = 8;
 }
@@ -50,7 +50,7 @@ example_tree = record empty_tree {
 abbrev pub tree_of_two_names : Tree
 tree_of_two_names = record empty_tree {
   rows = ((0, codes "a"), 1) ∷ ((0, codes "b"), 2) ∷ ((1, codes "c"), 2) ∷ [];
-  nodes = (0, record { kind = Dir; target = None }) ∷ (1, record { kind = Dir; target = None }) ∷ (2, record { kind = File; target = None })
+  nodes = (0, record { kind = Dir; target = None; mount = false }) ∷ (1, record { kind = Dir; target = None; mount = false }) ∷ (2, record { kind = File; target = None; mount = false })
       ∷ [];
   next = 3;
 }
@@ -59,8 +59,24 @@ tree_of_two_names = record empty_tree {
 abbrev wide_tree : Kind → Tree
 wide_tree kind = record (root_alone most_wide_names) {
   rows = ((0, codes "a"), 1) ∷ [];
-  nodes = (0, record { kind = Dir; target = None }) ∷ (1, record { kind = kind; target = None }) ∷ [];
+  nodes = (0, record { kind = Dir; target = None; mount = false }) ∷ (1, record { kind = kind; target = None; mount = false }) ∷ [];
   next = 2;
+}
+
+-- a directory at which a file system is mounted, and one with another directory in it
+abbrev mounted_tree : Tree
+mounted_tree = record (wide_tree Dir) {
+  nodes = (0, record { kind = Dir; target = None; mount = false }) ∷ (1, record { kind = Dir; target = None; mount = true }) ∷ [];
+}
+
+abbrev deeper_tree : Tree
+deeper_tree = record mounted_tree {
+  rows = ((0, codes "a"), 1) ∷ ((1, codes "b"), 2) ∷ [];
+  nodes = (0, record { kind = Dir; target = None; mount = false }) ∷ (1, record { kind = Dir; target = None; mount = true }) ∷ (
+    2,
+    record { kind = Dir; target = None; mount = false },
+  ) ∷ [];
+  next = 3;
 }
 
 -- what is no listing, by its first fault
@@ -105,6 +121,12 @@ pub record ListingRows : Type 0 where
   pub typed_sock : listing (text_of_lines (codes "tree 3" ∷ codes "0 dir" ∷ codes "1 sock 0 a" ∷ [])) ≡ Ok (wide_tree (Known Sock))
   pub typed_fifo : listing (text_of_lines (codes "tree 3" ∷ codes "0 dir" ∷ codes "1 fifo 0 a" ∷ [])) ≡ Ok (wide_tree (Known Fifo))
   pub typed_dev : listing (text_of_lines (codes "tree 3" ∷ codes "0 dir" ∷ codes "1 dev 0 a" ∷ [])) ≡ Ok (wide_tree (Known Dev))
+  pub mount : listing (text_of_lines (codes "tree 3" ∷ codes "0 dir" ∷ codes "1 mount 0 a" ∷ [])) ≡ Ok mounted_tree
+  pub mount_holds : listing (text_of_lines (codes "tree 3" ∷ codes "0 dir" ∷ codes "1 mount 0 a" ∷ codes "2 dir 1 b" ∷ [])) ≡ Ok deeper_tree
+  pub mount_has_one_name : listing (text_of_lines (codes "tree 3" ∷ codes "0 dir" ∷ codes "1 mount 0 a" ∷ codes "2 hard 0 b 1" ∷ []))
+      ≡ Err (BadNode 4)
+  pub mounted_root : listing (text_of_lines (codes "tree 3" ∷ codes "0 mount" ∷ [])) ≡ Err (BadLine 2)
+  pub untyped_mount : listing (text_of_lines (codes "tree 2" ∷ codes "0 dir" ∷ codes "1 mount 0 a" ∷ [])) ≡ Err (BadLine 3)
   pub untyped_any : listing (text_of_lines (codes "tree 2" ∷ codes "0 dir" ∷ codes "1 any 0 a" ∷ [])) ≡ Err (BadLine 3)
   pub untyped_sock : listing (text_of_lines (codes "tree 2" ∷ codes "0 dir" ∷ codes "1 sock 0 a" ∷ [])) ≡ Err (BadLine 3)
   pub untyped_fifo : listing (text_of_lines (codes "tree 1" ∷ codes "0 dir" ∷ codes "1 fifo 0 a" ∷ [])) ≡ Err (BadLine 3)
@@ -153,6 +175,11 @@ listing_rows = record {
   typed_sock = refl;
   typed_fifo = refl;
   typed_dev = refl;
+  mount = refl;
+  mount_holds = refl;
+  mount_has_one_name = refl;
+  mounted_root = refl;
+  untyped_mount = refl;
   untyped_any = refl;
   untyped_sock = refl;
   untyped_fifo = refl;
@@ -167,6 +194,17 @@ listing_rows = record {
   first_63 = refl;
   bytes = refl;
 }
+
+-- a file system is that of the nearest mount at or above a directory
+pub record DeviceRows : Type 0 where
+  pub of_root : device deeper_tree 0 ≡ 0
+  pub of_mount : device deeper_tree 1 ≡ 1
+  pub below_mount : device deeper_tree 2 ≡ 1
+  pub without_mounts : device example_tree 3 ≡ 0
+  pub of_file : device example_tree 2 ≡ 0
+
+pub device_rows : DeviceRows
+device_rows = record { of_root = refl; of_mount = refl; below_mount = refl; without_mounts = refl; of_file = refl }
 
 -- of two faults of a line the earlier is answered, and of two lines that of the first
 pub record FaultOrderRows : Type 0 where
@@ -239,7 +277,7 @@ abbrev pub ExampleIsTree : Type 0
 ExampleIsTree = WellFormed example_tree
 
 pub example_is_tree : ExampleIsTree
-example_is_tree = record { rows_in_order = refl; nodes_in_order = refl; root = refl; rows_fit = refl; nodes_fit = refl }
+example_is_tree = record { rows_in_order = refl; nodes_in_order = refl; root = refl; rows_fit = refl; nodes_fit = refl; marks_fit = refl }
 
 -- the example tree after its program came to stand where its one file stood
 abbrev pub tree_after_move : Tree
@@ -248,18 +286,18 @@ tree_after_move = record empty_tree {
     (3, codes "self"),
     6,
   ) ∷ ((3, codes "up"), 5) ∷ [];
-  nodes = (0, record { kind = Dir; target = None }) ∷ (1, record { kind = Dir; target = None }) ∷ (3, record { kind = Dir; target = None })
-      ∷ (4, record { kind = Link; target = Some (codes "tmp") }) ∷ (5, record { kind = Link; target = Some (codes "../etc") }) ∷ (
+  nodes = (0, record { kind = Dir; target = None; mount = false }) ∷ (1, record { kind = Dir; target = None; mount = false }) ∷ (3, record { kind = Dir; target = None; mount = false })
+      ∷ (4, record { kind = Link; target = Some (codes "tmp"); mount = false }) ∷ (5, record { kind = Link; target = Some (codes "../etc"); mount = false }) ∷ (
         6,
-        record { kind = Link; target = Some (codes "self") },
-      ) ∷ (7, record { kind = Prog; target = None }) ∷ [];
+        record { kind = Link; target = Some (codes "self"); mount = false },
+      ) ∷ (7, record { kind = Prog; target = None; mount = false }) ∷ [];
   next = 8;
 }
 
 abbrev pub small_tree : Tree
 small_tree = record empty_tree {
   rows = ((0, codes "a"), 1) ∷ ((0, codes "b"), 2) ∷ [];
-  nodes = (0, record { kind = Dir; target = None }) ∷ (1, record { kind = Dir; target = None }) ∷ (2, record { kind = File; target = None })
+  nodes = (0, record { kind = Dir; target = None; mount = false }) ∷ (1, record { kind = Dir; target = None; mount = false }) ∷ (2, record { kind = File; target = None; mount = false })
       ∷ [];
   next = 3;
 }
@@ -268,7 +306,7 @@ small_tree = record empty_tree {
 abbrev pub tree_of_second_name : Tree
 tree_of_second_name = record empty_tree {
   rows = ((0, codes "a"), 1) ∷ ((1, codes "c"), 2) ∷ [];
-  nodes = (0, record { kind = Dir; target = None }) ∷ (1, record { kind = Dir; target = None }) ∷ (2, record { kind = File; target = None })
+  nodes = (0, record { kind = Dir; target = None; mount = false }) ∷ (1, record { kind = Dir; target = None; mount = false }) ∷ (2, record { kind = File; target = None; mount = false })
       ∷ [];
   next = 3;
 }
@@ -279,9 +317,9 @@ pub record EditRows : Type 0 where
     3,
     record empty_tree {
       rows = ((0, codes "a"), 1) ∷ ((0, codes "b"), 2) ∷ ((1, codes "c"), 3) ∷ [];
-      nodes = (0, record { kind = Dir; target = None }) ∷ (1, record { kind = Dir; target = None }) ∷ (
+      nodes = (0, record { kind = Dir; target = None; mount = false }) ∷ (1, record { kind = Dir; target = None; mount = false }) ∷ (
         2,
-        record { kind = File; target = None },
+        record { kind = File; target = None; mount = false },
       ) ∷ (3, plain) ∷ [];
       next = 4;
     },
@@ -301,7 +339,7 @@ pub record EditRows : Type 0 where
     2,
     record empty_tree {
       rows = ((0, codes "a"), 1) ∷ [];
-      nodes = (0, record { kind = Dir; target = None }) ∷ (1, record { kind = Dir; target = None }) ∷ [];
+      nodes = (0, record { kind = Dir; target = None; mount = false }) ∷ (1, record { kind = Dir; target = None; mount = false }) ∷ [];
       next = 3;
     },
   )
@@ -310,7 +348,7 @@ pub record EditRows : Type 0 where
     1,
     record empty_tree {
       rows = ((0, codes "b"), 2) ∷ [];
-      nodes = (0, record { kind = Dir; target = None }) ∷ (2, record { kind = File; target = None }) ∷ [];
+      nodes = (0, record { kind = Dir; target = None; mount = false }) ∷ (2, record { kind = File; target = None; mount = false }) ∷ [];
       next = 3;
     },
   )
@@ -320,7 +358,7 @@ pub record EditRows : Type 0 where
   pub moved : shift example_tree 3 (codes "sh") 1 (codes "passwd") ≡ Ok tree_after_move
   pub onto_empty_dir : shift small_tree 0 (codes "b") 0 (codes "a") ≡ Ok (record empty_tree {
     rows = ((0, codes "a"), 2) ∷ [];
-    nodes = (0, record { kind = Dir; target = None }) ∷ (2, record { kind = File; target = None }) ∷ [];
+    nodes = (0, record { kind = Dir; target = None; mount = false }) ∷ (2, record { kind = File; target = None; mount = false }) ∷ [];
     next = 3;
   })
   pub in_place : shift example_tree 0 (codes "tmp") 0 (codes "tmp") ≡ Ok example_tree

@@ -1,19 +1,19 @@
 -- What a listing is as a text: the lines that spell its entries, each of which fits those before it.
 use Rattle.std.specs.Prelude.{◌≡◌, ℕ, ◌+◌, Bool, true, false, not, ◌&&◌, List, [], ◌∷◌, ◌++◌, map, length, Option, Some}
-use Rattle.std.specs.Prelude.{None, codes, decimal, IsTrue, nat_lt, nat_le, ◌==◌, option_map, Ok, ◌↔◌}
+use Rattle.std.specs.Prelude.{None, codes, decimal, IsTrue, nat_lt, nat_le, ◌==◌, option_map, Ok, ◌↔◌, if◌then◌else◌}
 use Rattle.std.specs.List.{list_all}
 use Rattle.std.specs.Str.Lines.{lines}
 use Rattle.pua_tree.specs.Limits.{highest_listed, most_wide_names}
 use Rattle.pua_tree.specs.Names.{is_name, is_target}
 use Rattle.pua_tree.specs.Spelling.{spelling, bytes_spelled}
 use Rattle.pua_tree.specs.Kinds.{about_kind}
-use Rattle.pua_tree.specs.Tree.{Node, Tree, WellFormed}
+use Rattle.pua_tree.specs.Tree.{Node, Tree, WellFormed, is_dir_kind}
 use Rattle.pua_tree.specs.declared.form.Form.{Form}
 use Rattle.pua_tree.specs.declared.form.Form.TheVariants.{First, Second, Third}
 use Rattle.pua_tree.specs.Listing.{knows_hard, knows_types, most_listed_of}
 use Rattle.pua_tree.specs.Listing.{Entry, last_number, is_earlier_dir, is_earlier_other, is_taken, tree_of, listing, listing_of_lines}
 use Rattle.pua_tree.specs.declared.node.Kind.{Kind}
-use Rattle.pua_tree.specs.declared.node.Kind.TheVariants.{File, Link, Known}
+use Rattle.pua_tree.specs.declared.node.Kind.TheVariants.{Dir, File, Link, Known}
 
 -- the word of a file of which no more is known
 abbrev pub file_word : Form → List ℕ
@@ -21,14 +21,24 @@ file_word First = codes "file"
 file_word Second = codes "file"
 file_word Third = codes "any"
 
-abbrev pub listing_kind_word : Form → Kind → List ℕ
-listing_kind_word form File = file_word form
-listing_kind_word form kind = (about_kind kind).word
+-- of a directory at which a file system is mounted, and of one at which none is
+abbrev pub dir_word : Bool → List ℕ
+dir_word false = codes "dir"
+dir_word true = codes "mount"
 
--- the word of a line: the kind of what it makes, if it makes something
-abbrev pub line_word : Form → Option Kind → List ℕ
-line_word form None = codes "hard"
-line_word form (Some kind) = listing_kind_word form kind
+abbrev pub listing_kind_word : Form → Bool → Kind → List ℕ
+listing_kind_word form mount Dir = dir_word mount
+listing_kind_word form mount File = file_word form
+listing_kind_word form mount kind = (about_kind kind).word
+
+-- the word of a line: the kind of what it makes, if it makes something, and whether a file system is mounted there
+abbrev pub line_word : Form → Bool → Option Kind → List ℕ
+line_word form mount None = codes "hard"
+line_word form mount (Some kind) = listing_kind_word form mount kind
+
+abbrev pub is_mount_made : Option Node → Bool
+is_mount_made None = false
+is_mount_made (Some made) = made.mount
 
 -- a link's target stands in a field of its own, and so does the node of a hard link
 abbrev pub target_field : Option (List ℕ) → List ℕ
@@ -41,7 +51,7 @@ last_field node (Some made) = target_field made.target
 
 -- the line that spells an entry
 abbrev pub entry_text : Form → Entry → List ℕ
-entry_text form e = decimal e.number ++ 32 ∷ line_word form (option_map (λ made. made.kind) e.made) ++ 32 ∷ decimal e.parent ++ 32
+entry_text form e = decimal e.number ++ 32 ∷ line_word form (is_mount_made e.made) (option_map (λ made. made.kind) e.made) ++ 32 ∷ decimal e.parent ++ 32
     ∷ spelling e.name ++ last_field e.node e.made
 
 -- a target stands exactly at links, and its bytes are below 256, as a name's are
@@ -56,11 +66,16 @@ abbrev pub kind_known : Form → Kind → Bool
 kind_known form (Known type) = knows_types form
 kind_known form kind = true
 
+-- a file system is mounted at directories alone, and known to be where types are
+abbrev pub mount_known : Form → Node → Bool
+mount_known form made = if made.mount then knows_types form && is_dir_kind (Some made.kind) else true
+
 -- a line makes the node of its row, under its own number; a hard link, where those are known, has a node of an earlier
 -- line that is no directory
 abbrev pub made_fits : Form → List Entry → Entry → Option Node → Bool
 made_fits form earlier e None = knows_hard form && is_earlier_other earlier e.node
-made_fits form earlier e (Some made) = e.node == e.number && (kind_known form made.kind && target_stands made.kind made.target)
+made_fits form earlier e (Some made) = e.node == e.number && (kind_known form made.kind && (target_stands made.kind made.target
+    && mount_known form made))
 
 -- an entry that may follow the earlier ones: its number is above theirs and at most the highest, its parent is a
 -- directory of theirs, its name is one that the parent hasn't yet, and after the root there is room for its line

@@ -1,5 +1,5 @@
 -- The numbers that bound names, targets, trees and listings.
-use Rattle.std.specs.Prelude.{ℕ, ◌+◌}
+use Rattle.std.specs.Prelude.{ℕ}
 
 -- bytes of a name, and of a component of a path or target
 abbrev pub most_name : ℕ

@@ -7,6 +7,7 @@ abbrev pub line_read : Parts → ListingLine
 line_read parts = record {
   number = parts.number.now;
   kind = parts.kind;
+  mount = parts.mount;
   parent = parts.parent.now;
   name = parts.name.now;
   last = parts.last.now;

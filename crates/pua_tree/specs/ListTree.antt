@@ -9,7 +9,7 @@ abbrev pub row_entry : ListRow → tree.Spot × ℕ
 row_entry row = ((row.dir, row.name), row.node)
 
 abbrev pub made_of_list_node : ListNode → tree.Node
-made_of_list_node node = record { kind = node.kind; target = option_map (λ target. target.items) node.target }
+made_of_list_node node = record { kind = node.kind; target = option_map (λ target. target.items) node.target; mount = node.mount }
 
 abbrev pub node_entry : ListNode → ℕ × tree.Node
 node_entry node = (node.id, made_of_list_node node)

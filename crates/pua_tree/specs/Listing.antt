@@ -54,10 +54,12 @@ pub record Entry : Type 0 where
   pub node : ℕ
   pub made : Option Node
 
--- the fields of a line by what they are for; a `hard` line has no kind, and its last field is a node where a link's is a target
+-- the fields of a line by what they are for; a `hard` line has no kind, and its last field is a node where a link's is a target; a
+-- directory may be one at which a file system is mounted
 pub record ListingLine : Type 0 where
   pub number : List ℕ
   pub kind : Option Kind
+  pub mount : Bool
   pub parent : List ℕ
   pub name : List ℕ
   pub last : List ℕ
@@ -67,13 +69,19 @@ abbrev pub file_by : Bool → Kind
 file_by false = File
 file_by true = Known Plain
 
--- the kinds of the words that there are where types are known: a file of which no more is known, and the other types
+-- the word of a directory at which a file system is mounted
+abbrev pub is_mount_word : List ℕ → Bool
+is_mount_word word = same_bytes word (codes "mount")
+
+-- the kinds of the words that there are where types are known: a file of which no more is known, the other types, and a directory at
+-- which a file system is mounted
 abbrev pub typed_kind : List ℕ → Option Kind
 typed_kind word =
     if same_bytes word (codes "any") then Some File
     else (if same_bytes word (codes "sock") then Some (Known Sock)
     else (if same_bytes word (codes "fifo") then Some (Known Fifo)
-    else (if same_bytes word (codes "dev") then Some (Known Dev) else None)))
+    else (if same_bytes word (codes "dev") then Some (Known Dev)
+    else (if is_mount_word word then Some Dir else None))))
 
 -- without a last field, where types are known or not
 abbrev pub plain_kind : Bool → List ℕ → Option Kind
@@ -92,10 +100,24 @@ long_kind hard word =
 -- four fields for a directory, a file or a program, and five for a link and a hard link
 abbrev pub line_of_fields : Form → List (List ℕ) → Option ListingLine
 line_of_fields form (number ∷ word ∷ parent ∷ name ∷ []) =
-    option_map (λ kind. record { number = number; kind = Some kind; parent = parent; name = name; last = [] })
+    option_map (λ kind. record {
+      number = number;
+      kind = Some kind;
+      mount = is_mount_word word;
+      parent = parent;
+      name = name;
+      last = [];
+    })
     (plain_kind (knows_types form) word)
 line_of_fields form (number ∷ word ∷ parent ∷ name ∷ last ∷ []) =
-    option_map (λ kind. record { number = number; kind = kind; parent = parent; name = name; last = last }) (long_kind (knows_hard form) word)
+    option_map (λ kind. record {
+      number = number;
+      kind = kind;
+      mount = false;
+      parent = parent;
+      name = name;
+      last = last;
+    }) (long_kind (knows_hard form) word)
 line_of_fields form _ = None
 
 abbrev pub listing_line : Form → List ℕ → Option ListingLine
@@ -146,9 +168,12 @@ abbrev pub node_of : List Entry → ℕ → ℕ → ListingLine → Option Kind 
 node_of earlier n number line None = ok_or (hard_node_in earlier line) (BadNode n) >>= λ x. Ok (x, None)
 node_of earlier n number line (Some Link) = ok_or (target_in line) (BadTarget n) >>= λ target. Ok (
   number,
-  Some (record { kind = Link; target = Some target }),
+  Some (record { kind = Link; target = Some target; mount = false }),
 )
-node_of earlier n number line (Some kind) = Ok (number, Some (record { kind = kind; target = None }))
+node_of earlier n number line (Some kind) = Ok (
+  number,
+  Some (record { kind = kind; target = None; mount = is_dir_kind (Some kind) && line.mount }),
+)
 
 abbrev pub is_taken : List Entry → ℕ → List ℕ → Bool
 is_taken earlier parent name = list_any (λ e. e.parent == parent && same_bytes e.name name) earlier
@@ -182,7 +207,7 @@ abbrev pub made_entry : Entry → Option (ℕ × Node)
 made_entry e = option_map (λ made. (e.number, made)) e.made
 
 abbrev pub root_node : Node
-root_node = record { kind = Dir; target = None }
+root_node = record { kind = Dir; target = None; mount = false }
 
 -- what entries list, in a form
 abbrev pub tree_of : Form → List Entry → Tree

@@ -4,7 +4,7 @@ use Rattle.std.specs.Prelude.{IsTrue, option_map}
 use Rattle.pua_tree.specs.Limits.{number_end}
 use Rattle.pua_tree.specs.Names.{is_name}
 use Rattle.pua_tree.specs.Tree as tree
-use Rattle.pua_tree.specs.Tree.{Tree, target_fits, is_dir, is_living, look}
+use Rattle.pua_tree.specs.Tree.{Tree, target_fits, mount_fits, is_dir, is_living, look}
 use Rattle.pua_tree.specs.Edits.{add, tie, with_new, with_row, has_name_room}
 use Rattle.pua_tree.specs.Listing as listing
 use Rattle.pua_tree.specs.Listing.{last_number, tree_of}
@@ -16,7 +16,7 @@ use Rattle.pua_tree.specs.declared.gathered.MadeNode.{MadeNode}
 
 -- a node that a line makes
 abbrev pub said_node : MadeNode → tree.Node
-said_node made = record { kind = made.kind; target = option_map (λ target. target.items) made.target }
+said_node made = record { kind = made.kind; target = option_map (λ target. target.items) made.target; mount = made.mount }
 
 -- the entry of a line whose row stands in this directory under this name
 abbrev pub entry_at : ℕ → List ℕ → LineNode → listing.Entry
@@ -45,7 +45,7 @@ tree_with t e = grown_by t e e.made
 abbrev pub Enters : Tree → listing.Entry → Option tree.Node → Type 0
 Enters t e None = tie (record t { next = e.number + 1 }) e.parent e.name e.node ≡ Ok (grown_by t e None)
 Enters t e (Some made) = (e.node ≡ e.number) × IsTrue (target_fits made.kind made.target)
-    × (add (record t { next = e.number }) e.parent e.name made ≡ Ok (e.number, grown_by t e (Some made)))
+    × IsTrue (mount_fits made) × (add (record t { next = e.number }) e.parent e.name made ≡ Ok (e.number, grown_by t e (Some made)))
 
 -- an entry that a tree may take: its number is no lower than the next one, and its node may be added under that number,
 -- or be given a further name

@@ -20,7 +20,7 @@ use Rattle.pua_tree.specs.declared.slots.Stance.{Stance}
 use Rattle.pua_tree.specs.contracts.node.NodeIdPartialEq.TheImpl.{ghosts as number_ghosts}
 
 abbrev pub made_of : SlotNode → tree.Node
-made_of node = record { kind = node.kind; target = option_map (λ target. target.items) node.target }
+made_of node = record { kind = node.kind; target = option_map (λ target. target.items) node.target; mount = node.mount }
 
 -- what stands in the row at a spot, and the node there
 abbrev pub row_in : Slots → tree.Spot → Option RowNode

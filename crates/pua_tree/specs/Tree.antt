@@ -13,10 +13,11 @@ use Rattle.pua_tree.specs.Names.{is_name, is_target}
 use Rattle.pua_tree.specs.declared.node.Kind.{Kind}
 use Rattle.pua_tree.specs.declared.node.Kind.TheVariants.{Dir, Link}
 
--- what a living node is, and where it leads if it is a link
+-- what a living node is, where it leads if it is a link, and whether another file system is mounted there if it is a directory
 pub record Node : Type 0 where
   pub kind : Kind
   pub target : Option (List ℕ)
+  pub mount : Bool
 
 -- a directory's number and a name in it
 abbrev pub Spot : Type 0
@@ -57,6 +58,10 @@ is_dir t x = is_dir_kind (kind_at t x)
 abbrev pub is_living : Tree → ℕ → Bool
 is_living t x = is_some (node_at t x)
 
+-- another file system is mounted at a directory
+abbrev pub is_mount : Tree → ℕ → Bool
+is_mount t x = unwrap_or (option_map (λ n. n.mount) (node_at t x)) false
+
 -- the node in a row
 abbrev pub look : Tree → ℕ → List ℕ → Option ℕ
 look t dir name = find_key spot_cmp (dir, name) t.rows
@@ -95,6 +100,15 @@ climb t d = climb_within (length t.nodes) t d
 abbrev pub is_within : Tree → ℕ → ℕ → Bool
 is_within t d outer = is_dir t d && list_any (λ e. e == outer) (climb t d)
 
+-- the first of directories at which a file system is mounted; the root's is mounted at the root
+abbrev pub first_mount : Tree → List ℕ → ℕ
+first_mount t [] = 0
+first_mount t (d ∷ ds) = if is_mount t d then d else first_mount t ds
+
+-- the device of what stands in a directory: where its file system is mounted, at the directory itself or above it
+abbrev pub device : Tree → ℕ → ℕ
+device t d = if is_dir t d then first_mount t (climb t d) else 0
+
 -- a living directory in which no row stands
 abbrev pub has_no_row : Tree → ℕ → Bool
 has_no_row t d = not (list_any (λ row. row.0.0 == d) t.rows)
@@ -130,6 +144,13 @@ target_fits Link (Some target) = is_target target
 target_fits Link None = false
 target_fits _ target = is_none target
 
+-- a file system is mounted at directories alone, and the root's own at no other
+abbrev pub mount_fits : Node → Bool
+mount_fits node = if node.mount then is_dir_kind (Some node.kind) else true
+
+abbrev pub mark_fits : (ℕ × Node) → Bool
+mark_fits entry = if entry.1.mount then is_dir_kind (Some entry.1.kind) && not (entry.0 == 0) else true
+
 -- a directory but the root stands in one row, and climbing from it ends at the root
 abbrev pub rows_fit_kind : Tree → ℕ → Kind → Bool
 rows_fit_kind t zero kind = rows_of t 0 == 0
@@ -146,10 +167,11 @@ pub record WellFormed (t : Tree) : Type 0 where
   pub root : IsTrue (is_dir t 0)
   pub rows_fit : IsTrue (list_all (row_fits t) t.rows)
   pub nodes_fit : IsTrue (list_all (node_fits t) t.nodes)
+  pub marks_fit : IsTrue (list_all mark_fits t.nodes)
 
 -- the root alone, with room for so many names
 abbrev pub root_alone : ℕ → Tree
-root_alone room = record { rows = []; nodes = (0, record { kind = Dir; target = None }) ∷ []; next = 1; room = room }
+root_alone room = record { rows = []; nodes = (0, record { kind = Dir; target = None; mount = false }) ∷ []; next = 1; room = room }
 
 abbrev pub empty_tree : Tree
 empty_tree = root_alone most_names

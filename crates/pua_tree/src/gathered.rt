@@ -1,7 +1,8 @@
 //! What a reader of listings fills: a tree that takes one entry after another.
 
 ghost use Rattle.std.specs.Prelude.{◌≡◌, ◌==◌, if◌then◌else◌, IsTrue, option_map, is_some};
-ghost use Rattle.pua_tree.specs.Tree.{target_fits};
+ghost use Rattle.std.specs.Prelude.{Some, true};
+ghost use Rattle.pua_tree.specs.Tree.{target_fits, is_dir_kind};
 
 use crate::fault::OutOfMemory;
 use crate::name::LentName;
@@ -42,12 +43,15 @@ impl LineNode {
     }
 }
 
-/// A node that a line makes, and where it leads if it is a link.
+/// A node that a line makes, where it leads if it is a link, and whether another file system is
+/// mounted there if it is a directory.
 #[derive(Drop)]
 pub(crate) struct MadeNode {
     pub(crate) kind: Kind,
     pub(crate) target: Option<Vec<u8>>,
+    pub(crate) mount: bool,
     pub(crate) ghost fits: { IsTrue (target_fits kind (option_map (λ t. t.items) target)) },
+    pub(crate) ghost mounts: { IsTrue (if mount then is_dir_kind (Some kind) else true) },
 }
 
 /// A tree that begins as the root alone, and takes entries under numbers that rise and may leave

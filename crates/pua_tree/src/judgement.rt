@@ -14,7 +14,7 @@ pub(crate) trait Judged {
     ghost use Rattle.std.specs.Prelude.{◌≡◌, ◌<◌, ◌^◌, length, option_map};
     ghost use Rattle.pua_tree.specs.LentRows.{lent_spot};
     ghost use Rattle.pua_tree.specs.Tree.{Tree, WellFormed, kind_at, look, found_at, dir_spot};
-    ghost use Rattle.pua_tree.specs.Tree.{is_empty};
+    ghost use Rattle.pua_tree.specs.Tree.{is_empty, is_mount};
 
     /// What the tree holds.
     ghost held: { Self → Tree };
@@ -38,6 +38,10 @@ pub(crate) trait Judged {
     /// The spot of a living directory but the root.
     fn dir_spot(&self, dir: NodeId) -> Option<LentSpot<'_>>
         ensures { option_map lent_spot result ≡ dir_spot (held self.now) dir };
+
+    /// Whether another file system is mounted at this node.
+    fn has_mount(&self, id: NodeId) -> bool
+        ensures { result ≡ is_mount (held self.now) id };
 
     /// Whether this is a living directory without rows.
     fn is_bare(&self, dir: NodeId) -> bool
@@ -67,6 +71,7 @@ ghost use Rattle.std.specs.Bool.{OnTrue};
 ghost use Rattle.pua_tree.specs.Limits.{number_end};
 ghost use Rattle.pua_tree.specs.Names.{is_name};
 ghost use Rattle.pua_tree.specs.Tree.{Node, is_dir, kind_at, look, found_at, parent, is_within};
+ghost use Rattle.pua_tree.specs.Tree.{device};
 ghost use Rattle.pua_tree.specs.Edits.{add, tie, cut, shift, is_full_dir, is_full_dir_there};
 ghost use Rattle.pua_tree.specs.Edits.{has_name_room, has_room};
 ghost use Rattle.pua_tree.specs.Reading.{follows, row_follows, node_follows, entry_at};
@@ -379,4 +384,29 @@ pub(crate) fn is_within<T: Judged>(tree: &T, dir: NodeId, outer: NodeId) -> bool
         at = spot.dir;
     }
     at == outer
+}
+
+/// The directory at which the file system of a living directory is mounted: itself, or the nearest
+/// one above it, and else the root.
+pub(crate) fn device<T: Judged>(tree: &T, dir: NodeId) -> NodeId
+    ensures { result ≡ device (T.held tree.now) dir }
+{
+    tree.is_tree();
+    if !is_dir(tree, dir) {
+        return NodeId::ROOT;
+    }
+    let mut at = dir;
+    for _ in 0..tree.node_count() {
+        if tree.has_mount(at) {
+            return at;
+        }
+        let Some(spot) = tree.dir_spot(at) else {
+            return NodeId::ROOT;
+        };
+        at = spot.dir;
+    }
+    if tree.has_mount(at) {
+        return at;
+    }
+    NodeId::ROOT
 }

@@ -1,11 +1,12 @@
 //! Laws and worked examples of the definitions of this crate, each the contract of a function
 //! that does nothing.
 
-ghost use Rattle.pua_tree.specs.Laws.{TreesAreTheirRows, EditsKeepTrees, LimitsAreTheirs};
+ghost use Rattle.pua_tree.specs.Laws.{TreesAreTheirRows, EditsKeepDevices, EditsKeepTrees};
+ghost use Rattle.pua_tree.specs.Laws.{LimitsAreTheirs};
 ghost use Rattle.pua_tree.specs.Grammar.{ListingsAreRead, ListingsListTrees, SecondFormsAgree, ThirdFormsAgree};
 ghost use Rattle.pua_tree.specs.Grammar.{SpellingsAreRead};
 ghost use Rattle.pua_tree.specs.Examples.{ListingRows, FaultOrderRows, NameRows, EditRows};
-ghost use Rattle.pua_tree.specs.Examples.{ExampleIsTree};
+ghost use Rattle.pua_tree.specs.Examples.{DeviceRows, ExampleIsTree};
 
 /// Trees with the same rows, the same living nodes, each of the same kind and target, and the same
 /// next number are equal.
@@ -16,6 +17,12 @@ pub fn tree_law()
 /// What each edit leaves is a tree again, whose next number is no lower.
 pub fn edits_keep_trees()
     ensures { EditsKeepTrees }
+{}
+
+/// A directory that lives on after an edit is on the device on which it was, as long as a directory
+/// that moves stays on its own.
+pub fn edits_keep_devices()
+    ensures { EditsKeepDevices }
 {}
 
 /// The constants of this crate are the limits of its definitions.
@@ -38,10 +45,11 @@ pub fn spelling_law()
     ensures { SpellingsAreRead }
 {}
 
-/// Examples of listings.
-#[tactic(auto, using(crate::specs::Examples::listing_rows, crate::specs::Examples::example_is_tree))]
+/// Examples of listings, and of the devices that they list.
+#[tactic(auto, using(crate::specs::Examples::listing_rows, crate::specs::Examples::device_rows, crate::specs::Examples::example_is_tree))]
 pub fn listing_examples()
     ensures listings { ListingRows }
+    ensures devices { DeviceRows }
     ensures tree { ExampleIsTree }
 {}
 

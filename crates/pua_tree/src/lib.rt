@@ -27,8 +27,8 @@ pub use fault::{ListingFault, NameFault, OutOfMemory, TreeFault};
 pub use field::{Fields, number_within};
 pub use form::Form;
 pub use laws::{
-    edit_examples, edits_keep_trees, fault_order_examples, limits_law, listing_examples,
-    listing_law, spelling_law, tree_law,
+    edit_examples, edits_keep_devices, edits_keep_trees, fault_order_examples, limits_law,
+    listing_examples, listing_law, spelling_law, tree_law,
 };
 pub use limits::{MOST_LISTED, MOST_WIDE};
 pub use link_target::{MOST_TARGET, has_short_components, is_target};

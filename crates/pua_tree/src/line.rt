@@ -1,21 +1,23 @@
 //! The fields of a line of a listing by what they are for.
 
 ghost use Rattle.std.specs.Prelude.{◌≡◌, option_map};
-ghost use Rattle.pua_tree.specs.Listing.{file_by, listing_line, long_kind, plain_kind, typed_kind};
+ghost use Rattle.pua_tree.specs.Listing.{file_by, is_mount_word, listing_line, long_kind};
+ghost use Rattle.pua_tree.specs.Listing.{plain_kind, typed_kind};
 ghost use Rattle.pua_tree.specs.Lines.{line_read};
 
 use crate::field::Fields;
 use crate::form::Form;
 use crate::node::{FileType, Kind};
 
-/// A line of a listing after its second: its number, the kind of the node that it makes, the parent
-/// and the name of its row, and a last field, which is a link's target. A hard link has no kind,
-/// and its last field is a node; other lines have none, and it is empty here. All but the kind are
-/// as they are spelled.
+/// A line of a listing after its second: its number, the kind of the node that it makes, whether
+/// another file system is mounted there, the parent and the name of its row, and a last field,
+/// which is a link's target. A hard link has no kind, and its last field is a node; other lines
+/// have none, and it is empty here. All but the kind and the mount are as they are spelled.
 #[derive(Clone, Copy)]
 pub(crate) struct ListingLine<'a> {
     pub(crate) number: &'a [u8],
     pub(crate) kind: Option<Kind>,
+    pub(crate) mount: bool,
     pub(crate) parent: &'a [u8],
     pub(crate) name: &'a [u8],
     pub(crate) last: &'a [u8],
@@ -31,6 +33,7 @@ pub(crate) fn read_line(form: Form, text: &[u8]) -> Option<ListingLine<'_>>
         [number, word, parent, name] => Some(ListingLine {
             number,
             kind: Some(plain_kind(form.knows_types(), word)?),
+            mount: is_mount_word(word),
             parent,
             name,
             last: &[],
@@ -38,6 +41,7 @@ pub(crate) fn read_line(form: Form, text: &[u8]) -> Option<ListingLine<'_>>
         [number, word, parent, name, last] => Some(ListingLine {
             number,
             kind: long_kind(form.knows_hard(), word)?,
+            mount: false,
             parent,
             name,
             last,
@@ -71,7 +75,8 @@ fn file_by(types: bool) -> Kind
     }
 }
 
-/// The kind that a further word names where types of files are known.
+/// The kind that a further word names where types of files are known. A file system may be mounted
+/// at a directory alone.
 fn typed_kind(word: &[u8]) -> Option<Kind>
     ensures { result ≡ typed_kind word.now }
 {
@@ -80,8 +85,16 @@ fn typed_kind(word: &[u8]) -> Option<Kind>
         [b's', b'o', b'c', b'k'] => Some(Kind::Known(FileType::Sock)),
         [b'f', b'i', b'f', b'o'] => Some(Kind::Known(FileType::Fifo)),
         [b'd', b'e', b'v'] => Some(Kind::Known(FileType::Dev)),
+        _ if is_mount_word(word) => Some(Kind::Dir),
         _ => None,
     }
+}
+
+/// Whether a word is that of a directory at which another file system is mounted.
+fn is_mount_word(word: &[u8]) -> bool
+    ensures { result ≡ is_mount_word word.now }
+{
+    matches!(word, [b'm', b'o', b'u', b'n', b't'])
 }
 
 /// What a word names, of those whose lines have a last field: the kind of a symbolic link, and no

@@ -22,12 +22,14 @@ pub(crate) struct ListRow {
     pub(crate) node: NodeId,
 }
 
-/// A living node, and where it leads if it is a link.
+/// A living node, where it leads if it is a link, and whether another file system is mounted there
+/// if it is a directory.
 #[derive(Drop)]
 pub(crate) struct ListNode {
     pub(crate) id: NodeId,
     pub(crate) kind: Kind,
     pub(crate) target: Option<Vec<u8>>,
+    pub(crate) mount: bool,
 }
 
 /// A tree of files in two lists: rows by directory and name, and nodes by number.
@@ -109,6 +111,14 @@ impl FileTree for ListTree {
         self.is_bare(dir)
     }
 
+    fn is_mount(&self, dir: NodeId) -> bool {
+        self.has_mount(dir)
+    }
+
+    fn device(&self, dir: NodeId) -> NodeId {
+        judgement::device(self, dir)
+    }
+
     fn most_names(&self) -> u32 {
         self.numbering.room
     }
@@ -138,7 +148,11 @@ impl FileTree for ListTree {
         let target = copied_target(alloc, target)?;
         let number = self.numbering.next;
         let node = NodeId::new(number);
-        let made = Some(MadeNode { kind, target });
+        let made = Some(MadeNode {
+            kind,
+            target,
+            mount: false,
+        });
         let stands = LineNode { number, node, made };
         self.put(&Spot { dir, name }, stands)?;
         Ok(node)
@@ -194,6 +208,7 @@ impl Gathered for ListTree {
             id: NodeId::ROOT,
             kind: Kind::Dir,
             target: None,
+            mount: false,
         };
         nodes.push(root)?;
         Ok(ListTree {
@@ -259,6 +274,13 @@ impl Judged for ListTree {
             spot_of(&self.rows, dir)
         } else {
             None
+        }
+    }
+
+    fn has_mount(&self, id: NodeId) -> bool {
+        match node_place(&self.nodes, id) {
+            Ok(place) => self.nodes[place].mount,
+            Err(_) => false,
         }
     }
 

@@ -81,8 +81,22 @@ pub(crate) fn push_made(nodes: &mut Vec<ListNode>, id: NodeId, made: Option<Made
         ≡ map node_entry nodes.old.items
         ++ cons_option (option_map (λ node. (id, node)) (option_map said_node made)) [] }
 {
-    if let Some(MadeNode { kind, target, .. }) = made {
-        nodes.push(ListNode { id, kind, target }).unwrap();
+    if let Some(
+        MadeNode {
+            kind,
+            target,
+            mount,
+            ..
+        },
+    ) = made
+    {
+        let node = ListNode {
+            id,
+            kind,
+            target,
+            mount,
+        };
+        nodes.push(node).unwrap();
     }
 }
 

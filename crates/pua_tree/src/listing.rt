@@ -3,11 +3,12 @@
 
 ghost use Rattle.std.specs.Prelude.{ℕ, List, ◌≡◌, ◌≢◌, ◌≤◌, ◌+◌, ◌++◌, ◌∷◌, [], Some, Ok, Err};
 ghost use Rattle.std.specs.Prelude.{MatchResult, MatchOption, OnOk, OnErr, IfOk, IfErr, nat_lt};
-ghost use Rattle.std.specs.Prelude.{length, option_map, IsTrue, not, ◌&&◌, min, ◌/◌};
+ghost use Rattle.std.specs.Prelude.{length, option_map, IsTrue, not, ◌&&◌, min, ◌/◌, true};
+ghost use Rattle.std.specs.Prelude.{if◌then◌else◌};
 ghost use Rattle.std.specs.Bool.{OnTrue, OnFalse};
 ghost use Rattle.pua_tree.specs.Limits.{highest_listed};
 ghost use Rattle.pua_tree.specs.Spelling.{number_within};
-ghost use Rattle.pua_tree.specs.Tree.{is_dir, is_living, target_fits};
+ghost use Rattle.pua_tree.specs.Tree.{is_dir, is_dir_kind, is_living, target_fits};
 ghost use Rattle.pua_tree.specs.Lines.{line_read};
 ghost use Rattle.pua_tree.specs.Listing.{listing, listing_of_lines, after_header, entry_of};
 ghost use Rattle.pua_tree.specs.Listing.{entries_of, entry_or_fault, only_if, node_of};
@@ -256,9 +257,27 @@ impl<T: Gathered> Reading<T> {
             },
             Some(kind) => {
                 let target = target_of(alloc, n, kind, line)?;
-                Ok((NodeId::new(number), Some(MadeNode { kind, target })))
+                let mount = is_mounted(line, kind);
+                let made = MadeNode {
+                    kind,
+                    target,
+                    mount,
+                };
+                Ok((NodeId::new(number), Some(made)))
             }
         }
+    }
+}
+
+/// Whether a line that makes a node of this kind makes a directory at which another file system is
+/// mounted.
+fn is_mounted(line: &ListingLine<'_>, kind: Kind) -> bool
+    ensures mount { result ≡ (is_dir_kind (Some kind) && line.now.mount) }
+    ensures dir { IsTrue (if result then is_dir_kind (Some kind) else true) }
+{
+    match kind {
+        Kind::Dir => line.mount,
+        _ => false,
     }
 }
 
@@ -300,7 +319,14 @@ fn target_of(
 ) -> Result<Option<Vec<u8>>, ListingFault>
     ensures ok { IfOk result (λ target. (es : List Said) (number : ℕ)
         → node_of es n number (line_read line.now) (Some kind)
-        ≡ Ok (number, Some (record { kind = kind; target = option_map (λ t. t.items) target }))) }
+        ≡ Ok (
+          number,
+          Some (record {
+            kind = kind;
+            target = option_map (λ t. t.items) target;
+            mount = is_dir_kind (Some kind) && line.now.mount;
+          }),
+        )) }
     ensures fits { IfOk result (λ target.
         IsTrue (target_fits kind (option_map (λ t. t.items) target))) }
     ensures err { IfErr result (λ fault. fault ≢ ListingFault.OutOfMemory

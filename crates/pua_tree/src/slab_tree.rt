@@ -81,6 +81,14 @@ impl FileTree for SlabTree {
         self.is_bare(dir)
     }
 
+    fn is_mount(&self, dir: NodeId) -> bool {
+        self.has_mount(dir)
+    }
+
+    fn device(&self, dir: NodeId) -> NodeId {
+        judgement::device(self, dir)
+    }
+
     fn most_names(&self) -> u32 {
         self.numbering.room
     }
@@ -109,7 +117,11 @@ impl FileTree for SlabTree {
         let target = copied_target(alloc, target)?;
         let number = self.numbering.next;
         let node = NodeId::new(number);
-        let made = Some(MadeNode { kind, target });
+        let made = Some(MadeNode {
+            kind,
+            target,
+            mount: false,
+        });
         let stands = LineNode { number, node, made };
         let above = self.slots.slot(dir);
         self.slots
@@ -218,6 +230,10 @@ impl Judged for SlabTree {
             return None;
         }
         self.slots.spot_of(dir)
+    }
+
+    fn has_mount(&self, id: NodeId) -> bool {
+        self.slots.has_mount(id)
     }
 
     fn is_bare(&self, dir: NodeId) -> bool {

@@ -11,11 +11,13 @@ use slab::Slab;
 use std::alloc::{AllocError, Global};
 use std::collections::BTreeSet;
 
-/// A living node, where it leads if it is a link, and how it stands in the tree.
+/// A living node, where it leads if it is a link, whether another file system is mounted there if
+/// it is a directory, and how it stands in the tree.
 #[derive(Drop)]
 pub(crate) struct SlotNode {
     pub(crate) kind: Kind,
     pub(crate) target: Option<Vec<u8>>,
+    pub(crate) mount: bool,
     pub(crate) standing: Stance,
 }
 
@@ -32,6 +34,7 @@ impl Clone for SlotNode {
         Ok(SlotNode {
             kind: self.kind,
             target,
+            mount: self.mount,
             standing: self.standing,
         })
     }
@@ -59,7 +62,7 @@ pub(crate) struct Slots {
 ghost use Rattle.std.specs.Prelude.{ℕ, List, ◌≡◌, ◌≢◌, ◌<◌, ◌≤◌, ◌==◌, ◌^◌, Some, None, IsSome};
 ghost use Rattle.std.specs.Prelude.{IfSome, IfOk, OnOk, OnErr, if◌then◌else◌, option_copied};
 ghost use Rattle.std.specs.Prelude.{option_map, option_and_then, ◌+◌, length, map, not, is_some};
-ghost use Rattle.std.specs.Prelude.{is_none, true, ◌&&◌};
+ghost use Rattle.std.specs.Prelude.{is_none, true, false, ◌&&◌, unwrap_or};
 ghost use Rattle.std.specs.Ordering.{is_eq, nat_cmp};
 ghost use Rattle.std.specs.FinMap.{put};
 ghost use Rattle.std.specs.FinMap.Entries.{where_key};
@@ -141,6 +144,17 @@ impl Slots {
         match &self.node(id)?.target {
             Some(target) => Some(target.as_slice()),
             None => None,
+        }
+    }
+
+    /// Whether another file system is mounted at the node of this number.
+    pub(crate) fn has_mount(&self, id: NodeId) -> bool
+        ensures { result
+            ≡ unwrap_or (option_map (λ node. node.mount) (node_in self.now id)) false }
+    {
+        match self.node(id) {
+            Some(node) => node.mount,
+            None => false,
         }
     }
 
@@ -406,6 +420,7 @@ impl Slots {
         id: NodeId,
         kind: Kind,
         target: Option<Vec<u8>>,
+        mount: bool,
     ) -> Option<usize>
         ensures kept { HasNodeRoom self.old → AreConsistent self.old → IsNew self.old id →
             AreConsistent self.new }
@@ -413,7 +428,7 @@ impl Slots {
         ensures nodes { HasNodeRoom self.old → AreConsistent self.old → IsNew self.old id →
             held_nodes self.new
             ≡ put nat_cmp id (record
-            { kind = kind; target = option_map (λ bytes. bytes.items) target })
+            { kind = kind; target = option_map (λ bytes. bytes.items) target; mount = mount })
             (held_nodes self.old) }
         ensures others { HasNodeRoom self.old → AreConsistent self.old → IsNew self.old id →
             (x : ℕ) → x ≢ id → slot_of self.new x ≡ slot_of self.old x }
@@ -432,6 +447,7 @@ impl Slots {
         let node = SlotNode {
             kind,
             target,
+            mount,
             standing,
         };
         let Ok(slot) = self.nodes.insert(node) else {
@@ -464,7 +480,14 @@ impl Slots {
             (is_none made ≡ true → other ≡ slot_of self.old id) → result ≡ slot_of self.new id }
     {
         match made {
-            Some(MadeNode { kind, target, .. }) => self.add_node(id, kind, target),
+            Some(
+                MadeNode {
+                    kind,
+                    target,
+                    mount,
+                    ..
+                },
+            ) => self.add_node(id, kind, target, mount),
             None => other,
         }
     }
@@ -566,7 +589,7 @@ impl Slots {
             numbers: IndexMap::with_capacity(alloc, nodes)?,
             nodes: Slab::with_capacity(alloc, nodes)?,
         };
-        slots.add_node(NodeId::ROOT, Kind::Dir, None);
+        slots.add_node(NodeId::ROOT, Kind::Dir, None, false);
         Ok(slots)
     }
 

@@ -34,11 +34,11 @@ pub struct LentSpot<'t> {
 /// and targets, and a number above each of them.
 pub trait FileTree {
     ghost use Rattle.std.specs.Prelude.{◌≡◌, Ok, Err, IsTrue, IfOk, IfErr, OnErr, MatchResult};
-    ghost use Rattle.std.specs.Prelude.{option_copied, option_map, map, length, ◌<◌, ◌^◌};
+    ghost use Rattle.std.specs.Prelude.{option_copied, option_map, map, length, ◌<◌, ◌^◌, false};
     ghost use Rattle.pua_tree.specs.LentRows.{lent_entry, lent_spot};
     ghost use Rattle.pua_tree.specs.Tree.{Tree, WellFormed, kind_at, look, found_at, parent};
     ghost use Rattle.pua_tree.specs.Tree.{dir_spot, is_within, target_at, target_fits, is_empty};
-    ghost use Rattle.pua_tree.specs.Tree.{names};
+    ghost use Rattle.pua_tree.specs.Tree.{names, is_mount, device};
     ghost use Rattle.pua_tree.specs.Edits.{Refuses, add, tie, cut, shift};
 
     /// What the tree holds.
@@ -87,6 +87,16 @@ pub trait FileTree {
     fn is_empty(&self, dir: NodeId) -> bool
         ensures { result ≡ is_empty (content self.now) dir };
 
+    /// Whether this is a living directory at which another file system is mounted.
+    fn is_mount(&self, dir: NodeId) -> bool
+        ensures { result ≡ is_mount (content self.now) dir };
+
+    /// The device of what stands in a living directory: where its file system is mounted, which is
+    /// the directory itself or the nearest one above it, and else the root (mount(2)). For what is
+    /// no living directory it is the root.
+    fn device(&self, dir: NodeId) -> NodeId
+        ensures { result ≡ device (content self.now) dir };
+
     /// How many names the tree may have, the root counted as one: 65,535, or 1,065,535 where a
     /// listing of the third form lists it.
     fn most_names(&self) -> u32
@@ -110,7 +120,7 @@ pub trait FileTree {
 
     /// Adds a node under this name, as mkdir(2), symlink(2) and open(2) with `O_CREAT` do, and
     /// answers its number, which is the next one. A link comes with its target, and no other kind
-    /// with any. The faults, of which the first that holds is answered: `NotDir` where `dir` is no
+    /// with any; no file system is mounted there. The faults, of which the first that holds is answered: `NotDir` where `dir` is no
     /// living directory, `Taken` where it has the name already, `Full` where the tree has
     /// `most_names` names, the root counted as one, or the next number is 4,294,967,295, and
     /// `OutOfMemory`.
@@ -123,9 +133,8 @@ pub trait FileTree {
         target: Option<&[u8]>,
     ) -> Result<NodeId, TreeFault>
         requires { IsTrue (target_fits kind (option_copied target)) }
-        ensures exact { let rule =
-            add (content self.old) dir name
-            (record { kind = kind; target = option_copied target.entry }) in
+        ensures exact { let rule = add (content self.old) dir name
+            (record { kind = kind; target = option_copied target.entry; mount = false }) in
             MatchResult result (λ id. rule ≡ Ok (id, content self.new)) (Refuses rule) }
         ensures unchanged { OnErr result (content self.new ≡ content self.old) };
 

@@ -52,10 +52,11 @@ use Rattle.pua_path.specs.declared.found.Start.{Start}
 use Rattle.pua_path.specs.Traces.{path_errno}
 use Rattle.pua_path.specs.declared.traced.PathFault.TheVariants.{InText, NoStart, Stops}
 use Rattle.pua_why.specs.Reasons.{bad_path, fault_behind, fault_by, front_fault, no_start, outcome_in}
-use Rattle.pua_script.specs.Decide.{tying, dots_by, top_by, ways_by, kinds_by, inside_by, is_whole, given_set, is_unknown}
+use Rattle.pua_script.specs.Decide.{tying, dots_by, top_by, ways_by, fits_by, kinds_by, is_elsewhere, inside_by, is_whole, given_set, is_unknown}
 use Rattle.pua_script.specs.Decide.{asks_directory, object_by, rename_by, link_by, veil_by, unveil_errno, refusals, asker_of, decide}
 use Rattle.pua_policy.specs.Misfits.{misfit_errno}
 use Rattle.pua_calls.specs.declared.fits.Misfit.{Misfit}
+use Rattle.pua_calls.specs.declared.fits.Misfit.TheVariants.{IsElsewhere}
 use Rattle.pua_calls.specs.declared.fits.Misfit.TheVariants.{IsDirectory, IsNoFile, IsNoDirectory, IsNotEmpty, Exists}
 use Rattle.pua_script.specs.Replay as replay
 use Rattle.pua_script.specs.Replay.{answer_to, left_by}
@@ -285,14 +286,21 @@ ways_told : (a b : Found) →
 ways_told a b = or_told _ _ _ _ (dots_told Old a a)
     (or_told _ _ _ _ (dots_told New b b) (or_told _ _ _ _ (top_told Old a a) (top_told New b b)))
 
-kinds_told : (t : Tree) (side : Side) (object old new : Found) →
-    Told (kinds_by (λ wrong. Unfit side object wrong) t old new) ≡ Failing (kinds_by (λ wrong. misfit_errno wrong) t old new)
-kinds_told t side object old (Whole y by) =
+fits_told : (t : Tree) (side : Side) (object old new : Found) →
+    Told (fits_by (λ wrong. Unfit side object wrong) t old new) ≡ Failing (fits_by (λ wrong. misfit_errno wrong) t old new)
+fits_told t side object old (Whole y by) =
     or_told _ _ _ _ (when_told (not (is_whole old)) (Unfit side object IsDirectory) (misfit_errno IsDirectory) refl)
     (when_told (not (is_empty t y)) (Unfit side object IsNotEmpty) (misfit_errno IsNotEmpty) refl)
-kinds_told t side object old (Slot dir name None) = refl
-kinds_told t side object old (Slot dir name (Some y)) =
+fits_told t side object old (Slot dir name None) = refl
+fits_told t side object old (Slot dir name (Some y)) =
     when_told (is_whole old) (Unfit side object IsNoDirectory) (misfit_errno IsNoDirectory) refl
+
+away_told : (t : Tree) (a b : Found) → Told (fault_if (is_elsewhere t a b) (Unfit New b IsElsewhere)) ≡ Failing (fault_if (is_elsewhere t a b) (misfit_errno IsElsewhere))
+away_told t a b = when_told (is_elsewhere t a b) (Unfit New b IsElsewhere) (misfit_errno IsElsewhere) refl
+
+kinds_told : (t : Tree) (old new : Found) →
+    Told (kinds_by (λ wrong. Unfit New new wrong) t old new) ≡ Failing (kinds_by (λ wrong. misfit_errno wrong) t old new)
+kinds_told t old new = or_told _ _ _ _ (away_told t old new) (fits_told t New new old new)
 
 inside_told : (t : Tree) (x : ℕ) (a b : Found) (spot : Option Spot) →
     Told (inside_by (Inside a b) t x spot) ≡ Failing (inside_by EINVAL t x spot)
@@ -315,13 +323,13 @@ rename_told t asks a b (Some x) = failed_told _ _ _ _ (ways_told a b)
         ≡ (if v then Ok NoChange else unless_failed (λ errno. refusal.Failed errno)
         (or_fault (inside_by EINVAL t x (spot_named b)) (kinds_by (λ wrong. misfit_errno wrong) t a b)) moves)
     by true = refl
-    by false = failed_told _ _ _ moves (or_told _ _ _ _ (inside_told t x a b (spot_named b)) (kinds_told t New b a b)) refl
+    by false = failed_told _ _ _ moves (or_told _ _ _ _ (inside_told t x a b (spot_named b)) (kinds_told t a b)) refl
 
-link_told : (a b : Found) (node : Option ℕ) → decision_of (link_by faults a b node) ≡ link_by refusals a b node
-link_told a b None = refl
-link_told a b (Some x) = failed_told _ _ _ (Ok (tying x (spot_named b)))
+link_told : (t : Tree) (a b : Found) (node : Option ℕ) → decision_of (link_by faults t a b node) ≡ link_by refusals t a b node
+link_told t a b None = refl
+link_told t a b (Some x) = failed_told _ _ _ (Ok (tying x (spot_named b)))
     (or_told _ _ _ _ (when_told (is_whole a) (Unfit Old a IsNoFile) (misfit_errno IsNoFile) refl)
-    (when_told (is_some (node_named b)) (Unfit New b Exists) (misfit_errno Exists) refl)) refl
+    (or_told _ _ _ _ (when_told (is_some (node_named b)) (Unfit New b Exists) (misfit_errno Exists) refl) (away_told t a b))) refl
 
 -- a pledge
 pledge_told : (whose : Rules) (h : ProcessState) (p x : Option ℕ) →
@@ -416,7 +424,7 @@ reasons_give_decisions table t h (Symlink target path) =
     (failed_told _ _ _ _ (target_told target) (call_told t h table call.Symlink path (adding (link_node target))))
 reasons_give_decisions table t h (Rename old new) =
     pair_told t h table.whose table.rename ending.Dropped old new _ _ (λ a b. rename_told t (asks_directory table.whose old new) a b (node_named a))
-reasons_give_decisions table t h (Link old new) = pair_told t h table.whose table.link ending.Dot old new _ _ (λ a b. link_told a b (node_named a))
+reasons_give_decisions table t h (Link old new) = pair_told t h table.whose table.link ending.Dot old new _ _ (λ a b. link_told t a b (node_named a))
 reasons_give_decisions table t h (Pledge p x) =
     failed_told _ _ _ _ (when_told (is_unknown p || is_unknown x) (UnknownPromise (not (is_unknown p))) EINVAL refl)
     (failed_told _ _ _ _ (pledge_told table.whose h (given_set p) (given_set x)) refl)

@@ -31,8 +31,9 @@ use Rattle.pua_policy.specs.States.{error_frees_exec, pledged_set, held_for_exec
 use Rattle.pua_policy.specs.States.{most_places}
 use Rattle.pua_policy.specs.Verdict.{place_of}
 use Rattle.pua_calls.specs.declared.call.Call.TheVariants as call
-use Rattle.pua_script.specs.Decide.{dots_by, top_by, kinds_by, inside_by, is_whole}
+use Rattle.pua_script.specs.Decide.{dots_by, top_by, fits_by, kinds_by, is_elsewhere, inside_by, is_whole}
 use Rattle.pua_script.specs.Decide.{asks_directory, given_set, is_unknown, rename_by, link_by, veil_by}
+use Rattle.pua_calls.specs.declared.fits.Misfit.TheVariants.{IsElsewhere}
 use Rattle.pua_calls.specs.declared.fits.Misfit.TheVariants.{Missing, Exists, IsDirectory, IsNoFile, IsNoDirectory, IsNotEmpty, ByDot}
 use Rattle.pua_calls.specs.declared.fits.Misfit.TheVariants.{ByDotDot, ByNothing}
 use Rattle.pua_script.specs.Replay.{Fails, effect}
@@ -123,14 +124,24 @@ module _ (whose : Rules) (pair : PairRule) (t : Tree) (h : ProcessState) (end : 
   top_true side (Whole dir (way.Named parent name)) bad o e = cc
   top_true side (Slot dir name x) bad o e = cc
 
-  kinds_true : (old new : Found) (bad : Fault) → Led New new → kinds_by (λ wrong. Unfit New new wrong) t old new ≡ Some bad → Pair bad
-  kinds_true old (Whole y by) bad n e =
+  fits_true : (old new : Found) (bad : Fault) → Led New new → fits_by (λ wrong. Unfit New new wrong) t old new ≡ Some bad → Pair bad
+  fits_true old (Whole y by) bad n e =
       either_true _ _ bad Pair
       (when_true (not (is_whole old)) (Unfit New (Whole y by) IsDirectory) bad Pair (λ v. (n, refl)))
       (when_true (not (is_empty t y)) (Unfit New (Whole y by) IsNotEmpty) bad Pair (λ v. (n, (y, by, refl, not-true (is_empty t y) v)))) e
-  kinds_true old (Slot dir name None) bad n e = cc
-  kinds_true old (Slot dir name (Some y)) bad n e =
+  fits_true old (Slot dir name None) bad n e = cc
+  fits_true old (Slot dir name (Some y)) bad n e =
       when_true (is_whole old) (Unfit New (Slot dir name (Some y)) IsNoDirectory) bad Pair (λ v. (n, (refl, refl))) e
+
+  away_true : (old new : Found) (bad : Fault) → Led Old old → Led New new →
+      fault_if (is_elsewhere t old new) (Unfit New new IsElsewhere) ≡ Some bad → Pair bad
+  away_true old new bad o n e =
+      when_true (is_elsewhere t old new) (Unfit New new IsElsewhere) bad Pair
+      (λ v. record { from = old; led_old = o; led_new = n; elsewhere = v }) e
+
+  kinds_true : (old new : Found) (bad : Fault) → Led Old old → Led New new → kinds_by (λ wrong. Unfit New new wrong) t old new ≡ Some bad →
+      Pair bad
+  kinds_true old new bad o n e = either_true _ _ bad Pair (away_true old new bad o n) (fits_true old new bad n) e
 
   inside_true : (x : ℕ) (old new : Found) (spot : Option Spot) (bad : Fault) → Led Old old → Led New new → node_named old ≡ Some x →
       spot_named new ≡ spot →
@@ -167,17 +178,18 @@ module _ (whose : Rules) (pair : PairRule) (t : Tree) (h : ProcessState) (end : 
       by true e = cc
       by false e =
           failed_true _ _ fault Pair
-          (λ bad e. either_true _ _ bad Pair (inside_true x old new (spot_named new) bad o n is refl) (kinds_true old new bad n) e)
+          (λ bad e. either_true _ _ bad Pair (inside_true x old new (spot_named new) bad o n is refl) (kinds_true old new bad o n) e)
           (λ granted. cc) e
 
   link_true : (old new : Found) (node : Option ℕ) (fault : Fault) → node_named old ≡ node → Led Old old → Led New new →
-      link_by faults old new node ≡ Err fault → Pair fault
+      link_by faults t old new node ≡ Err fault → Pair fault
   link_true old new None fault is o n e = subst Pair (same_fault (Unfit Old old Missing) fault e) (o, is)
   link_true old new (Some x) fault is o n e =
       failed_true _ _ fault Pair
       (λ bad e. either_true _ _ bad Pair
       (when_true (is_whole old) (Unfit Old old IsNoFile) bad Pair (λ v. (o, v)))
-      (when_true (is_some (node_named new)) (Unfit New new Exists) bad Pair (λ v. (n, v))) e)
+      (λ e. either_true _ _ bad Pair (when_true (is_some (node_named new)) (Unfit New new Exists) bad Pair (λ v. (n, v)))
+      (away_true old new bad o n) e) e)
       (λ granted. cc) e
 
   cover_true : (side : Side) (object : Found) (bad : Fault) (perms : ℕ) → Led side object →

@@ -11,6 +11,7 @@ use Rattle.pua_script.specs.Decide.{Side, Sole, Old, New}
 use Rattle.pua_calls.specs.declared.fits.Misfit.{Misfit}
 use Rattle.pua_calls.specs.declared.fits.Misfit.TheVariants.{Missing, Exists, IsDirectory, IsNoFile, IsNoDirectory, IsNoLink}
 use Rattle.pua_calls.specs.declared.fits.Misfit.TheVariants.{IsNoProgram, IsNotEmpty, ByDot, ByDotDot, ByNothing, IsSocket, IsNoSocket, InUse}
+use Rattle.pua_calls.specs.declared.fits.Misfit.TheVariants.{IsMountPoint, IsElsewhere}
 use Rattle.pua_why.specs.Reasons.{Fault, Ends, LacksPromises, BadTarget, BadPath, NoRoot, Uncovered, LacksLetters, Unfit, Inside}
 use Rattle.pua_why.specs.Reasons.{UnknownPromise, AsksPromises, IsLocked, UnknownLetter, AsksLetters, NoPlaceLeft, NumberTaken, NoProcessLeft, NoRoom}
 use Rattle.pua_why.specs.Reasons.{WrongFile, FileFault, NotOpen, OpenNoDirectory, NotSent, MayNotSend, SendsDirectory}
@@ -54,6 +55,8 @@ misfit_group ByNothing = 6
 misfit_group IsSocket = 6
 misfit_group IsNoSocket = 6
 misfit_group InUse = 6
+misfit_group IsMountPoint = 6
+misfit_group IsElsewhere = 6
 
 abbrev pub misfit_key : Misfit → ℕ
 misfit_key Missing = 5
@@ -70,6 +73,8 @@ misfit_key ByNothing = 10
 misfit_key IsNoSocket = 11
 misfit_key InUse = 12
 misfit_key IsSocket = 13
+misfit_key IsMountPoint = 14
+misfit_key IsElsewhere = 15
 
 abbrev pub exec_key : Bool → ℕ
 exec_key false = 0

@@ -30,6 +30,7 @@ use Rattle.pua_script.specs.Decide.{Side, Sole, Old, New}
 use Rattle.pua_calls.specs.declared.fits.Misfit.{Misfit}
 use Rattle.pua_calls.specs.declared.fits.Misfit.TheVariants.{Missing, Exists, IsDirectory, IsNoFile, IsNoDirectory, IsNoLink}
 use Rattle.pua_calls.specs.declared.fits.Misfit.TheVariants.{IsNoProgram, IsNotEmpty, ByDot, ByDotDot, ByNothing, IsSocket, IsNoSocket, InUse}
+use Rattle.pua_calls.specs.declared.fits.Misfit.TheVariants.{IsMountPoint, IsElsewhere}
 use Rattle.pua_why.specs.Reasons.{Fault, Ends, LacksPromises, BadTarget, BadPath, NoRoot, Uncovered, LacksLetters, Unfit, Inside}
 use Rattle.pua_why.specs.Reasons.{UnknownPromise, AsksPromises, IsLocked, UnknownLetter, AsksLetters, NoPlaceLeft, NumberTaken, NoProcessLeft, NoRoom}
 use Rattle.pua_why.specs.Reasons.{WrongFile, FileFault, NotOpen, OpenNoDirectory, NotSent, MayNotSend, SendsDirectory}
@@ -125,6 +126,8 @@ misfit_text object ByNothing = codes "path has no component"
 misfit_text object IsSocket = object ++ codes " is a socket"
 misfit_text object IsNoSocket = object ++ codes " is no socket"
 misfit_text object InUse = object ++ codes " exists"
+misfit_text object IsMountPoint = object ++ codes " is a mount point"
+misfit_text object IsElsewhere = object ++ codes " is on another file system"
 
 abbrev pub veil_text : Tree → Place → ℕ → List ℕ
 veil_text t place given = codes "veil " ++ letters_text given ++ codes " on " ++ place_text t place

@@ -23,10 +23,10 @@ use Rattle.pua_policy.specs.States.{ProcessState, error_frees_exec, pledged_set,
 use Rattle.pua_policy.specs.States.{start, most_places}
 use Rattle.pua_calls.specs.declared.call.Call.TheVariants as call
 use Rattle.pua_script.specs.Limits.{most_processes}
-use Rattle.pua_script.specs.Decide.{Change, CopyAs, TakeFile, Side, Sole, Old, New, given_set, is_unknown, is_whole}
+use Rattle.pua_script.specs.Decide.{Change, CopyAs, TakeFile, Side, Sole, Old, New, given_set, is_elsewhere, is_unknown, is_whole}
 use Rattle.pua_calls.specs.declared.fits.Misfit.{Misfit}
 use Rattle.pua_calls.specs.declared.fits.Misfit.TheVariants.{Missing, Exists, IsDirectory, IsNoFile, IsNoDirectory, IsNotEmpty, ByDot}
-use Rattle.pua_calls.specs.declared.fits.Misfit.TheVariants.{ByDotDot, ByNothing}
+use Rattle.pua_calls.specs.declared.fits.Misfit.TheVariants.{ByDotDot, ByNothing, IsElsewhere}
 use Rattle.pua_script.specs.Replay.{World, Fails, kept_at, change_effect}
 use Rattle.pua_script.specs.Laws.{LacksRoom}
 use Rattle.pua_script.specs.declared.request.Given.{Given}
@@ -92,6 +92,13 @@ abbrev pub side_named : Rules → PairRule → Tree → ProcessState → Ending 
 side_named whose pair t h ending old new side =
     outcome_in whose t (start h) (side_text old new side) (side_outcome pair t h ending old new side)
 
+-- the new name is on another file system than what the old path named, or what has it is
+pub record IsNewElsewhere (pair : PairRule) (t : Tree) (h : ProcessState) (ending : Ending) (old new : List ℕ) (object : Found) : Type 0 where
+  pub from : Found
+  pub led_old : side_outcome pair t h ending old new Old ≡ Ok from
+  pub led_new : side_outcome pair t h ending old new New ≡ Ok object
+  pub elsewhere : is_elsewhere t from object ≡ true
+
 abbrev pub PairFaultHolds : Rules → PairRule → Tree → ProcessState → Ending → List ℕ → List ℕ → Fault → Type 0
 PairFaultHolds whose pair t h ending old new Ends = is_ended h ≡ true
 PairFaultHolds whose pair t h ending old new (LacksPromises error lacks) =
@@ -105,6 +112,7 @@ PairFaultHolds whose pair t h ending old new (Uncovered side object) = (side_out
 PairFaultHolds whose pair t h ending old new (LacksLetters side place given lacks) =
     (object : Found) × (side_outcome pair t h ending old new side ≡ Ok object) × (covering t h object ≡ By place given)
     × (holds given (side_perms pair side) ≡ false) × (lacks ≡ lacking given (side_perms pair side))
+PairFaultHolds whose pair t h ending old new (Unfit side object IsElsewhere) = IsNewElsewhere pair t h ending old new object
 PairFaultHolds whose pair t h ending old new (Unfit side object wrong) = (side_outcome pair t h ending old new side ≡ Ok object) ×
     PairMisfitHolds t object wrong
 PairFaultHolds whose pair t h ending old new (Inside a b) =

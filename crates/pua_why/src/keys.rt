@@ -268,6 +268,8 @@ fn misfit_number(misfit: Misfit) -> u64
         Misfit::IsNoSocket => 11,
         Misfit::InUse => 12,
         Misfit::IsSocket => 13,
+        Misfit::IsMountPoint => 14,
+        Misfit::IsElsewhere => 15,
     }
 }
 

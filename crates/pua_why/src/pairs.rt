@@ -7,7 +7,8 @@ ghost use Rattle.pua_path.specs.Fits.{FoundFits, StandsAsNamed, node_named, spot
 ghost use Rattle.pua_path.specs.declared.found.Found as founds;
 ghost use Rattle.pua_path.specs.declared.text.Ending.TheVariants as endings;
 ghost use Rattle.pua_script.specs.Decide.{New, Outcome, asks_directory, covers_by, dots_by};
-ghost use Rattle.pua_script.specs.Decide.{inside_by, is_whole, kinds_by, link_by, objects_by};
+ghost use Rattle.pua_script.specs.Decide.{device_of, device_over, fits_by, inside_by, is_elsewhere};
+ghost use Rattle.pua_script.specs.Decide.{is_whole, kinds_by, link_by, objects_by};
 ghost use Rattle.pua_script.specs.Decide.{pair_by, rename_by, top_by, ways_by};
 ghost use Rattle.pua_why.specs.Checked.{refused_by};
 ghost use Rattle.pua_why.specs.Reasons.{Fault as Meant, faults, faults_of};
@@ -71,7 +72,7 @@ pub(crate) fn link_fault<'s, T: FileTree>(
     ensures { option_map fault_seen result
         ≡ refused_by (pair_by faults table.now.whose table.now.link (T.content tree.now)
         (faults_of process.now) endings.Dot old.now new.now
-        (λ a b. link_by faults a b (node_named a))) }
+        (λ a b. link_by faults (T.content tree.now) a b (node_named a))) }
 {
     match judged(
         tree,
@@ -83,7 +84,7 @@ pub(crate) fn link_fault<'s, T: FileTree>(
         new,
         links,
     ) {
-        Ok(pair) => tie_fault(&pair),
+        Ok(pair) => tie_fault(tree, &pair),
         Err(fault) => Some(fault),
     }
 }
@@ -281,11 +282,22 @@ fn is_inside<T: FileTree>(tree: &T, node: NodeId, dir: NodeId) -> bool
     tree.kind(node) == Some(Kind::Dir) && tree.is_within(dir, node)
 }
 
-/// A directory is not put in the place of anything else, nothing else in the place of a directory,
-/// and nothing in the place of a directory in which something stands.
+/// Nothing leaves its file system, and then what the kinds of both make impossible.
 fn kinds_fault<'s, T: FileTree>(tree: &T, pair: &Pair) -> Option<Fault<'s>>
     ensures { option_map fault_seen result
         ≡ kinds_by (faults.misfit New pair.now.new) (T.content tree.now) pair.now.old pair.now.new }
+{
+    if is_elsewhere(tree, pair) {
+        return Some(Fault::Unfit(Side::New, pair.new, Misfit::IsElsewhere));
+    }
+    fits_fault(tree, pair)
+}
+
+/// A directory is not put in the place of anything else, nothing else in the place of a directory,
+/// and nothing in the place of a directory in which something stands.
+fn fits_fault<'s, T: FileTree>(tree: &T, pair: &Pair) -> Option<Fault<'s>>
+    ensures { option_map fault_seen result
+        ≡ fits_by (faults.misfit New pair.now.new) (T.content tree.now) pair.now.old pair.now.new }
 {
     let is_dir = is_whole(&pair.old);
     let wrong = match pair.new {
@@ -298,9 +310,10 @@ fn kinds_fault<'s, T: FileTree>(tree: &T, pair: &Pair) -> Option<Fault<'s>>
 }
 
 /// What is wrong with a further name for what was named.
-fn tie_fault<'s>(pair: &Pair) -> Option<Fault<'s>>
+fn tie_fault<'s, T: FileTree>(tree: &T, pair: &Pair) -> Option<Fault<'s>>
     ensures { option_map fault_seen result
-        ≡ refused_by (link_by faults pair.now.old pair.now.new (node_named pair.now.old)) }
+        ≡ refused_by (link_by faults (T.content tree.now) pair.now.old pair.now.new
+        (node_named pair.now.old)) }
 {
     if node_named(&pair.old).is_none() {
         return Some(Fault::Unfit(Side::Old, pair.old, Misfit::Missing));
@@ -311,7 +324,40 @@ fn tie_fault<'s>(pair: &Pair) -> Option<Fault<'s>>
     if node_named(&pair.new).is_some() {
         return Some(Fault::Unfit(Side::New, pair.new, Misfit::Exists));
     }
+    if is_elsewhere(tree, pair) {
+        return Some(Fault::Unfit(Side::New, pair.new, Misfit::IsElsewhere));
+    }
     None
+}
+
+/// The device of what was found: a directory is on its own, anything else on that of its name.
+fn device_of<T: FileTree>(tree: &T, found: &Found) -> NodeId
+    ensures { result ≡ device_of (T.content tree.now) found.now }
+{
+    match *found {
+        Found::Whole { dir, .. } | Found::Slot { dir, .. } => tree.device(dir),
+    }
+}
+
+/// The device of the name by which it was found.
+fn device_over<T: FileTree>(tree: &T, found: &Found) -> NodeId
+    ensures { result ≡ device_over (T.content tree.now) found.now }
+{
+    match *found {
+        Found::Whole {
+            way: Way::Named { parent, .. },
+            ..
+        } => tree.device(parent),
+        Found::Whole { dir, .. } | Found::Slot { dir, .. } => tree.device(dir),
+    }
+}
+
+/// Whether what gets the new name would leave its file system, or what has it is on another one.
+fn is_elsewhere<T: FileTree>(tree: &T, pair: &Pair) -> bool
+    ensures { result ≡ is_elsewhere (T.content tree.now) pair.now.old pair.now.new }
+{
+    let device = device_over(tree, &pair.new);
+    device_of(tree, &pair.old) != device || device_of(tree, &pair.new) != device
 }
 
 /// The node that was found.

@@ -456,6 +456,8 @@ fn misfit_words(misfit: Misfit) -> (bool, &'static str)
         Misfit::IsSocket => (true, " is a socket"),
         Misfit::IsNoSocket => (true, " is no socket"),
         Misfit::InUse => (true, " exists"),
+        Misfit::IsMountPoint => (true, " is a mount point"),
+        Misfit::IsElsewhere => (true, " is on another file system"),
     }
 }
 

@@ -152,10 +152,10 @@ tight_meets p true tree script is_tree is_script =
     let c = built_rules (tight_app p.tight) in
     meets p _ _ None tree script _ c (begun c (codes "--why" ∷ [])) is_tree is_script (refl, refl) (refl, refl) refl refl refl refl refl refl refl
 
-abbrev pub HasFlags : Bool → Bool → Bool → Bool → Option Text → Text → List Row → Type 0
-HasFlags ever how why images help process rows =
+abbrev pub HasFlags : Bool → Bool → Bool → Bool → Option Text → Option Text → Text → List Row → Type 0
+HasFlags ever how why images below help process rows =
     (one_of (codes "ever") rows ≡ says ever) × (one_of (codes "how") rows ≡ says how) × (one_of (codes "why") rows ≡ says why)
-    × (one_of (codes "images") rows ≡ says images) × (first_of (codes "beside") rows ≡ help)
+    × (one_of (codes "images") rows ≡ says images) × (first_of (codes "below") rows ≡ below) × (first_of (codes "beside") rows ≡ help)
     × (first_of (codes "process") rows ≡ Some process)
 
 pub objects_meets : (p : Parsers) (ever how why : Bool) (at : Option Text) (tree script : Text) → is_value at ≡ true
@@ -164,72 +164,72 @@ pub objects_meets : (p : Parsers) (ever how why : Bool) (at : Option Text) (tree
     (codes "objects"
     ∷ option_if ever (codes "--ever")
     (option_if how (codes "--how") (option_if why (codes "--why") (value_if at (codes "--at") (tree ∷ script ∷ [])))))
-    (codes "objects") at tree script (HasFlags ever how why false None (codes "1"))
+    (codes "objects") at tree script (HasFlags ever how why false None None (codes "1"))
 unfolding clap_on_literals
 objects_meets p false false false None tree script is_at is_tree is_script =
     let c = built_rules (objects_app p.objects) in
-    meets p _ _ None tree script _ c (begun c ([])) is_tree is_script (refl, refl) (refl, refl) refl refl refl refl refl refl (refl, refl, refl, refl, refl, refl)
+    meets p _ _ None tree script _ c (begun c ([])) is_tree is_script (refl, refl) (refl, refl) refl refl refl refl refl refl (refl, refl, refl, refl, refl, refl, refl)
 objects_meets p false false false (Some at) tree script is_at is_tree is_script =
     let c = built_rules (objects_app p.objects) in
     let w = begun c (codes "--at" ∷ []) in
     meets p _ _ (Some at) tree script _ c (passed c at w) is_tree is_script (refl, refl) (refl, refl)
-    (valued c _ w at (tree ∷ script ∷ []) is_at (refl, refl)) refl refl refl refl refl (refl, refl, refl, refl, refl, refl)
+    (valued c _ w at (tree ∷ script ∷ []) is_at (refl, refl)) refl refl refl refl refl (refl, refl, refl, refl, refl, refl, refl)
 objects_meets p false false true None tree script is_at is_tree is_script =
     let c = built_rules (objects_app p.objects) in
-    meets p _ _ None tree script _ c (begun c (codes "--why" ∷ [])) is_tree is_script (refl, refl) (refl, refl) refl refl refl refl refl refl (refl, refl, refl, refl, refl, refl)
+    meets p _ _ None tree script _ c (begun c (codes "--why" ∷ [])) is_tree is_script (refl, refl) (refl, refl) refl refl refl refl refl refl (refl, refl, refl, refl, refl, refl, refl)
 objects_meets p false false true (Some at) tree script is_at is_tree is_script =
     let c = built_rules (objects_app p.objects) in
     let w = begun c (codes "--why" ∷ codes "--at" ∷ []) in
     meets p _ _ (Some at) tree script _ c (passed c at w) is_tree is_script (refl, refl) (refl, refl)
-    (valued c _ w at (tree ∷ script ∷ []) is_at (refl, refl)) refl refl refl refl refl (refl, refl, refl, refl, refl, refl)
+    (valued c _ w at (tree ∷ script ∷ []) is_at (refl, refl)) refl refl refl refl refl (refl, refl, refl, refl, refl, refl, refl)
 objects_meets p false true false None tree script is_at is_tree is_script =
     let c = built_rules (objects_app p.objects) in
-    meets p _ _ None tree script _ c (begun c (codes "--how" ∷ [])) is_tree is_script (refl, refl) (refl, refl) refl refl refl refl refl refl (refl, refl, refl, refl, refl, refl)
+    meets p _ _ None tree script _ c (begun c (codes "--how" ∷ [])) is_tree is_script (refl, refl) (refl, refl) refl refl refl refl refl refl (refl, refl, refl, refl, refl, refl, refl)
 objects_meets p false true false (Some at) tree script is_at is_tree is_script =
     let c = built_rules (objects_app p.objects) in
     let w = begun c (codes "--how" ∷ codes "--at" ∷ []) in
     meets p _ _ (Some at) tree script _ c (passed c at w) is_tree is_script (refl, refl) (refl, refl)
-    (valued c _ w at (tree ∷ script ∷ []) is_at (refl, refl)) refl refl refl refl refl (refl, refl, refl, refl, refl, refl)
+    (valued c _ w at (tree ∷ script ∷ []) is_at (refl, refl)) refl refl refl refl refl (refl, refl, refl, refl, refl, refl, refl)
 objects_meets p false true true None tree script is_at is_tree is_script =
     let c = built_rules (objects_app p.objects) in
-    meets p _ _ None tree script _ c (begun c (codes "--how" ∷ codes "--why" ∷ [])) is_tree is_script (refl, refl) (refl, refl) refl refl refl refl refl refl (refl, refl, refl, refl, refl, refl)
+    meets p _ _ None tree script _ c (begun c (codes "--how" ∷ codes "--why" ∷ [])) is_tree is_script (refl, refl) (refl, refl) refl refl refl refl refl refl (refl, refl, refl, refl, refl, refl, refl)
 objects_meets p false true true (Some at) tree script is_at is_tree is_script =
     let c = built_rules (objects_app p.objects) in
     let w = begun c (codes "--how" ∷ codes "--why" ∷ codes "--at" ∷ []) in
     meets p _ _ (Some at) tree script _ c (passed c at w) is_tree is_script (refl, refl) (refl, refl)
-    (valued c _ w at (tree ∷ script ∷ []) is_at (refl, refl)) refl refl refl refl refl (refl, refl, refl, refl, refl, refl)
+    (valued c _ w at (tree ∷ script ∷ []) is_at (refl, refl)) refl refl refl refl refl (refl, refl, refl, refl, refl, refl, refl)
 objects_meets p true false false None tree script is_at is_tree is_script =
     let c = built_rules (objects_app p.objects) in
-    meets p _ _ None tree script _ c (begun c (codes "--ever" ∷ [])) is_tree is_script (refl, refl) (refl, refl) refl refl refl refl refl refl (refl, refl, refl, refl, refl, refl)
+    meets p _ _ None tree script _ c (begun c (codes "--ever" ∷ [])) is_tree is_script (refl, refl) (refl, refl) refl refl refl refl refl refl (refl, refl, refl, refl, refl, refl, refl)
 objects_meets p true false false (Some at) tree script is_at is_tree is_script =
     let c = built_rules (objects_app p.objects) in
     let w = begun c (codes "--ever" ∷ codes "--at" ∷ []) in
     meets p _ _ (Some at) tree script _ c (passed c at w) is_tree is_script (refl, refl) (refl, refl)
-    (valued c _ w at (tree ∷ script ∷ []) is_at (refl, refl)) refl refl refl refl refl (refl, refl, refl, refl, refl, refl)
+    (valued c _ w at (tree ∷ script ∷ []) is_at (refl, refl)) refl refl refl refl refl (refl, refl, refl, refl, refl, refl, refl)
 objects_meets p true false true None tree script is_at is_tree is_script =
     let c = built_rules (objects_app p.objects) in
-    meets p _ _ None tree script _ c (begun c (codes "--ever" ∷ codes "--why" ∷ [])) is_tree is_script (refl, refl) (refl, refl) refl refl refl refl refl refl (refl, refl, refl, refl, refl, refl)
+    meets p _ _ None tree script _ c (begun c (codes "--ever" ∷ codes "--why" ∷ [])) is_tree is_script (refl, refl) (refl, refl) refl refl refl refl refl refl (refl, refl, refl, refl, refl, refl, refl)
 objects_meets p true false true (Some at) tree script is_at is_tree is_script =
     let c = built_rules (objects_app p.objects) in
     let w = begun c (codes "--ever" ∷ codes "--why" ∷ codes "--at" ∷ []) in
     meets p _ _ (Some at) tree script _ c (passed c at w) is_tree is_script (refl, refl) (refl, refl)
-    (valued c _ w at (tree ∷ script ∷ []) is_at (refl, refl)) refl refl refl refl refl (refl, refl, refl, refl, refl, refl)
+    (valued c _ w at (tree ∷ script ∷ []) is_at (refl, refl)) refl refl refl refl refl (refl, refl, refl, refl, refl, refl, refl)
 objects_meets p true true false None tree script is_at is_tree is_script =
     let c = built_rules (objects_app p.objects) in
-    meets p _ _ None tree script _ c (begun c (codes "--ever" ∷ codes "--how" ∷ [])) is_tree is_script (refl, refl) (refl, refl) refl refl refl refl refl refl (refl, refl, refl, refl, refl, refl)
+    meets p _ _ None tree script _ c (begun c (codes "--ever" ∷ codes "--how" ∷ [])) is_tree is_script (refl, refl) (refl, refl) refl refl refl refl refl refl (refl, refl, refl, refl, refl, refl, refl)
 objects_meets p true true false (Some at) tree script is_at is_tree is_script =
     let c = built_rules (objects_app p.objects) in
     let w = begun c (codes "--ever" ∷ codes "--how" ∷ codes "--at" ∷ []) in
     meets p _ _ (Some at) tree script _ c (passed c at w) is_tree is_script (refl, refl) (refl, refl)
-    (valued c _ w at (tree ∷ script ∷ []) is_at (refl, refl)) refl refl refl refl refl (refl, refl, refl, refl, refl, refl)
+    (valued c _ w at (tree ∷ script ∷ []) is_at (refl, refl)) refl refl refl refl refl (refl, refl, refl, refl, refl, refl, refl)
 objects_meets p true true true None tree script is_at is_tree is_script =
     let c = built_rules (objects_app p.objects) in
-    meets p _ _ None tree script _ c (begun c (codes "--ever" ∷ codes "--how" ∷ codes "--why" ∷ [])) is_tree is_script (refl, refl) (refl, refl) refl refl refl refl refl refl (refl, refl, refl, refl, refl, refl)
+    meets p _ _ None tree script _ c (begun c (codes "--ever" ∷ codes "--how" ∷ codes "--why" ∷ [])) is_tree is_script (refl, refl) (refl, refl) refl refl refl refl refl refl (refl, refl, refl, refl, refl, refl, refl)
 objects_meets p true true true (Some at) tree script is_at is_tree is_script =
     let c = built_rules (objects_app p.objects) in
     let w = begun c (codes "--ever" ∷ codes "--how" ∷ codes "--why" ∷ codes "--at" ∷ []) in
     meets p _ _ (Some at) tree script _ c (passed c at w) is_tree is_script (refl, refl) (refl, refl)
-    (valued c _ w at (tree ∷ script ∷ []) is_at (refl, refl)) refl refl refl refl refl (refl, refl, refl, refl, refl, refl)
+    (valued c _ w at (tree ∷ script ∷ []) is_at (refl, refl)) refl refl refl refl refl (refl, refl, refl, refl, refl, refl, refl)
 
 pub process_meets : (p : Parsers) (ever how why : Bool) (process : Text) (at : Option Text) (tree script : Text)
     → is_operand process ≡ true → is_value at ≡ true → is_operand tree ≡ true → is_operand script ≡ true
@@ -238,129 +238,129 @@ pub process_meets : (p : Parsers) (ever how why : Bool) (process : Text) (at : O
     ∷ option_if ever (codes "--ever")
     (option_if how (codes "--how")
     (option_if why (codes "--why") (codes "--process" ∷ process ∷ value_if at (codes "--at") (tree ∷ script ∷ [])))))
-    (codes "objects") at tree script (HasFlags ever how why false None process)
+    (codes "objects") at tree script (HasFlags ever how why false None None process)
 unfolding clap_on_literals
 process_meets p false false false process None tree script is_process is_at is_tree is_script =
     let c = built_rules (objects_app p.objects) in
     let w = begun c (codes "--process" ∷ []) in
     meets p _ _ None tree script _ c (passed c process w) is_tree is_script (refl, refl) (refl, refl)
-    (valued c _ w process (tree ∷ script ∷ []) is_process (refl, refl)) refl refl refl refl refl (refl, refl, refl, refl, refl, refl)
+    (valued c _ w process (tree ∷ script ∷ []) is_process (refl, refl)) refl refl refl refl refl (refl, refl, refl, refl, refl, refl, refl)
 process_meets p false false false process (Some at) tree script is_process is_at is_tree is_script =
     let c = built_rules (objects_app p.objects) in
     let w = begun c (codes "--process" ∷ []) in
     let v = walked c [] (passed c process w) (codes "--at") in
     meets p _ _ (Some at) tree script _ c (passed c at v) is_tree is_script (refl, refl) (refl, refl)
     (valued c _ w process (codes "--at" ∷ at ∷ tree ∷ script ∷ []) is_process (refl, refl)
-    ∙ valued c _ v at (tree ∷ script ∷ []) is_at (refl, refl)) refl refl refl refl refl (refl, refl, refl, refl, refl, refl)
+    ∙ valued c _ v at (tree ∷ script ∷ []) is_at (refl, refl)) refl refl refl refl refl (refl, refl, refl, refl, refl, refl, refl)
 process_meets p false false true process None tree script is_process is_at is_tree is_script =
     let c = built_rules (objects_app p.objects) in
     let w = begun c (codes "--why" ∷ codes "--process" ∷ []) in
     meets p _ _ None tree script _ c (passed c process w) is_tree is_script (refl, refl) (refl, refl)
-    (valued c _ w process (tree ∷ script ∷ []) is_process (refl, refl)) refl refl refl refl refl (refl, refl, refl, refl, refl, refl)
+    (valued c _ w process (tree ∷ script ∷ []) is_process (refl, refl)) refl refl refl refl refl (refl, refl, refl, refl, refl, refl, refl)
 process_meets p false false true process (Some at) tree script is_process is_at is_tree is_script =
     let c = built_rules (objects_app p.objects) in
     let w = begun c (codes "--why" ∷ codes "--process" ∷ []) in
     let v = walked c [] (passed c process w) (codes "--at") in
     meets p _ _ (Some at) tree script _ c (passed c at v) is_tree is_script (refl, refl) (refl, refl)
     (valued c _ w process (codes "--at" ∷ at ∷ tree ∷ script ∷ []) is_process (refl, refl)
-    ∙ valued c _ v at (tree ∷ script ∷ []) is_at (refl, refl)) refl refl refl refl refl (refl, refl, refl, refl, refl, refl)
+    ∙ valued c _ v at (tree ∷ script ∷ []) is_at (refl, refl)) refl refl refl refl refl (refl, refl, refl, refl, refl, refl, refl)
 process_meets p false true false process None tree script is_process is_at is_tree is_script =
     let c = built_rules (objects_app p.objects) in
     let w = begun c (codes "--how" ∷ codes "--process" ∷ []) in
     meets p _ _ None tree script _ c (passed c process w) is_tree is_script (refl, refl) (refl, refl)
-    (valued c _ w process (tree ∷ script ∷ []) is_process (refl, refl)) refl refl refl refl refl (refl, refl, refl, refl, refl, refl)
+    (valued c _ w process (tree ∷ script ∷ []) is_process (refl, refl)) refl refl refl refl refl (refl, refl, refl, refl, refl, refl, refl)
 process_meets p false true false process (Some at) tree script is_process is_at is_tree is_script =
     let c = built_rules (objects_app p.objects) in
     let w = begun c (codes "--how" ∷ codes "--process" ∷ []) in
     let v = walked c [] (passed c process w) (codes "--at") in
     meets p _ _ (Some at) tree script _ c (passed c at v) is_tree is_script (refl, refl) (refl, refl)
     (valued c _ w process (codes "--at" ∷ at ∷ tree ∷ script ∷ []) is_process (refl, refl)
-    ∙ valued c _ v at (tree ∷ script ∷ []) is_at (refl, refl)) refl refl refl refl refl (refl, refl, refl, refl, refl, refl)
+    ∙ valued c _ v at (tree ∷ script ∷ []) is_at (refl, refl)) refl refl refl refl refl (refl, refl, refl, refl, refl, refl, refl)
 process_meets p false true true process None tree script is_process is_at is_tree is_script =
     let c = built_rules (objects_app p.objects) in
     let w = begun c (codes "--how" ∷ codes "--why" ∷ codes "--process" ∷ []) in
     meets p _ _ None tree script _ c (passed c process w) is_tree is_script (refl, refl) (refl, refl)
-    (valued c _ w process (tree ∷ script ∷ []) is_process (refl, refl)) refl refl refl refl refl (refl, refl, refl, refl, refl, refl)
+    (valued c _ w process (tree ∷ script ∷ []) is_process (refl, refl)) refl refl refl refl refl (refl, refl, refl, refl, refl, refl, refl)
 process_meets p false true true process (Some at) tree script is_process is_at is_tree is_script =
     let c = built_rules (objects_app p.objects) in
     let w = begun c (codes "--how" ∷ codes "--why" ∷ codes "--process" ∷ []) in
     let v = walked c [] (passed c process w) (codes "--at") in
     meets p _ _ (Some at) tree script _ c (passed c at v) is_tree is_script (refl, refl) (refl, refl)
     (valued c _ w process (codes "--at" ∷ at ∷ tree ∷ script ∷ []) is_process (refl, refl)
-    ∙ valued c _ v at (tree ∷ script ∷ []) is_at (refl, refl)) refl refl refl refl refl (refl, refl, refl, refl, refl, refl)
+    ∙ valued c _ v at (tree ∷ script ∷ []) is_at (refl, refl)) refl refl refl refl refl (refl, refl, refl, refl, refl, refl, refl)
 process_meets p true false false process None tree script is_process is_at is_tree is_script =
     let c = built_rules (objects_app p.objects) in
     let w = begun c (codes "--ever" ∷ codes "--process" ∷ []) in
     meets p _ _ None tree script _ c (passed c process w) is_tree is_script (refl, refl) (refl, refl)
-    (valued c _ w process (tree ∷ script ∷ []) is_process (refl, refl)) refl refl refl refl refl (refl, refl, refl, refl, refl, refl)
+    (valued c _ w process (tree ∷ script ∷ []) is_process (refl, refl)) refl refl refl refl refl (refl, refl, refl, refl, refl, refl, refl)
 process_meets p true false false process (Some at) tree script is_process is_at is_tree is_script =
     let c = built_rules (objects_app p.objects) in
     let w = begun c (codes "--ever" ∷ codes "--process" ∷ []) in
     let v = walked c [] (passed c process w) (codes "--at") in
     meets p _ _ (Some at) tree script _ c (passed c at v) is_tree is_script (refl, refl) (refl, refl)
     (valued c _ w process (codes "--at" ∷ at ∷ tree ∷ script ∷ []) is_process (refl, refl)
-    ∙ valued c _ v at (tree ∷ script ∷ []) is_at (refl, refl)) refl refl refl refl refl (refl, refl, refl, refl, refl, refl)
+    ∙ valued c _ v at (tree ∷ script ∷ []) is_at (refl, refl)) refl refl refl refl refl (refl, refl, refl, refl, refl, refl, refl)
 process_meets p true false true process None tree script is_process is_at is_tree is_script =
     let c = built_rules (objects_app p.objects) in
     let w = begun c (codes "--ever" ∷ codes "--why" ∷ codes "--process" ∷ []) in
     meets p _ _ None tree script _ c (passed c process w) is_tree is_script (refl, refl) (refl, refl)
-    (valued c _ w process (tree ∷ script ∷ []) is_process (refl, refl)) refl refl refl refl refl (refl, refl, refl, refl, refl, refl)
+    (valued c _ w process (tree ∷ script ∷ []) is_process (refl, refl)) refl refl refl refl refl (refl, refl, refl, refl, refl, refl, refl)
 process_meets p true false true process (Some at) tree script is_process is_at is_tree is_script =
     let c = built_rules (objects_app p.objects) in
     let w = begun c (codes "--ever" ∷ codes "--why" ∷ codes "--process" ∷ []) in
     let v = walked c [] (passed c process w) (codes "--at") in
     meets p _ _ (Some at) tree script _ c (passed c at v) is_tree is_script (refl, refl) (refl, refl)
     (valued c _ w process (codes "--at" ∷ at ∷ tree ∷ script ∷ []) is_process (refl, refl)
-    ∙ valued c _ v at (tree ∷ script ∷ []) is_at (refl, refl)) refl refl refl refl refl (refl, refl, refl, refl, refl, refl)
+    ∙ valued c _ v at (tree ∷ script ∷ []) is_at (refl, refl)) refl refl refl refl refl (refl, refl, refl, refl, refl, refl, refl)
 process_meets p true true false process None tree script is_process is_at is_tree is_script =
     let c = built_rules (objects_app p.objects) in
     let w = begun c (codes "--ever" ∷ codes "--how" ∷ codes "--process" ∷ []) in
     meets p _ _ None tree script _ c (passed c process w) is_tree is_script (refl, refl) (refl, refl)
-    (valued c _ w process (tree ∷ script ∷ []) is_process (refl, refl)) refl refl refl refl refl (refl, refl, refl, refl, refl, refl)
+    (valued c _ w process (tree ∷ script ∷ []) is_process (refl, refl)) refl refl refl refl refl (refl, refl, refl, refl, refl, refl, refl)
 process_meets p true true false process (Some at) tree script is_process is_at is_tree is_script =
     let c = built_rules (objects_app p.objects) in
     let w = begun c (codes "--ever" ∷ codes "--how" ∷ codes "--process" ∷ []) in
     let v = walked c [] (passed c process w) (codes "--at") in
     meets p _ _ (Some at) tree script _ c (passed c at v) is_tree is_script (refl, refl) (refl, refl)
     (valued c _ w process (codes "--at" ∷ at ∷ tree ∷ script ∷ []) is_process (refl, refl)
-    ∙ valued c _ v at (tree ∷ script ∷ []) is_at (refl, refl)) refl refl refl refl refl (refl, refl, refl, refl, refl, refl)
+    ∙ valued c _ v at (tree ∷ script ∷ []) is_at (refl, refl)) refl refl refl refl refl (refl, refl, refl, refl, refl, refl, refl)
 process_meets p true true true process None tree script is_process is_at is_tree is_script =
     let c = built_rules (objects_app p.objects) in
     let w = begun c (codes "--ever" ∷ codes "--how" ∷ codes "--why" ∷ codes "--process" ∷ []) in
     meets p _ _ None tree script _ c (passed c process w) is_tree is_script (refl, refl) (refl, refl)
-    (valued c _ w process (tree ∷ script ∷ []) is_process (refl, refl)) refl refl refl refl refl (refl, refl, refl, refl, refl, refl)
+    (valued c _ w process (tree ∷ script ∷ []) is_process (refl, refl)) refl refl refl refl refl (refl, refl, refl, refl, refl, refl, refl)
 process_meets p true true true process (Some at) tree script is_process is_at is_tree is_script =
     let c = built_rules (objects_app p.objects) in
     let w = begun c (codes "--ever" ∷ codes "--how" ∷ codes "--why" ∷ codes "--process" ∷ []) in
     let v = walked c [] (passed c process w) (codes "--at") in
     meets p _ _ (Some at) tree script _ c (passed c at v) is_tree is_script (refl, refl) (refl, refl)
     (valued c _ w process (codes "--at" ∷ at ∷ tree ∷ script ∷ []) is_process (refl, refl)
-    ∙ valued c _ v at (tree ∷ script ∷ []) is_at (refl, refl)) refl refl refl refl refl (refl, refl, refl, refl, refl, refl)
+    ∙ valued c _ v at (tree ∷ script ∷ []) is_at (refl, refl)) refl refl refl refl refl (refl, refl, refl, refl, refl, refl, refl)
 
 pub images_meet : (p : Parsers) (process : Text) (at : Option Text) (tree script : Text)
     → is_operand process ≡ true → is_value at ≡ true → is_operand tree ≡ true → is_operand script ≡ true
     → Meets p (codes "objects" ∷ codes "--images" ∷ codes "--process" ∷ process ∷ value_if at (codes "--at") (tree ∷ script ∷ []))
-    (codes "objects") at tree script (HasFlags false false false true None process)
+    (codes "objects") at tree script (HasFlags false false false true None None process)
 unfolding clap_on_literals
 images_meet p process None tree script is_process is_at is_tree is_script =
     let c = built_rules (objects_app p.objects) in
     let w = begun c (codes "--images" ∷ codes "--process" ∷ []) in
     meets p _ _ None tree script _ c (passed c process w) is_tree is_script (refl, refl) (refl, refl)
-    (valued c _ w process (tree ∷ script ∷ []) is_process (refl, refl)) refl refl refl refl refl (refl, refl, refl, refl, refl, refl)
+    (valued c _ w process (tree ∷ script ∷ []) is_process (refl, refl)) refl refl refl refl refl (refl, refl, refl, refl, refl, refl, refl)
 images_meet p process (Some at) tree script is_process is_at is_tree is_script =
     let c = built_rules (objects_app p.objects) in
     let w = begun c (codes "--images" ∷ codes "--process" ∷ []) in
     let v = walked c [] (passed c process w) (codes "--at") in
     meets p _ _ (Some at) tree script _ c (passed c at v) is_tree is_script (refl, refl) (refl, refl)
     (valued c _ w process (codes "--at" ∷ at ∷ tree ∷ script ∷ []) is_process (refl, refl)
-    ∙ valued c _ v at (tree ∷ script ∷ []) is_at (refl, refl)) refl refl refl refl refl (refl, refl, refl, refl, refl, refl)
+    ∙ valued c _ v at (tree ∷ script ∷ []) is_at (refl, refl)) refl refl refl refl refl (refl, refl, refl, refl, refl, refl, refl)
 
 pub beside_meet : (p : Parsers) (process help : Text) (at : Option Text) (tree script : Text) → is_operand process ≡ true
     → is_operand help ≡ true → is_value at ≡ true → is_operand tree ≡ true → is_operand script ≡ true
     → Meets p
     (codes "objects"
     ∷ codes "--ever" ∷ codes "--process" ∷ process ∷ codes "--beside" ∷ help ∷ value_if at (codes "--at") (tree ∷ script ∷ []))
-    (codes "objects") at tree script (HasFlags true false false false (Some help) process)
+    (codes "objects") at tree script (HasFlags true false false false None (Some help) process)
 unfolding clap_on_literals
 beside_meet p process help None tree script is_process is_help is_at is_tree is_script =
     let c = built_rules (objects_app p.objects) in
@@ -368,7 +368,7 @@ beside_meet p process help None tree script is_process is_help is_at is_tree is_
     let v = walked c [] (passed c process w) (codes "--beside") in
     meets p _ _ None tree script _ c (passed c help v) is_tree is_script (refl, refl) (refl, refl)
     (valued c _ w process (codes "--beside" ∷ help ∷ tree ∷ script ∷ []) is_process (refl, refl)
-    ∙ valued c _ v help (tree ∷ script ∷ []) is_help (refl, refl)) refl refl refl refl refl (refl, refl, refl, refl, refl, refl)
+    ∙ valued c _ v help (tree ∷ script ∷ []) is_help (refl, refl)) refl refl refl refl refl (refl, refl, refl, refl, refl, refl, refl)
 beside_meet p process help (Some at) tree script is_process is_help is_at is_tree is_script =
     let c = built_rules (objects_app p.objects) in
     let w = begun c (codes "--ever" ∷ codes "--process" ∷ []) in
@@ -377,7 +377,31 @@ beside_meet p process help (Some at) tree script is_process is_help is_at is_tre
     meets p _ _ (Some at) tree script _ c (passed c at u) is_tree is_script (refl, refl) (refl, refl)
     (valued c _ w process (codes "--beside" ∷ help ∷ codes "--at" ∷ at ∷ tree ∷ script ∷ []) is_process (refl, refl)
     ∙ valued c _ v help (codes "--at" ∷ at ∷ tree ∷ script ∷ []) is_help (refl, refl)
-    ∙ valued c _ u at (tree ∷ script ∷ []) is_at (refl, refl)) refl refl refl refl refl (refl, refl, refl, refl, refl, refl)
+    ∙ valued c _ u at (tree ∷ script ∷ []) is_at (refl, refl)) refl refl refl refl refl (refl, refl, refl, refl, refl, refl, refl)
+
+pub below_meets : (p : Parsers) (process path : Text) (at : Option Text) (tree script : Text) → is_operand process ≡ true
+    → is_operand path ≡ true → is_value at ≡ true → is_operand tree ≡ true → is_operand script ≡ true
+    → Meets p
+    (codes "objects"
+    ∷ codes "--ever" ∷ codes "--how" ∷ codes "--process" ∷ process ∷ codes "--below" ∷ path ∷ value_if at (codes "--at") (tree ∷ script ∷ []))
+    (codes "objects") at tree script (HasFlags true true false false (Some path) None process)
+unfolding clap_on_literals
+below_meets p process path None tree script is_process is_path is_at is_tree is_script =
+    let c = built_rules (objects_app p.objects) in
+    let w = begun c (codes "--ever" ∷ codes "--how" ∷ codes "--process" ∷ []) in
+    let v = walked c [] (passed c process w) (codes "--below") in
+    meets p _ _ None tree script _ c (passed c path v) is_tree is_script (refl, refl) (refl, refl)
+    (valued c _ w process (codes "--below" ∷ path ∷ tree ∷ script ∷ []) is_process (refl, refl)
+    ∙ valued c _ v path (tree ∷ script ∷ []) is_path (refl, refl)) refl refl refl refl refl (refl, refl, refl, refl, refl, refl, refl)
+below_meets p process path (Some at) tree script is_process is_path is_at is_tree is_script =
+    let c = built_rules (objects_app p.objects) in
+    let w = begun c (codes "--ever" ∷ codes "--how" ∷ codes "--process" ∷ []) in
+    let v = walked c [] (passed c process w) (codes "--below") in
+    let u = walked c [] (passed c path v) (codes "--at") in
+    meets p _ _ (Some at) tree script _ c (passed c at u) is_tree is_script (refl, refl) (refl, refl)
+    (valued c _ w process (codes "--below" ∷ path ∷ codes "--at" ∷ at ∷ tree ∷ script ∷ []) is_process (refl, refl)
+    ∙ valued c _ v path (codes "--at" ∷ at ∷ tree ∷ script ∷ []) is_path (refl, refl)
+    ∙ valued c _ u at (tree ∷ script ∷ []) is_at (refl, refl)) refl refl refl refl refl (refl, refl, refl, refl, refl, refl, refl)
 
 abbrev how_rules : Parsers → List Rule
 how_rules p = built_rules (how_app p.how_process p.how p.how_kind)

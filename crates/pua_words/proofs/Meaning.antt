@@ -1,5 +1,6 @@
 -- The command that words of the forms of `specs/Plain` mean, from what `clap` found.
 use Rattle.std.proofs.Common.{◌≡◌, ◌∙◌, ℕ, Bool, false, true, List, [], ◌∷◌, Option, Some, None, ap, arith, codes, option_map, refl, rules, sym, subst}
+use Rattle.std.specs.Borrow.{Bor}
 use Rattle.std.specs.Option.{ok_or}
 use Rattle.std.specs.Str.Parse.{digits_value, without_leading_plus}
 use Rattle.std.specs.Prelude.{IfOk, IfSome, unwrap_or}
@@ -15,10 +16,12 @@ use Rattle.pua_calls.specs.Calls.{rules_named}
 use Rattle.pua_words.specs.Commands.{AreFieldsOf, IsLimitText, IsNumberText, at_read, values_found}
 use Rattle.pua_words.specs.Grammar.{Parsers, pua_app}
 use Rattle.pua_words.specs.Plain.{IsMadeOf, Meanings, IsMeantBy, means}
-use Rattle.pua_words.specs.Reading.{HasInputsOf, IsCommandOf, IsListRead}
+use Rattle.pua_words.specs.Reading.{HasInputsOf, IsCommandOf, IsListOf, IsListRead, below_of, list_meant}
 use Rattle.pua_words.specs.declared.command.Command.{Command}
 use Rattle.pua_words.specs.declared.command.Processes.TheVariants.{One}
-use Rattle.pua_words.proofs.ClapFinds.{audit_meets, beside_meet, HasFlags, images_meet, Meets, process_meets, how_meets, objects_meets, pua_is_simple, run_meets, tight_meets, tree_meets, why_meets}
+use Rattle.pua_words.specs.declared.command.Text.{Text as Asked}
+use Rattle.pua_words.specs.declared.command.Text.TheVariants as asked
+use Rattle.pua_words.proofs.ClapFinds.{audit_meets, below_meets, beside_meet, HasFlags, images_meet, Meets, process_meets, how_meets, objects_meets, pua_is_simple, run_meets, tight_meets, tree_meets, why_meets}
 
 some_is : {A : Type 0} {a b : A} → Some a ≡ Some b → a ≡ b
 some_is {A} {a} {b} e = ap (λ (o : Option A). unwrap_or o a) e
@@ -121,15 +124,31 @@ is_one : IsNumberText (Some (codes "1")) 1
 is_one = search rules
 
 -- a list with these options, of the processes that a word has, with the help of those that another has
-list_read : {m : ArgMatches} {command : Command} (ever how why images : Bool) (help : Option Text) (process : Text) (k : IsCommandOf m command)
-    → k.name ≡ codes "objects" → (rows : List Row) → rows_of k.found ≡ rows → HasFlags ever how why images help process rows
-    → IsListRead ever how why images help (Some process) command.text
-list_read {command = command} ever how why images help process k name rows are has =
-    subst (λ (t : Option Text). IsListRead ever how why images help t command.text) (value_is k.found _ rows _ are has.5)
-    (subst (λ (t : Option Text). IsListRead ever how why images t (first_value k.found (codes "process")) command.text)
+list_read : {m : ArgMatches} {command : Command} (ever how why images : Bool) (below help : Option Text) (process : Text)
+    (k : IsCommandOf m command) → k.name ≡ codes "objects" → (rows : List Row) → rows_of k.found ≡ rows
+    → HasFlags ever how why images below help process rows → IsListRead ever how why images below help (Some process) command.text
+list_read {command = command} ever how why images below help process k name rows are has =
+    subst (λ (t : Option Text). IsListRead ever how why images below help t command.text) (value_is k.found _ rows _ are has.6)
+    (subst (λ (t : Option Text). IsListRead ever how why images below t (first_value k.found (codes "process")) command.text)
+    (value_is k.found _ rows _ are has.5)
+    (subst (λ (t : Option Text). IsListRead ever how why images t (first_value k.found (codes "beside"))
+    (first_value k.found (codes "process")) command.text)
     (value_is k.found _ rows _ are has.4)
     (k.text.objects name ever how why images (flag_is k.found _ rows _ are has.0) (flag_is k.found _ rows _ are has.1)
-    (flag_is k.found _ rows _ are has.2) (flag_is k.found _ rows _ are has.3)))
+    (flag_is k.found _ rows _ are has.2) (flag_is k.found _ rows _ are has.3))))
+
+-- of a list of all lines no path is asked for
+none_below : (ever how why images : Bool) (help given : Option Text) (text : Asked) → IsListOf ever how why images None help given text
+    → below_of (Some text) ≡ None
+none_below ever how why images help given (asked.List words) h = no_value _ words.below h.5
+none_below ever how why images help given asked.Run h = refl
+none_below ever how why images help given asked.RunWhy h = refl
+none_below ever how why images help given (asked.Why words) h = refl
+none_below ever how why images help given (asked.Audit words) h = refl
+none_below ever how why images help given asked.Tree h = refl
+none_below ever how why images help given asked.Tight h = refl
+none_below ever how why images help given asked.TightWhy h = refl
+none_below ever how why images help given (asked.How words) h = refl
 
 pub meant : (p : Parsers) (m : ArgMatches) (command : Command) (words : List Text)
     → subcommand_rows_of m ≡ subcommand_of (pua_app p) words → IsCommandOf m command → Meanings words command
@@ -145,25 +164,29 @@ meant p m command words met k = record {
       (f.is_made, f.is_command.text.tight f.name_is why (flag_is f.is_command.found _ f.rows _ f.rows_are f.has));
   objects = λ ever how why at tree script is is_at is_tree is_script.
       let f =
-      found_by p m command words _ _ at tree script _ met k is (objects_meets p ever how why at tree script is_at is_tree is_script) in (
+      found_by p m command words _ _ at tree script _ met k is (objects_meets p ever how why at tree script is_at is_tree is_script) in
+      let read = list_read ever how why false None None (codes "1") f.is_command f.name_is f.rows f.rows_are f.has in (
         f.is_made,
-        (f.is_command.text.objects f.name_is ever how why false (flag_is f.is_command.found _ f.rows _ f.rows_are f.has.0)
-            (flag_is f.is_command.found _ f.rows _ f.rows_are f.has.1) (flag_is f.is_command.found _ f.rows _ f.rows_are f.has.2)
-            (flag_is f.is_command.found _ f.rows _ f.rows_are f.has.3)).1 (value_is f.is_command.found _ f.rows _ f.rows_are f.has.4)
-            (One 1) (subst (λ (t : Option Text). IsNumberText t 1) (sym (value_is f.is_command.found _ f.rows _ f.rows_are f.has.5)) is_one),
+        read.1 refl (One 1) is_one
+            ∙ ap (λ (below : Option (Bor Text)). list_meant ever how why false below None (One 1))
+            (none_below ever how why false None (Some (codes "1")) command.text read.0),
       );
   of_process = λ ever how why process at tree script is is_process is_at is_tree is_script.
       let f =
       found_by p m command words _ _ at tree script _ met k is (process_meets p ever how why process at tree script is_process is_at is_tree is_script) in
-      (f.is_made, list_read ever how why false None process f.is_command f.name_is f.rows f.rows_are f.has);
+      (f.is_made, list_read ever how why false None None process f.is_command f.name_is f.rows f.rows_are f.has);
   images = λ process at tree script is is_process is_at is_tree is_script.
       let f =
       found_by p m command words _ _ at tree script _ met k is (images_meet p process at tree script is_process is_at is_tree is_script) in
-      (f.is_made, list_read false false false true None process f.is_command f.name_is f.rows f.rows_are f.has);
+      (f.is_made, list_read false false false true None None process f.is_command f.name_is f.rows f.rows_are f.has);
   beside = λ process help at tree script is is_process is_help is_at is_tree is_script.
       let f =
       found_by p m command words _ _ at tree script _ met k is (beside_meet p process help at tree script is_process is_help is_at is_tree is_script) in
-      (f.is_made, list_read true false false false (Some help) process f.is_command f.name_is f.rows f.rows_are f.has);
+      (f.is_made, list_read true false false false None (Some help) process f.is_command f.name_is f.rows f.rows_are f.has);
+  below = λ process path at tree script is is_process is_path is_at is_tree is_script.
+      let f =
+      found_by p m command words _ _ at tree script _ met k is (below_meets p process path at tree script is_process is_path is_at is_tree is_script) in
+      (f.is_made, list_read true true false false (Some path) None process f.is_command f.name_is f.rows f.rows_are f.has);
   how = λ at tree script call path is is_at is_tree is_script is_call is_path.
       let f =
       found_by p m command words _ _ at tree script _ met k is (how_meets p at tree script call path is_at is_tree is_script is_call is_path) in

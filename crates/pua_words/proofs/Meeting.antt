@@ -9,7 +9,7 @@ use Rattle.clap.specs.declared.parser.matches.ArgMatches.{ArgMatches}
 use Rattle.clap.specs.declared.parser.matches.ArgMatches.TheViews.{out-ArgMatches, out-SubCommand}
 use Rattle.clap.specs.declared.parser.matches.Found.{Found}
 use Rattle.clap.specs.declared.parser.matches.SubCommand.{SubCommand}
-use Rattle.pua_words.specs.Reading.{HasInputsOf, IsAuditOf, IsCommandOf, IsFlag, IsListOf, IsListText, IsReadAs, IsWhyOf, list_meant}
+use Rattle.pua_words.specs.Reading.{HasInputsOf, IsAuditOf, IsCommandOf, IsFlag, IsListOf, IsListText, IsReadAs, IsWhyOf, below_of, list_meant}
 use Rattle.pua_words.specs.declared.command.AuditWords.{AuditWords}
 use Rattle.pua_words.specs.declared.command.Command.{Command}
 use Rattle.pua_words.specs.declared.command.Processes.{Processes}
@@ -38,15 +38,16 @@ pub objects_read : {E : Type 0} (r : Result (Option Asked) E) (name : Text) (fou
     → ((ever how why images : Bool) → IsFlag found (codes "ever") ever → IsFlag found (codes "how") how → IsFlag found (codes "why") why
     → IsFlag found (codes "images") images
     → IfOk r (λ text. IfSome text
-    (IsListOf ever how why images (first_value found (codes "beside")) (first_value found (codes "process")))))
+    (IsListOf ever how why images (first_value found (codes "below")) (first_value found (codes "beside"))
+    (first_value found (codes "process")))))
     → ((ever how why images : Bool) → IsFlag found (codes "ever") ever → IsFlag found (codes "how") how → IsFlag found (codes "why") why
     → IsFlag found (codes "images") images → first_value found (codes "beside") ≡ None → (processes : Processes)
     → IsListText (first_value found (codes "process")) processes
-    → IfOk r (λ text. text ≡ list_meant ever how why images None processes))
+    → IfOk r (λ text. text ≡ list_meant ever how why images (below_of text) None processes))
     → ((ever how why images : Bool) → IsFlag found (codes "ever") ever → IsFlag found (codes "how") how → IsFlag found (codes "why") why
     → IsFlag found (codes "images") images → (beside : Processes) → IsListText (first_value found (codes "beside")) beside
     → (processes : Processes) → IsListText (first_value found (codes "process")) processes
-    → IfOk r (λ text. text ≡ list_meant ever how why images (Some beside) processes)) → IfOk r (λ text. IfSome text (IsReadAs name found))
+    → IfOk r (λ text. text ≡ list_meant ever how why images (below_of text) (Some beside) processes)) → IfOk r (λ text. IfSome text (IsReadAs name found))
 objects_read (Err e) name found is form meant helped = tt
 objects_read (Ok None) name found is form meant helped = tt
 objects_read (Ok (Some text)) name found is form meant helped = record {

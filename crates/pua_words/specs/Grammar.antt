@@ -66,6 +66,10 @@ at_rule = option_rule (codes "at")
 abbrev pub beside_rule : Rule
 beside_rule = option_rule (codes "beside")
 
+-- at or below which path lines are asked for
+abbrev pub below_rule : Rule
+below_rule = option_rule (codes "below")
+
 abbrev pub run_app : Option ValueParser → App
 run_app rules = with_rules (with_rules (new_app (codes "run")) (flag_rule (codes "why") ∷ at_rule ∷ [])) (input_rules rules)
 
@@ -77,7 +81,7 @@ objects_app rules =
     with_rules
     (with_rules (new_app (codes "objects"))
     (flag_rule (codes "ever") ∷ flag_rule (codes "how") ∷ flag_rule (codes "why") ∷ flag_rule (codes "images")
-    ∷ by_default (codes "1") (option_rule (codes "process")) ∷ beside_rule ∷ at_rule ∷ [])) (input_rules rules)
+    ∷ by_default (codes "1") (option_rule (codes "process")) ∷ beside_rule ∷ below_rule ∷ at_rule ∷ [])) (input_rules rules)
 
 abbrev pub why_app : Option ValueParser → Option ValueParser → App
 why_app process rules =

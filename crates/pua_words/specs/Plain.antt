@@ -56,7 +56,7 @@ pub record Meanings (words : List (List ℕ)) (command : Command) : Type 0 where
       ≡ codes "objects"
       ∷ option_if ever (codes "--ever") (option_if how (codes "--how") (option_if why (codes "--why") (value_if at (codes "--at") (tree ∷ script ∷ []))))
       → is_value at ≡ true → is_operand tree ≡ true → is_operand script ≡ true
-      → IsMadeOf tree script at command × (Some command.text ≡ list_meant ever how why false None (One 1))
+      → IsMadeOf tree script at command × (Some command.text ≡ list_meant ever how why false None None (One 1))
   pub of_process : (ever how why : Bool) (process : List ℕ) (at : Option (List ℕ)) (tree script : List ℕ)
       → words
       ≡ codes "objects"
@@ -64,18 +64,25 @@ pub record Meanings (words : List (List ℕ)) (command : Command) : Type 0 where
       (option_if how (codes "--how")
       (option_if why (codes "--why") (codes "--process" ∷ process ∷ value_if at (codes "--at") (tree ∷ script ∷ []))))
       → is_operand process ≡ true → is_value at ≡ true → is_operand tree ≡ true → is_operand script ≡ true
-      → IsMadeOf tree script at command × IsListRead ever how why false None (Some process) command.text
+      → IsMadeOf tree script at command × IsListRead ever how why false None None (Some process) command.text
   pub images : (process : List ℕ) (at : Option (List ℕ)) (tree script : List ℕ)
       → words
       ≡ codes "objects" ∷ codes "--images" ∷ codes "--process" ∷ process ∷ value_if at (codes "--at") (tree ∷ script ∷ [])
       → is_operand process ≡ true → is_value at ≡ true → is_operand tree ≡ true → is_operand script ≡ true
-      → IsMadeOf tree script at command × IsListRead false false false true None (Some process) command.text
+      → IsMadeOf tree script at command × IsListRead false false false true None None (Some process) command.text
   pub beside : (process help : List ℕ) (at : Option (List ℕ)) (tree script : List ℕ)
       → words
       ≡ codes "objects"
       ∷ codes "--ever" ∷ codes "--process" ∷ process ∷ codes "--beside" ∷ help ∷ value_if at (codes "--at") (tree ∷ script ∷ [])
       → is_operand process ≡ true → is_operand help ≡ true → is_value at ≡ true → is_operand tree ≡ true → is_operand script ≡ true
-      → IsMadeOf tree script at command × IsListRead true false false false (Some help) (Some process) command.text
+      → IsMadeOf tree script at command × IsListRead true false false false None (Some help) (Some process) command.text
+  pub below : (process path : List ℕ) (at : Option (List ℕ)) (tree script : List ℕ)
+      → words
+      ≡ codes "objects"
+      ∷ codes "--ever" ∷ codes "--how"
+      ∷ codes "--process" ∷ process ∷ codes "--below" ∷ path ∷ value_if at (codes "--at") (tree ∷ script ∷ [])
+      → is_operand process ≡ true → is_operand path ≡ true → is_value at ≡ true → is_operand tree ≡ true → is_operand script ≡ true
+      → IsMadeOf tree script at command × IsListRead true true false false (Some path) None (Some process) command.text
   pub how : (at : Option (List ℕ)) (tree script call path : List ℕ)
       → words ≡ codes "how" ∷ value_if at (codes "--at") (tree ∷ script ∷ call ∷ path ∷ []) → is_value at ≡ true
       → is_operand tree ≡ true → is_operand script ≡ true → is_operand call ≡ true → is_operand path ≡ true

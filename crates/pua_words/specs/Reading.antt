@@ -1,5 +1,6 @@
 -- What is asked for by what `clap` found.
 use Rattle.std.specs.Prelude.{ℕ, ◌≡◌, ◌↔◌, Bool, List, Option, Some, None, codes, map, option_map, if◌then◌else◌}
+use Rattle.std.specs.Borrow.{Bor}
 use Rattle.clap.specs.Matches.{first_value, one_text}
 use Rattle.clap.specs.Simple.{subcommand_rows_of}
 use Rattle.clap.specs.Walk.{rows_of}
@@ -36,33 +37,40 @@ IsBesideOf None beside = beside ≡ None
 IsBesideOf (Some text) None = ⊥
 IsBesideOf (Some text) (Some processes) = IsTextOf (Some text) processes
 
+-- the path at or below which a list's lines are asked for, if one is
+abbrev pub below_of : Option Text → Option (Bor (List ℕ))
+below_of (Some (text.List words)) = words.below
+below_of _ = None
+
 -- the list of these processes: of now or for ever, with the steps of ways or without, with reasons or without, of what they were
--- before each program that they started or not, and with whose help
-abbrev pub list_meant : Bool → Bool → Bool → Bool → Option Processes → Processes → Option Text
-list_meant ever how why images beside processes =
+-- before each program that they started or not, of all lines or of those at or below a path, and with whose help
+abbrev pub list_meant : Bool → Bool → Bool → Bool → Option (Bor (List ℕ)) → Option Processes → Processes → Option Text
+list_meant ever how why images below beside processes =
     option_map (λ columns. text.List (record {
       whose = processes;
       span = span_meant ever;
       columns = columns;
       images = images;
       beside = beside;
+      below = below;
     })) (columns_meant how why)
 
--- a list is of now or for ever, with the steps of ways, with reasons, and with what processes were before, as it was asked, with the
--- help of the processes that one text has, and of those that the other has
-abbrev pub IsListOf : Bool → Bool → Bool → Bool → Option (List ℕ) → Option (List ℕ) → Text → Type 0
-IsListOf ever how why images help given (text.List words) =
+-- a list is of now or for ever, with the steps of ways, with reasons, and with what processes were before, as it was asked, of the
+-- lines at or below a path that is given, with the help of the processes that one text has, and of those that the other has
+abbrev pub IsListOf : Bool → Bool → Bool → Bool → Option (List ℕ) → Option (List ℕ) → Option (List ℕ) → Text → Type 0
+IsListOf ever how why images below help given (text.List words) =
     (words.span ≡ span_meant ever) × (Some words.columns ≡ columns_meant how why) × (words.images ≡ images) × IsBesideOf help words.beside
-    × IsTextOf given words.whose
-IsListOf ever how why images help given _ = ⊥
+    × IsTextOf given words.whose × (option_map (λ path. path.now) words.below ≡ below)
+IsListOf ever how why images below help given _ = ⊥
 
 -- the same, and where each text is one number or `all`, or there is none of helpers, it is this list and no other
-abbrev pub IsListRead : Bool → Bool → Bool → Bool → Option (List ℕ) → Option (List ℕ) → Text → Type 0
-IsListRead ever how why images help given asked =
-    IsListOf ever how why images help given asked
-    × (help ≡ None → (processes : Processes) → IsListText given processes → Some asked ≡ list_meant ever how why images None processes)
+abbrev pub IsListRead : Bool → Bool → Bool → Bool → Option (List ℕ) → Option (List ℕ) → Option (List ℕ) → Text → Type 0
+IsListRead ever how why images below help given asked =
+    IsListOf ever how why images below help given asked
+    × (help ≡ None → (processes : Processes) → IsListText given processes →
+    Some asked ≡ list_meant ever how why images (below_of (Some asked)) None processes)
     × ((beside : Processes) → IsListText help beside → (processes : Processes) → IsListText given processes →
-    Some asked ≡ list_meant ever how why images (Some beside) processes)
+    Some asked ≡ list_meant ever how why images (below_of (Some asked)) (Some beside) processes)
 
 abbrev pub IsWhyOf : Found → WhyWords → Type 0
 IsWhyOf found words =
@@ -90,7 +98,8 @@ pub record IsReadAs (name : List ℕ) (found : Found) (text : Text) : Type 0 whe
   pub tight : name ≡ codes "tight" → (why : Bool) → IsFlag found (codes "why") why → text ≡ tight_asked why
   pub objects : name ≡ codes "objects" → (ever how why images : Bool) → IsFlag found (codes "ever") ever → IsFlag found (codes "how") how
       → IsFlag found (codes "why") why → IsFlag found (codes "images") images
-      → IsListRead ever how why images (first_value found (codes "beside")) (first_value found (codes "process")) text
+      → IsListRead ever how why images (first_value found (codes "below")) (first_value found (codes "beside"))
+      (first_value found (codes "process")) text
   pub why : name ≡ codes "why" → (words : WhyWords) × (text ≡ Why words) × IsWhyOf found words
   pub how : name ≡ codes "how" → (words : HowWords) × (text ≡ How words) × IsHowOf found words
   pub audit : name ≡ codes "audit" → (words : AuditWords) × (text ≡ Audit words) × IsAuditOf found words

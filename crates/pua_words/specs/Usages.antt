@@ -18,7 +18,7 @@ abbrev pub usage_line_text : UsageLine → List ℕ
 usage_line_text Program =
     codes "pua: usage: pua run [--table FILE] TREE SCRIPT; pua audit --limit N [--process P] [--base root|cwd] [--after CALL:PATH] [--table FILE] TREE SCRIPT [NAME...]"
 usage_line_text Objects =
-    codes "pua: usage: pua objects [--ever] [--how|--why] [--images] [--process P,...|all] [--beside Q,...|all] [--at N] [--rules profile|openbsd] [--table FILE] TREE SCRIPT"
+    codes "pua: usage: pua objects [--ever] [--how|--why] [--images] [--process P,...|all] [--beside Q,...|all] [--below PATH] [--at N] [--rules profile|openbsd] [--table FILE] TREE SCRIPT"
 usage_line_text Why = codes "pua: usage: pua why [--process P] [--at N] [--rules profile|openbsd] [--table FILE] TREE SCRIPT CALL [ARG...]"
 usage_line_text Tree = codes "pua: usage: pua tree [--at N] [--rules profile|openbsd] [--table FILE] TREE SCRIPT"
 usage_line_text Tight = codes "pua: usage: pua tight [--why] [--rules profile|openbsd] [--table FILE] TREE SCRIPT"

@@ -36,7 +36,7 @@ pub enum Text<'a> {
     Audit(AuditWords<'a>),
     /// The same as a run's, or with reasons, and then what processes may still do, object by
     /// object, now or for ever.
-    List(ListWords),
+    List(ListWords<'a>),
     /// The listing of the tree that the script leaves.
     Tree,
     /// The script, without the promises and letters that none of its answers needs.
@@ -108,7 +108,7 @@ pub enum Columns {
 
 /// What a list is asked for, besides its inputs.
 #[derive(Drop)]
-pub struct ListWords {
+pub struct ListWords<'a> {
     /// The processes.
     pub whose: Processes,
     /// Of which time it is.
@@ -119,6 +119,9 @@ pub struct ListWords {
     pub images: bool,
     /// With whose help each process is listed, if it is asked with that of others.
     pub beside: Option<Processes>,
+    /// At or below which path lines are asked for, as it was given, if not all are: it need be no
+    /// path.
+    pub below: Option<&'a [u8]>,
 }
 
 /// To which call a way is asked for, and on what, besides the inputs.

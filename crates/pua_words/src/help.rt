@@ -6,7 +6,7 @@ pub(crate) const PROGRAM_USAGE: &str =
 
 /// How a list of objects is asked for, of now or for ever, in one line.
 pub(crate) const OBJECTS_USAGE: &str =
-    "pua: usage: pua objects [--ever] [--how|--why] [--images] [--process P,...|all] [--beside Q,...|all] [--at N] [--rules profile|openbsd] [--table FILE] TREE SCRIPT";
+    "pua: usage: pua objects [--ever] [--how|--why] [--images] [--process P,...|all] [--beside Q,...|all] [--below PATH] [--at N] [--rules profile|openbsd] [--table FILE] TREE SCRIPT";
 
 /// How it is asked why a request is answered as it is, in one line.
 pub(crate) const WHY_USAGE: &str =
@@ -85,6 +85,8 @@ pub(crate) const PROCESSES: &str = "Process number, 1 to 999999, or `all`";
 
 pub(crate) const BESIDE: &str = "With the help of these, with --ever";
 
+pub(crate) const BELOW: &str = "Only lines at or below it, with --ever --how";
+
 pub(crate) const BASE: &str = "Where paths begin";
 
 pub(crate) const AFTER: &str = "Print only what comes after this pair";
@@ -102,7 +104,8 @@ TREE has a line for each directory, file, program and link; numbers rise:
 A line is NUMBER KIND PARENT NAME, and for a link its target after the name.
 A `hard` line is a further name, here /users, of the node of an earlier line.
 After `tree 3` a `file` is a plain file, and there are `sock`, `fifo` and `dev`
-lines, and `any` for what may be any of these, as `file` may after the others.
+lines, `any` for what may be any of these, as `file` may after the others, and
+`mount` for a directory where another file system is mounted.
 
 SCRIPT has a line for each call: a process, the call, and its arguments.
   1 unveil /etc r
@@ -358,6 +361,8 @@ about has one column more: each of these calls with the number of steps of a way
 to it, as `open-w 2,chmod 2`; ? where none is found. `pua how` with this CALL,
 PATH and KIND prints a way. A list of now has no such column, since each of its
 calls comes in one step, and one of several has none, since a way is of one.
+With `--below PATH`, a path as the list has it, the list has only the lines of
+PATH and of what is below it, none of `new`; ways are looked for to these alone.
 
 With `--why` an answer that is not ok has its reason, as of `pua run --why`, and
 behind CALLS a line has `PROMISES PLACE LETTERS LINE`: the promises by which
@@ -380,7 +385,12 @@ Example: pua objects --process all TREE SCRIPT",
                        `--ever` of several is for processes of the same veils
   objects: no list ..  `--how` is for `--ever` of one process, and so is `--why`
                        with `--ever`; `--images` goes with none of the three,
-                       and `--beside` with `--ever` alone"
+                       `--beside` with `--ever` alone, `--below` with both
+                       `--ever` and `--how`
+  objects: bad path    PATH of `--below` is not as lists have it
+  objects: no such path
+                       nothing stands at PATH of `--below`, nor has its name a
+                       veil"
 );
 
 pub(crate) const AUDIT_OUTPUT: &str = with_calls_and_faults!(

@@ -20,7 +20,8 @@ ghost use Rattle.pua_words.specs.Grammar.{operands_rule, option_rule, process_ru
 ghost use Rattle.pua_words.specs.Grammar.{pua_app, required, run_app, tight_app, tree_app};
 ghost use Rattle.pua_words.specs.Grammar.{limit_rule, walk_rules, why_app, with_rules};
 ghost use Rattle.pua_words.specs.Reading.{IsAuditOf, IsCommandOf, IsFlag, IsListOf, IsListText};
-ghost use Rattle.pua_words.specs.Reading.{HasInputsOf, IsBesideOf, IsReadAs, IsWhyOf, list_meant};
+ghost use Rattle.pua_words.specs.Reading.{HasInputsOf, IsBesideOf, IsReadAs, IsWhyOf, below_of};
+ghost use Rattle.pua_words.specs.Reading.{list_meant};
 ghost use Rattle.pua_words.specs.declared.command.AuditWords.{AuditWords};
 ghost use Rattle.pua_words.specs.declared.command.Text.TheVariants.{Audit, Why};
 ghost use Rattle.pua_words.specs.declared.command.WhyWords.{WhyWords};
@@ -72,11 +73,12 @@ impl From<AllocError> for Stop {
 /// Where words in a plain form are a command, it is the one that they name, of the inputs that they
 /// name, by the standard rules: `run` and `tight`, with `--why` or without; `tree`; `objects`, with
 /// `--ever`, `--how` and `--why` or without, of process 1, or after these `--process` with a
-/// number, several, or `all`; `objects --images --process` with the same, and `objects --ever
-/// --process` with it and then `--beside` with it; `why` and `how`, of process 1, with the call and
-/// what stands after it; and `audit --limit N`, of process 1, from the root, with the names after
-/// it. In each but `tight` the last option may be `--at` with a line's number, 0 to 999,999 in
-/// decimal. There each word beside the options begins with no hyphen.
+/// number, several, or `all`; `objects --images --process` with the same, `objects --ever
+/// --process` with it and then `--beside` with it, and `objects --ever --how --process` with it and
+/// then `--below` with a path; `why` and `how`, of process 1, with the call and what stands after
+/// it; and `audit --limit N`, of process 1, from the root, with the names after it. In each but
+/// `tight` the last option may be `--at` with a line's number, 0 to 999,999 in decimal. There each
+/// word beside the options begins with no hyphen.
 pub fn read_words<'a>(alloc: Global, words: &'a [&'a str]) -> Result<Command<'a>, Stop>
     ensures process { IfOk result (λ command. AsksSoundly command.text) }
     ensures stop { IfErr result (IsStop (map (λ word. word.now) words.now)) }
@@ -205,6 +207,7 @@ fn objects_command<'a>(alloc: Global) -> Built<'a>
     let objects = with(objects, flag(alloc, "images", help::IMAGES));
     let objects = with(objects, processes(alloc));
     let objects = with(objects, beside(alloc));
+    let objects = with(objects, option(alloc, "below", "PATH", help::BELOW));
     with_inputs(alloc, with(objects, at(alloc)))
 }
 
@@ -530,7 +533,8 @@ fn read_objects<'a>(alloc: Global, found: &ArgMatches<'a>) -> Result<Option<Text
         → IsFlag (found_of found.now) (codes "images") images
         → first_value (found_of found.now) (codes "beside") ≡ None → (processes : Processes)
         → IsListText (first_value (found_of found.now) (codes "process")) processes
-        → IfOk result (λ text. text ≡ list_meant ever how why images None processes) }
+        → IfOk result (λ text.
+        text ≡ list_meant ever how why images (below_of text) None processes) }
     ensures helped { (ever how why images : Bool) → IsFlag (found_of found.now) (codes "ever") ever
         → IsFlag (found_of found.now) (codes "how") how
         → IsFlag (found_of found.now) (codes "why") why
@@ -539,13 +543,15 @@ fn read_objects<'a>(alloc: Global, found: &ArgMatches<'a>) -> Result<Option<Text
         → IsListText (first_value (found_of found.now) (codes "beside")) beside
         → (processes : Processes)
         → IsListText (first_value (found_of found.now) (codes "process")) processes
-        → IfOk result (λ text. text ≡ list_meant ever how why images (Some beside) processes) }
+        → IfOk result (λ text.
+        text ≡ list_meant ever how why images (below_of text) (Some beside) processes) }
     ensures form { (ever how why images : Bool) → IsFlag (found_of found.now) (codes "ever") ever
         → IsFlag (found_of found.now) (codes "how") how
         → IsFlag (found_of found.now) (codes "why") why
         → IsFlag (found_of found.now) (codes "images") images
         → IfOk result (λ text. IfSome text
-        (IsListOf ever how why images (first_value (found_of found.now) (codes "beside"))
+        (IsListOf ever how why images (first_value (found_of found.now) (codes "below"))
+        (first_value (found_of found.now) (codes "beside"))
         (first_value (found_of found.now) (codes "process")))) }
 {
     let columns = columns_of(flag_of(found, "how"), flag_of(found, "why"));
@@ -561,6 +567,7 @@ fn read_objects<'a>(alloc: Global, found: &ArgMatches<'a>) -> Result<Option<Text
         columns,
         images: flag_of(found, "images"),
         beside,
+        below: found.get_str("below").map(|path| path.as_bytes()),
     })))
 }
 

@@ -46,10 +46,10 @@ my %TEXT = (LONG => '/a' x 511 . '/b', COMPONENT => 'c' x 256);
 
 # A tree with a chain of 33 links, and a script that has a reason of each kind but of a full tree, table and
 # world.
-my @CHAIN = map { ($_ + 10) . " link 0 l$_ " . ($_ < 33 ? 'l' . ($_ + 1) : 'a') } 1 .. 33;
+my @CHAIN = map { ($_ + 20) . " link 0 l$_ " . ($_ < 33 ? 'l' . ($_ + 1) : 'a') } 1 .. 33;
 my @FIRST = (
     'tree 3', '0 dir', '1 dir 0 a', '2 file 1 b', '3 dir 0 e', '4 file 0 f', '5 dir 0 g', '6 prog 0 p', '7 sock 0 s',
-    '8 fifo 0 i', '9 dev 0 d',
+    '8 fifo 0 i', '9 dev 0 d', '10 mount 0 m', '11 mount 10 n', '12 file 10 f', '13 dir 10 e',
 );
 my $TREE  = join "\n", @FIRST, @CHAIN, '';
 my @EACH_KIND = (
@@ -59,6 +59,8 @@ my @EACH_KIND = (
     'create COMPONENT', 'symlink COMPONENT /x', 'link COMPONENT /x', 'stat /l1', 'stat /l2', 'rename /l1/b /x',
     'readlink /f', 'exec /f', 'exec /a', 'exec /s', 'exec /i', 'exec /d', 'open-r /s', 'chdir /f', 'open-w /a',
     'unlink /a', 'link /a /x', 'rename /f /a', 'rename /a /f', 'mkdir /a', 'mkdir /', 'link /f /a', 'rename /x /y', 'rename /x/y /f', 'link /f /f/x', 'fork 2',
+    'rmdir /m', 'unlink /m/n', 'rename /m /x', 'rename /e /m', 'rename /f /m/x', 'rename /m/e /e', 'link /m/f /x', 'rename /m /f',
+    'link /f /m/e', 'rename /f /m/n', 'rename /m/n /m/x',
     'chdir /e', "stat x\n2 rmdir /e", 'stat x', 'rename x /y', 'rename /f y', 'chdir /',
     'unveil /a rw', 'unveil /a/b =', 'unveil /a rwxc', 'stat /f', 'rename /f /a/x', 'rename /a/x /f', 'open-rw /a/b',
     'create /a/x', 'rename /a/b /a/x', 'stat /a', 'unveil /g rwxc', 'create /g/x', 'link /g/x /g/y',

@@ -38,6 +38,8 @@ my @KINDS = (
     [ 'no program',      qr/EACCES/,        qr/($PATH) is no program/ ],
     [ 'socket',          qr/EOPNOTSUPP/,    qr/($PATH) is a socket/ ],
     [ 'no socket',       qr/ENOTSOCK/,      qr/($PATH) is no socket/ ],
+    [ 'mount point',     qr/EBUSY/,         qr/($PATH) is a mount point/ ],
+    [ 'elsewhere',       qr/EXDEV/,         qr/($PATH) is on another file system/ ],
     [ 'not empty',       qr/ENOTEMPTY/,     qr/($PATH) is not empty/ ],
     [ 'dots',            qr/EINVAL/,        qr/path ends in (\.\.?)/ ],
     [ 'no component',    qr/EBUSY/,         qr/path has no component/ ],
@@ -145,6 +147,18 @@ sub state_of {
 sub things {
     my ($world, $script) = @_;
     return $world->_lists($script)->{ +OBSERVER }{things};
+}
+
+# The paths of the mount points behind a script, by the listing of the tree that it leaves.
+sub mounts {
+    my ($world, $script) = @_;
+    my ($path, @mounts) = ({ 0 => '' });
+    for my $line ($world->lines_of($script, 'tree')) {
+        my ($number, $kind, $dir, $name) = split / /, $line;
+        $path->{$number} = "$path->{$dir}/$name" if defined $name;
+        push @mounts, $path->{$number} if $kind eq 'mount';
+    }
+    return @mounts;
 }
 
 # The lists of all processes behind a script, by their numbers: the state of each, and things, its objects.

@@ -62,7 +62,7 @@ sub tree_of {
     for my $line (@lines) {
         my ($number, $kind, $parent, $name, $end) = split / /, $line;
         die "no line of a listing: $line\n"
-            if !defined $name || $kind !~ /\A(?:dir|file|any|sock|fifo|dev|prog|link|hard)\z/;
+            if !defined $name || $kind !~ /\A(?:dir|mount|file|any|sock|fifo|dev|prog|link|hard)\z/;
         if ($kind eq 'hard') { $number = $end; $tree->{names}{$end}++ }
         else { $tree->{node}{$number} = [$kind, defined $end ? bytes($end) : undef] }
         push @{ $tree->{in}{$parent} }, [bytes($name), $number];
@@ -87,6 +87,7 @@ sub make {
     return mkfifo($name, 0644) || die "$name: $!\n" if $kind eq 'fifo';
     return bound($name) if $kind eq 'sock';
     die "$name: no device is made here\n" if $kind eq 'dev';
+    die "$name: no file system is mounted here\n" if $kind eq 'mount';
     my $mode = $kind eq 'prog' ? 0755 : 0644;
     sysopen my $out, $name, O_WRONLY | O_CREAT, $mode or die "$name: $!\n";
     print {$out} "\001\n" if $kind eq 'prog';

@@ -17,13 +17,13 @@ impl Search<'_, '_> {
     /// Whether what stands there can be removed, once it is empty.
     pub(crate) fn is_removable(&self, draft: &Draft, row: &Row) -> bool {
         let need = self.planner.call(row.remover());
-        need.is_met(&row.cover) && !self.is_kept(draft, row)
+        need.is_met(&row.cover) && !row.is_mount() && !self.is_kept(draft, row)
     }
 
     /// Whether what stands there can be moved.
     pub(crate) fn is_movable(&self, row: &Row) -> bool {
         let gives = self.planner.gives(By::Rename, false);
-        gives.is_met(&row.cover)
+        gives.is_met(&row.cover) && !row.is_mount()
     }
 
     /// Frees a name with a veil of its own for what comes there: a directory or not, and how. What
@@ -97,7 +97,7 @@ impl Search<'_, '_> {
         if !self.is_movable(row) {
             return Ok(false);
         }
-        let room = match self.room(draft) {
+        let room = match self.room(draft, row.device) {
             Err(DraftFault::NoWay) => return Ok(false),
             room => room?,
         };

@@ -5,7 +5,7 @@ use crate::plan::Search;
 use crate::plan::planner::{By, Need, Veil};
 use crate::step::{At, Dir, Step};
 use pua_calls::Call;
-use pua_tree::Name;
+use pua_tree::{Name, NodeId};
 use std::alloc::{AllocError, Global};
 use std::ops::Range;
 
@@ -105,23 +105,25 @@ impl Search<'_, '_> {
         Err(DraftFault::NoWay)
     }
 
-    /// To where what stands in the way can be moved: a directory from where it could be moved on,
-    /// or any, or else a name with a veil of its own.
-    pub(crate) fn room(&self, draft: &mut Draft) -> Result<At, DraftFault> {
+    /// To where what stands in the way can be moved on its device: a directory from where it could
+    /// be moved on, or any, or else a name with a veil of its own.
+    pub(crate) fn room(&self, draft: &mut Draft, device: NodeId) -> Result<At, DraftFault> {
         let takes = self.planner.takes(By::Rename);
         let gives = self.planner.gives(By::Rename, false);
-        self.put(draft, &gives.and(takes), &takes, true)
+        self.put(draft, &gives.and(takes), &takes, true, Some(device))
     }
 
-    /// Makes something that meets a need: in the nearest directory, or else, if it is none itself,
-    /// at a name with a veil of its own, which a directory doesn't take over.
+    /// Makes something that meets a need, on a device if one is given: in the nearest directory, or
+    /// else, if it is none itself, at a name with a veil of its own, which a directory doesn't take
+    /// over.
     pub(crate) fn make(
         &self,
         draft: &mut Draft,
         call: Call,
         need: &Need,
+        on: Option<NodeId>,
     ) -> Result<At, DraftFault> {
-        let at = self.put(draft, need, need, call != Call::Mkdir)?;
+        let at = self.put(draft, need, need, call != Call::Mkdir, on)?;
         draft.call(call, &at)?;
         Ok(at)
     }
@@ -135,10 +137,11 @@ impl Search<'_, '_> {
         both: &Need,
         need: &Need,
         names: bool,
+        on: Option<NodeId>,
     ) -> Result<At, DraftFault> {
         let closed = draft.closed.as_slice();
-        let dir = self.planner.nearest(closed, both);
-        if let Some(dir) = dir.or(self.planner.nearest(closed, need)) {
+        let dir = self.planner.nearest(closed, both, &on);
+        if let Some(dir) = dir.or(self.planner.nearest(closed, need, &on)) {
             draft.kept = draft.kept.or(Some(dir.place));
             return self.new_in(draft, dir.inside());
         }
@@ -146,6 +149,7 @@ impl Search<'_, '_> {
             let row = &veil.row;
             let is_unlinked = !row.is_dir() && self.is_removable(draft, row);
             (names && (row.node.is_none() || is_unlinked))
+                && on.is_none_or(|device| row.over == device)
                 && need.is_met(&veil.cover)
                 && is_open(draft.closed.as_slice(), row.place)
         };

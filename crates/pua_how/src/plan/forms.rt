@@ -15,6 +15,16 @@ pub(crate) enum Origin<'p> {
     Made(Call),
 }
 
+impl Origin<'_> {
+    /// The device of what stands; None of what is made.
+    pub(crate) fn device(self) -> Option<NodeId> {
+        match self {
+            Origin::Standing(row) => Some(row.device),
+            Origin::Made(_) => None,
+        }
+    }
+}
+
 /// In what it comes: by itself, in the directory in which its name is, or in one that is made.
 #[derive(Clone, Copy, PartialEq, Eq)]
 pub(crate) enum Carrier {
@@ -61,6 +71,23 @@ impl<'p> Form<'p> {
         match self.from {
             Origin::Standing(row) => row.is_dir(),
             Origin::Made(call) => call == Call::Mkdir,
+        }
+    }
+
+    /// The device of what comes to the destination; None where it is made there.
+    pub(crate) fn device(&self) -> Option<NodeId> {
+        match (self.from, self.carrier) {
+            (Origin::Standing(row), Carrier::Parent) => Some(row.over),
+            (from, _) => from.device(),
+        }
+    }
+
+    /// The device to which it comes; None where it stays.
+    fn device_there(&self) -> Option<NodeId> {
+        match self.to {
+            Destination::Here => None,
+            Destination::Inside(room) => Some(room.device),
+            Destination::Name(veil) => Some(veil.row.over),
         }
     }
 
@@ -169,7 +196,9 @@ impl Search<'_, '_> {
             (Some(from), _, _) => Ok(from),
             (None, Origin::Standing(row), _) => Ok(row.at()),
             (None, Origin::Made(_), By::Call(_)) => Ok(At::Directory(NodeId::ROOT)),
-            (None, Origin::Made(call), by) => self.make(draft, call, &self.sends(call, by)),
+            (None, Origin::Made(call), by) => {
+                self.make(draft, call, &self.sends(call, by), form.device_there())
+            }
         }
     }
 
@@ -193,7 +222,7 @@ impl Search<'_, '_> {
     fn load(&self, draft: &mut Draft, form: &Form<'_>) -> Result<(At, Option<At>), DraftFault> {
         let takes = self.planner.takes(form.by);
         let need = self.sends(Call::Mkdir, By::Rename).and(takes);
-        let carrier = self.make(draft, Call::Mkdir, &need)?;
+        let carrier = self.make(draft, Call::Mkdir, &need, form.device_there())?;
         let from = self.origin(draft, form)?;
         let thing = self.new_in(draft, Dir::Made)?;
         draft.bring(form.by, &from, &thing)?;

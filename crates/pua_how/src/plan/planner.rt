@@ -27,6 +27,9 @@ pub(crate) struct Row {
     pub(crate) object: Object,
     /// What the veils leave of it.
     pub(crate) cover: Cover,
+    /// The device of what stands there, and that of the name: of a mount point these are two.
+    pub(crate) device: NodeId,
+    pub(crate) over: NodeId,
 }
 
 /// A veil at a name, or at the directory that stands there.
@@ -69,6 +72,11 @@ pub struct Planner<'t> {
 impl Row {
     pub(crate) fn is_dir(&self) -> bool {
         self.remover() == Call::Rmdir
+    }
+
+    /// Whether another file system is mounted there.
+    pub(crate) fn is_mount(&self) -> bool {
+        self.device != self.over
     }
 
     /// The call that removes what stands there.
@@ -120,10 +128,8 @@ fn rows_of<T: FileTree>(
     is_closed: bool,
 ) -> Result<Vec<Row>, AllocError> {
     let mut rows = Vec::with_capacity(alloc, items.len())?;
+    let mut devices = Vec::new(alloc);
     for item in items {
-        if is_closed && !item.inside {
-            continue;
-        }
         let (node, dir) = match item.item.subject {
             Subject::Root => (Some(NodeId::ROOT), NodeId::ROOT),
             Subject::Others(_) => continue,
@@ -131,17 +137,36 @@ fn rows_of<T: FileTree>(
             Subject::Name(dir, name) => (tree.look(dir, name), dir),
         };
         let name = item.name().copied();
+        let depth = item.depth.saturating_add(usize::from(name.is_some()));
+        // Those of the directories above it.
+        devices.truncate(depth);
+        let over = devices.last().copied().unwrap_or(NodeId::ROOT);
+        let device = device_at(tree, &node, over);
+        devices.push(device)?;
+        if is_closed && !item.inside {
+            continue;
+        }
         rows.push(Row {
             place: rows.len(),
-            depth: item.depth.saturating_add(usize::from(name.is_some())),
+            depth,
             dir,
             name,
             node,
             object: item.item.object,
             cover: item.item.cover,
+            device,
+            over,
         })?;
     }
     Ok(rows)
+}
+
+/// The device of what stands at a name, by that of the name.
+fn device_at<T: FileTree>(tree: &T, node: &Option<NodeId>, over: NodeId) -> NodeId {
+    match node {
+        Some(node) if tree.is_mount(*node) => *node,
+        _ => over,
+    }
 }
 
 /// The veils of a process, but for that of the root and those at what neither stands nor could.
@@ -201,10 +226,16 @@ impl<'t> Planner<'t> {
         })
     }
 
-    /// The nearest directory that meets a need and is at none of the closed places: of equally near
-    /// ones that of the lowest number.
-    pub(crate) fn nearest(&self, closed: &[Range<usize>], need: &Need) -> Option<&Row> {
-        let dirs = self.rows.iter().filter(|row| row.is_dir());
+    /// The nearest directory that meets a need and is at none of the closed places, on a device if
+    /// one is given: of equally near ones that of the lowest number.
+    pub(crate) fn nearest(
+        &self,
+        closed: &[Range<usize>],
+        need: &Need,
+        on: &Option<NodeId>,
+    ) -> Option<&Row> {
+        let here = |row: &&Row| on.is_none_or(|device| row.device == device);
+        let dirs = self.rows.iter().filter(|row| row.is_dir()).filter(here);
         let fitting = dirs.filter(|row| need.is_met(&row.cover) && is_open(closed, row.place));
         fitting.min_by_key(|row| (row.depth, row.node))
     }

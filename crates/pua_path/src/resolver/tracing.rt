@@ -8,9 +8,8 @@ ghost use Rattle.pua_path.specs.Walks.{stop_at};
 use super::{Resolving, start_of};
 use crate::errno::Errno;
 use crate::found::{Found, Last, Start};
-use crate::limits::MOST_LINKS;
 use crate::probe::Probe;
-use crate::rest::Rest;
+use crate::rest::{LinksLeft, Rest};
 use crate::text::PathText;
 use crate::traced::{Links, PathFault, Spot, Stop};
 use pua_tree::LentName;
@@ -36,12 +35,12 @@ pub fn trace<'t, P: Probe<'t>>(
     let Some(start) = start_of(probe, from, text.bytes()) else {
         return Err(PathFault::NoStart);
     };
-    let mut walk = Resolving::new(start, MOST_LINKS, Rest::of_text(text));
+    let mut walk = Resolving::new(start, Rest::of_text(text, LinksLeft::ALL));
     while let Some(piece) = walk.rest.next() {
         let dir = walk.here;
-        let left = walk.left;
+        let left = walk.rest.left();
         match walk.enter_piece(probe, piece, mode) {
-            Ok(None) if walk.left < left => {
+            Ok(None) if walk.rest.left() < left => {
                 let name = LentName { bytes: piece.bytes };
                 links.spots.push_reserved((dir, name.name()));
             }

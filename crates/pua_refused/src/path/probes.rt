@@ -98,6 +98,15 @@ fn probe_empty_turned(tree: &ListTree, dir: NodeId) {
     }
 }
 
+/// A directory is a mount point, and empty, where the tree says so.
+fn probe_vacancy_turned(tree: &ListTree, dir: NodeId) {
+    let mut probe = Counted::new(tree);
+    let vacancy = probe.vacancy(dir);
+    if vacancy.mount != tree.is_mount(dir) || vacancy.empty != tree.is_empty(dir) {
+        unreachable!()
+    }
+}
+
 /// All names of the tree are handed over.
 fn probe_names_lost(alloc: Global, tree: &ListTree) {
     let mut probe = Counted::new(tree);

@@ -132,6 +132,26 @@ fn beneath_its_parent_alone(alloc: Global) {
     }
 }
 
+/// A directory below a mount point is none itself.
+fn mount_below_a_mount(alloc: Global) {
+    let Ok(tree) = read_listing(alloc, b"tree 3\n0 dir\n1 mount 0 a\n2 dir 1 b\n") else {
+        return;
+    };
+    if !tree.is_mount(NodeId::new(1)) || tree.is_mount(NodeId::new(2)) {
+        unreachable!()
+    }
+}
+
+/// A directory below a mount point is on its file system.
+fn device_of_the_node_alone(alloc: Global) {
+    let Ok(tree) = read_listing(alloc, b"tree 3\n0 dir\n1 mount 0 a\n2 dir 1 b\n") else {
+        return;
+    };
+    if tree.device(NodeId::new(2)) != NodeId::new(1) {
+        unreachable!()
+    }
+}
+
 /// A name is a row, and the root has none.
 fn root_counted_as_row(alloc: Global) {
     let Ok(tree) = read_listing(alloc, b"tree 1\n0 dir\n1 file 0 a\n") else {

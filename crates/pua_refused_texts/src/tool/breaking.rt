@@ -24,7 +24,7 @@ impl Sink for Taking {
 }
 
 /// Where no put fails, no list of processes is cut short by a put that failed.
-fn spurious_write_fault(alloc: Global, tree: &[u8], script: &[u8], list: &ListWords) {
+fn spurious_write_fault(alloc: Global, tree: &[u8], script: &[u8], list: &ListWords<'_>) {
     let mut sink = Taking;
     let table = TableChoice::STANDARD;
     let written = list_to(alloc, tree, script, table, list, &mut sink);

@@ -4,6 +4,8 @@ use Rattle.std.specs.Borrow.{Bor}
 use Rattle.pua_ever.specs.Comings.{GivesWay, around, at_name, inside, places_kept}
 use Rattle.pua_ever.proofs.ComingPlaces.{ways_given}
 use Rattle.pua_ever.proofs.Opened.{opened}
+use Rattle.pua_ever.proofs.Common.{None}
+use Rattle.pua_ever.proofs.Found.{found_so}
 use Rattle.pua_ever.proofs.Under.{any_same}
 use Rattle.pua_ever.proofs.comings.find_comings.Goals as goal
 
@@ -27,5 +29,7 @@ returns g c =
       insides = c.in_ok-insides.ensures ∙ ap (filter_map (inside t h)) (kept c.deref-3.result.now c.deref-3.ensures.value);
       arounds = c.in_ok-arounds.ensures gives well ∙ ap (filter_map (around t h)) (kept c.deref-5.result.now c.deref-5.ensures.value);
       moves = c.moves_any.ensures ∙ ap (list_any (can_move c.args.table.now h)) c.deref-6.ensures.value
-          ∙ any_same (can_move c.args.table.now h) c.in_ok-found.found.dirs.items (open_covers t h) c.in_ok-found.ensures.open;
+          ∙ any_same (can_move c.args.table.now h) c.in_ok-covers.covers.dirs.items (open_covers t h None)
+          (found_so t h None c.in_ok-found.found c.in_ok-covers.covers c.in_ok-found.ensures.covers (λ found e. cc)
+          c.in_ok-covers.ensures.dirs c.in_ok-covers.ensures.entrances c.in_ok-covers.ensures.names).2;
     }

@@ -1,6 +1,8 @@
 use Rattle.pua_ever.proofs.Common.{◌≡◌, [], ◌∷◌, ◌++◌, map, sym, ap, subst, ◌∙◌, filter_map, not, ◌==◌, if◌then◌else◌, list_any}
 use Rattle.pua_ever.proofs.Common.{Tree, WellFormed, ProcessState, has_veil, All, dir_covers, name_covers, dir_destination, name_destination}
 use Rattle.pua_ever.proofs.Common.{opened_dir, held_dir, entrance_cover, open_covers, HaveSame}
+use Rattle.std.proofs.lemmas.List.Elements.{filter_map-append}
+use Rattle.pua_ever.specs.Destinations.{cover_on, covers_on}
 use Rattle.pua_ever.proofs.Opened.{places_of, held, empties}
 use Rattle.pua_ever.proofs.DestinationCovers.{own_covers, entrances, dirs_same, names_same, open_same}
 use Rattle.pua_ever.proofs.destinations.find_destinations.Goals as goal
@@ -21,7 +23,7 @@ module _ (g : Over) (c : After-drop-places g) where
   places = ap (map (λ place. place.now)) c.deref.ensures.value ∙ c.in_ok-places.ensures
 
   dirs : c.in-Ok.found.dirs.items ≡ own_covers t h well
-  dirs = c.in-Ok.ensures.dirs ∙ (λ i. filter_map (dir_destination t h) (places i) ++ (if has_veil h.veils then [] else All ∷ []))
+  dirs = c.in-Ok.ensures.dirs ∙ (λ i. filter_map (dir_destination t h) (places i) ++ (if has_veil h.veils then [] else (0, All) ∷ []))
 
   stays : c.in-Ok.found.held.items ≡ held t h well
   stays = c.in-Ok.ensures.held ∙ ap (filter_map (held_dir t h)) places
@@ -33,20 +35,19 @@ module _ (g : Over) (c : After-drop-places g) where
   names : c.in-Ok.found.names.items ≡ filter_map (name_destination t h) (places_of h)
   names = c.in-Ok.ensures.names ∙ ap (filter_map (name_destination t h)) places
 
-pub returns-in-Ok-clause-dirs : goal.returns-in-Ok-clause-dirs
-returns-in-Ok-clause-dirs g c =
-    let both : c.in-Ok.found.dirs.items ++ c.in-Ok.found.entrances.items ≡ own_covers (t g c) (h g c) (well g c)
-    ++ entrances (t g c) (h g c) (well g c)
-    = (λ i. dirs g c i ++ ways g c i) in
-    subst (λ xs. HaveSame xs (dir_covers (t g c) (h g c))) (sym both) (dirs_same (t g c) (h g c) (well g c) c.known-2.ensures)
-
-pub returns-in-Ok-clause-names : goal.returns-in-Ok-clause-names
-returns-in-Ok-clause-names g c =
-    subst (λ xs. HaveSame xs (name_covers (t g c) (h g c))) (sym (names g c)) (names_same (t g c) (h g c) (well g c) c.known-2.ensures)
-
-pub returns-in-Ok-clause-open : goal.returns-in-Ok-clause-open
-returns-in-Ok-clause-open g c =
-    subst (λ xs. HaveSame xs (open_covers (t g c) (h g c))) (sym (dirs g c)) (open_same (t g c) (h g c) (well g c))
+pub returns-in-Ok-clause-covers : goal.returns-in-Ok-clause-covers
+returns-in-Ok-clause-covers g c = record {
+  dirs = λ on put.
+      subst (λ xs. HaveSame xs (dir_covers (t g c) (h g c) on))
+      (filter_map-append (cover_on on) (own_covers (t g c) (h g c) (well g c)) (entrances (t g c) (h g c) (well g c))
+      ∙ sym (λ i. covers_on on (dirs g c i) ++ covers_on on (ways g c i)))
+      (dirs_same (t g c) (h g c) (well g c) c.known-2.ensures on put);
+  names = λ on.
+      subst (λ xs. HaveSame (covers_on on xs) (name_covers (t g c) (h g c) on)) (sym (names g c))
+      (names_same (t g c) (h g c) (well g c) c.known-2.ensures on);
+  opens = λ on put.
+      subst (λ xs. HaveSame (covers_on on xs) (open_covers (t g c) (h g c) on)) (sym (dirs g c)) (open_same (t g c) (h g c) (well g c) on put);
+}
 
 pub returns-in-Ok-clause-held : goal.returns-in-Ok-clause-held
 returns-in-Ok-clause-held g c = λ dir is has.

@@ -13,10 +13,10 @@ returns-clause-dirs g c =
     elim c.if-not-is_veiled.branch [
       | then-not-is_veiled+in_ok-push w ↦
           let none : has_veil c.args.process.now.veils ≡ false = sym c.is_veiled.ensures ∙ w.if-not-is_veiled.true in
-          ap (λ v. v.items) w.dirs-is ∙ w.in_ok-push.ensures.items ∙ (λ i. own i ++ (if sym none i then [] else All ∷ []))
+          ap (λ v. v.items) w.dirs-is ∙ w.in_ok-push.ensures.items ∙ (λ i. own i ++ (if sym none i then [] else (0, All) ∷ []))
       | else-not-is_veiled w ↦
           let some : has_veil c.args.process.now.veils ≡ true = sym c.is_veiled.ensures ∙ w.if-not-is_veiled.false in
-          ap (λ v. v.items) w.dirs-is ∙ sym (append-nil c.in_ok-dirs.dirs.items) ∙ (λ i. own i ++ (if sym some i then [] else All ∷ []))
+          ap (λ v. v.items) w.dirs-is ∙ sym (append-nil c.in_ok-dirs.dirs.items) ∙ (λ i. own i ++ (if sym some i then [] else (0, All) ∷ []))
     ]
 
 pub returns-clause-entrances : goal.returns-clause-entrances

@@ -1,6 +1,10 @@
+use Rattle.pua_ever.proofs.Common.{None}
+use Rattle.pua_ever.proofs.Found.{found_so}
 use Rattle.pua_ever.proofs.movable.find_movable.Goals as goal
 
 pub returns : goal.returns
 returns g c =
-    let found = c.in_ok-found.ensures in
-    c.calls_by_object.ensures (g.T.FileTree.content c.args.tree.now) found.dirs found.names found.open
+    let t = g.T.FileTree.content c.args.tree.now in
+    let so = found_so t c.args.process.now None c.in_ok-found.found c.in_ok-covers.covers c.in_ok-found.ensures.covers (λ found e. cc)
+    c.in_ok-covers.ensures.dirs c.in_ok-covers.ensures.entrances c.in_ok-covers.ensures.names in
+    c.calls_by_object.ensures t None so.0 so.1 so.2

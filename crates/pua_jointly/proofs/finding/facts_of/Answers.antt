@@ -3,7 +3,7 @@ use Rattle.std.specs.Prelude.{◌*◌}
 use Rattle.std.proofs.Math.Nat.{mul_comm}
 use Rattle.pua_jointly.specs.JointFound.{AreMarked, turns_in}
 use Rattle.pua_jointly.specs.JointRounds.{stays_in}
-use Rattle.pua_jointly.specs.JointSetup.{count_told, crew_told, dirs_of, guarded_told, spots_told}
+use Rattle.pua_jointly.specs.JointSetup.{count_told, crew_told, devices_told, dirs_of, guarded_told, spots_told}
 use Rattle.pua_jointly.specs.declared.crew.Crew.{Crew}
 use Rattle.pua_jointly.specs.declared.crew.Entry.{Entry}
 use Rattle.pua_jointly.proofs.JointTabled.{table_law}
@@ -23,9 +23,9 @@ returns g c =
       members = c.in_ok-crew.ensures.members;
       full = full;
       closed = c.in_ok-told.ensures.closed;
-      has = table_law t out.0 table (crew_told crew) (dirs_of crew) (spots_told crew) (guarded_told crew) out.1.fits c.in_ok-told.told.items full
+      has = table_law t out.0 table (crew_told crew) (devices_told crew) (dirs_of crew) (spots_told crew) (guarded_told crew) out.1.fits c.in_ok-told.told.items full
           c.in_ok-told.ensures.closed c.in_ok-told.ensures.reached;
-      held = subst (λ (es : List Entry). AreMarked (stays_in crew c.in_ok-told.told.items) es (dirs_of crew) c.in_ok-held.held.items)
+      held = subst (λ (es : List Entry). AreMarked (stays_in crew.columns crew.shape.agents c.in_ok-told.told.items) es (dirs_of crew) c.in_ok-held.held.items)
           c.deref-2.ensures.value c.in_ok-held.ensures.held;
       turned = subst (λ (es : List Entry). AreMarked (turns_in crew c.in_ok-told.told.items) es (dirs_of crew) c.in_ok-held.turned.items)
           c.deref-2.ensures.value c.in_ok-held.ensures.turned;

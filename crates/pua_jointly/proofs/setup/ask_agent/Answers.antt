@@ -1,6 +1,5 @@
-use Rattle.pua_jointly.proofs.Common.{◌≡◌, ◌∙◌, ◌&&◌, ◌||◌, ap, arith, Bool, Kind, list_any, New, NewDir, NewFifo, NewFile, NewLink, NewOthers}
+use Rattle.pua_jointly.proofs.Common.{◌≡◌, ◌∙◌, ◌&&◌, ◌||◌, ap, Bool, Kind, list_any, New, NewDir, NewFifo, NewFile, NewLink, NewOthers}
 use Rattle.pua_jointly.proofs.Common.{CallTable, NewSock, ProcessState, can_move, refl, Some, subst, sym}
-use Rattle.std.specs.Prelude.{◌+◌}
 use Rattle.pua_tree.specs.declared.node.Kind.TheVariants.{Dir, File, Prog, Link, Known}
 use Rattle.pua_calls.specs.Promises.{fattr, holds}
 use Rattle.pua_policy.specs.States.{held_set}
@@ -35,7 +34,7 @@ module _ (table : CallTable) (h : ProcessState) (agent : Agent) where
   makes_of dirs files links sockets fifos NewFifo = fifos
 
 pub returns-clause-is : goal.returns-clause-is
-returns-clause-is c = λ dirs crew rows same.
+returns-clause-is c = λ crew same.
     let table = c.args.table.now in
     let h : ProcessState = c.args.process.now in
     let received : Bool = c.args.received in
@@ -43,9 +42,7 @@ returns-clause-is c = λ dirs crew rows same.
       process = c.args.process;
       veiled = c.in_ok-veiled.veiled;
       unveiled = c.in_ok-veiled.ensures;
-      place = c.args.rows.place;
-      landing = c.args.rows.landing;
-      drops = c.args.rows.drops;
+      place = c.args.place;
       named = c.in_ok-named.named;
       may_take = c.may_take.result;
       moving = c.covers_for.result;
@@ -74,8 +71,6 @@ returns-clause-is c = λ dirs crew rows same.
     record {
       process = refl;
       place = refl;
-      landing = rows.landing;
-      drops = rows.drops;
       moving = c.covers_for.ensures;
       carries = carries_of table h agent c.covers_for-2.ensures c.covers_for-3.ensures;
       makes = makes_of table h agent c.covers_for-4.ensures c.covers_for-5.ensures c.covers_for-6.ensures c.covers_for-7.ensures

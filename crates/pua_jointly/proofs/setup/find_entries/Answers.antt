@@ -1,5 +1,4 @@
 use Rattle.pua_jointly.proofs.Common.{◌≡◌, ◌<◌, ◌≤◌, ◌∙◌, ◌∷◌, ◌++◌, [], ap, arith, kind_at, length, look, map, Some, Spot, subst, sym, ℕ, List}
-use Rattle.std.specs.Prelude.{◌+◌}
 use Rattle.std.proofs.lemmas.Grind.{common_steps}
 use Rattle.pua_tree.specs.declared.tree.LentRow.{LentRow}
 use Rattle.pua_jointly.specs.JointMembers.{Each}
@@ -19,7 +18,7 @@ loop-place-preserved g c =
     let t = g.T.FileTree.content c.args.tree.now in
     let rows = c.args.rows.now in
     let place : ℕ = c.loop-place.place in
-    let first : ℕ = c.args.size.makers + 1 in
+    let first : ℕ = c.args.size.names in
     let entries : List Entry = c.loop-place.entries.items in
     let entry : Entry = c.entry-entry.result in
     let row : LentRow = c.index-rows-place.result in

@@ -1,5 +1,4 @@
-use Rattle.pua_jointly.proofs.Common.{◌≡◌, ◌<◌, ◌≤◌, ◌∙◌, ap, false, inl, inr, length, list_any, None≢Some, Place, ProcessState, Some, subst, sym, ℕ, List, Bool}
-use Rattle.std.specs.Prelude.{slice_get}
+use Rattle.pua_jointly.proofs.Common.{◌<◌, ◌∙◌, ap, false, inl, inr, length, list_any, None≢Some, Place, ProcessState, subst, sym, ℕ, List, Bool}
 use Rattle.std.specs.Borrow.{Bor}
 use Rattle.std.proofs.lemmas.Bool.{cases_lt}
 use Rattle.std.proofs.lemmas.Option.{get_or_from_slice_get, slice_get_past}

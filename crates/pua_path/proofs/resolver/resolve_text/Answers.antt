@@ -8,7 +8,7 @@ loop-way-preserved g c =
     let t = rooted (g.P.Probe.tree c.args.probe.now) c.args.start.root in
     let met = rw c.loop-way.invariant.tree at c.in-Directory.ensures.exact in
     let step =
-    text_onward t c.args.mode c.args.left c.loop-way.dir (way_of c.loop-way.way) c.loop-way.rest.bytes.now c.next_piece.result.0.bytes.now
+    text_onward t c.args.mode c.args.left.count c.loop-way.dir (way_of c.loop-way.way) c.loop-way.rest.bytes.now c.next_piece.result.0.bytes.now
     c.next_piece.result.1.bytes.now c.is_empty-in-loop-way.result _ c.next_piece.ensures c.is_empty-in-loop-way.ensures met in
     record {
       tree = search rules;
@@ -20,7 +20,7 @@ returns-in-Link-clause-exact g c =
     let t = rooted (g.P.Probe.tree c.args.probe.now) c.args.start.root in
     let met = rw c.loop-way.invariant.tree at c.in-Link.ensures.exact in
     let step =
-    text_onward t c.args.mode c.args.left c.loop-way.dir (way_of c.loop-way.way) c.loop-way.rest.bytes.now c.next_piece.result.0.bytes.now
+    text_onward t c.args.mode c.args.left.count c.loop-way.dir (way_of c.loop-way.way) c.loop-way.rest.bytes.now c.next_piece.result.0.bytes.now
     c.next_piece.result.1.bytes.now c.is_empty-in-loop-way.result _ c.next_piece.ensures c.is_empty-in-loop-way.ensures met in
     (rw (c.lead_by_piece.ensures.tree, c.loop-way.invariant.tree) at c.follow_on.ensures.exact)
     ∙ ap found_alone (sym step ∙ c.loop-way.invariant.so_far)
@@ -30,7 +30,7 @@ returns-in-Found-clause-exact g c =
     let t = rooted (g.P.Probe.tree c.args.probe.now) c.args.start.root in
     let met = rw c.loop-way.invariant.tree at c.in-Found.ensures.exact in
     let step =
-    text_onward t c.args.mode c.args.left c.loop-way.dir (way_of c.loop-way.way) c.loop-way.rest.bytes.now c.next_piece.result.0.bytes.now
+    text_onward t c.args.mode c.args.left.count c.loop-way.dir (way_of c.loop-way.way) c.loop-way.rest.bytes.now c.next_piece.result.0.bytes.now
     c.next_piece.result.1.bytes.now c.is_empty-in-loop-way.result _ c.next_piece.ensures c.is_empty-in-loop-way.ensures met in
     ap found_alone (sym step ∙ c.loop-way.invariant.so_far)
 
@@ -39,6 +39,6 @@ returns-in-Nowhere-clause-exact g c =
     let t = rooted (g.P.Probe.tree c.args.probe.now) c.args.start.root in
     let met = rw c.loop-way.invariant.tree at c.in-Nowhere.ensures.exact in
     let step =
-    text_onward t c.args.mode c.args.left c.loop-way.dir (way_of c.loop-way.way) c.loop-way.rest.bytes.now c.next_piece.result.0.bytes.now
+    text_onward t c.args.mode c.args.left.count c.loop-way.dir (way_of c.loop-way.way) c.loop-way.rest.bytes.now c.next_piece.result.0.bytes.now
     c.next_piece.result.1.bytes.now c.is_empty-in-loop-way.result _ c.next_piece.ensures c.is_empty-in-loop-way.ensures met in
     ap found_alone (sym step ∙ c.loop-way.invariant.so_far)

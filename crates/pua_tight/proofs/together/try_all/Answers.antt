@@ -1,6 +1,7 @@
-use Rattle.std.proofs.Common.{◌≡◌, ◌-◌, length, take, drop, arith, List}
+use Rattle.std.proofs.Common.{◌≡◌, ◌-◌, length, take, drop, arith, subst, sym, List}
 use Rattle.std.proofs.lemmas.List.{length-drop, length-take, take_all}
 use Rattle.pua_script.specs.Replay.{new_world}
+use Rattle.pua_tight.specs.Several.{IsToTry}
 use Rattle.pua_tight.specs.Trials.{Trial}
 use Rattle.pua_tight.proofs.WithoutSeveral.{all_done, more_done, none_done}
 use Rattle.pua_tight.proofs.together.try_all.Goals as goal
@@ -8,6 +9,7 @@ use Rattle.pua_tight.proofs.together.try_all.Goals as goal
 pub loop-done-init : goal.loop-done-init
 loop-done-init c = record {
   within = omega arith;
+  start = λ to_try. c.in_ok-start.ensures.start c.args.requests.now.items;
   told = λ to_try. none_done c.args.wanted.now.table.now (new_world c.args.wanted.now.tree) c.args.wanted.now.answers.items c.args.trials.now
       c.args.requests.now.items c.args.requests.now.items c.args.requests.now.items to_try;
 }
@@ -26,9 +28,11 @@ loop-done-preserved c =
         length-drop done trials,
         c.loop-done-test.true,
       );
+      start = λ to_try. c.in_ok-done.ensures.start (subst (λ (l : List Trial). IsToTry c.args.wanted.now.table.now (new_world c.args.wanted.now.tree)
+          c.args.wanted.now.answers.items l c.loop-done.requests.items) (sym are) (c.loop-done.invariant.told to_try).more) (c.loop-done.invariant.start to_try);
       told = λ to_try. more_done c.args.wanted.now.table.now (new_world c.args.wanted.now.tree) c.args.wanted.now.answers.items trials
           c.args.requests.now.items c.loop-done.requests.items c.try_front.new.requests.items done _ rest are
-          (c.loop-done.invariant.told to_try) c.in_ok-done.ensures.done;
+          (c.loop-done.invariant.told to_try) (λ next. c.in_ok-done.ensures.done next (c.loop-done.invariant.start to_try));
     }
 
 pub returns : goal.returns

@@ -4,7 +4,7 @@ use Rattle.pua_script.specs.Replay.{World, answers_to, new_world}
 use Rattle.pua_tight.specs.Tight.{same_answers}
 use Rattle.pua_tight.specs.Several.{all_left}
 use Rattle.pua_tight.specs.Trials.{Trial}
-use Rattle.pua_tight.proofs.WithoutSeveral.{front_done, front_fewer, front_more, more_left}
+use Rattle.pua_tight.proofs.WithoutSeveral.{front_done, front_fewer, front_more, more_left, part_to_try}
 use Rattle.pua_tight.proofs.together.try_front.Goals as goal
 
 pub loop-spare-preserved-then-branch : goal.loop-spare-preserved-then-branch
@@ -24,8 +24,12 @@ loop-spare-preserved-then-branch c =
       order = omega (arith, c.min-more.ensures, c.loop-spare-test.true);
       within = inv.within;
       left = left ∙ reached;
-      told = λ to_try. front_more c.args.wanted.now.table.now (new_world c.args.wanted.now.tree) c.args.wanted.now.answers.items trials given
-          c.loop-spare.most now some _ _ (inv.told to_try) c.in_ok-try_together.ensures.told c.if-branch.true left;
+      start = λ to_try is. c.in_ok-try_together.ensures.start (part_to_try c.args.wanted.now.table.now (new_world c.args.wanted.now.tree) c.args.wanted.now.answers.items
+          trials given now spare (spare + more - spare) to_try (inv.told to_try is).answered) (inv.start to_try is);
+      told = λ to_try is. front_more c.args.wanted.now.table.now (new_world c.args.wanted.now.tree) c.args.wanted.now.answers.items trials given
+          c.loop-spare.most now some _ _ (inv.told to_try is)
+          (c.in_ok-try_together.ensures.told (part_to_try c.args.wanted.now.table.now (new_world c.args.wanted.now.tree) c.args.wanted.now.answers.items
+          trials given now spare (spare + more - spare) to_try (inv.told to_try is).answered) (inv.start to_try is)) c.if-branch.true left;
     }
 
 pub loop-spare-preserved : goal.loop-spare-preserved
@@ -47,13 +51,16 @@ loop-spare-preserved c =
       order = omega arith;
       within = omega (arith, c.min-more.ensures, c.loop-spare-test.true, inv.within);
       left = left ∙ inv.left;
-      told = λ to_try. front_fewer c.args.wanted.now.table.now (new_world c.args.wanted.now.tree) c.args.wanted.now.answers.items trials given
-          c.loop-spare.most (spare + more - 1) now some _ _ (inv.told to_try) c.in_ok-try_together.ensures.told
-          c.if-branch.false left reached;
+      start = λ to_try is. c.in_ok-try_together.ensures.start (part_to_try c.args.wanted.now.table.now (new_world c.args.wanted.now.tree) c.args.wanted.now.answers.items
+          trials given now spare (spare + more - spare) to_try (inv.told to_try is).answered) (inv.start to_try is);
+      told = λ to_try is. front_fewer c.args.wanted.now.table.now (new_world c.args.wanted.now.tree) c.args.wanted.now.answers.items trials given
+          c.loop-spare.most (spare + more - 1) now some _ _ (inv.told to_try is)
+          (c.in_ok-try_together.ensures.told (part_to_try c.args.wanted.now.table.now (new_world c.args.wanted.now.tree) c.args.wanted.now.answers.items
+          trials given now spare (spare + more - spare) to_try (inv.told to_try is).answered) (inv.start to_try is)) c.if-branch.false left reached;
     }
 
 pub returns-clause-done : goal.returns-clause-done
-returns-clause-done c = λ to_try.
+returns-clause-done c = λ to_try is.
     let table = c.args.wanted.now.table.now in
     let w : World = new_world c.args.wanted.now.tree in
     let want = c.args.wanted.now.answers.items in
@@ -61,7 +68,7 @@ returns-clause-done c = λ to_try.
     let given : List Asked = c.args.requests.now.items in
     let spare = c.loop-spare.spare in
     let inv = c.loop-spare.invariant in
-    let front = inv.told to_try in
+    let front = inv.told to_try is in
     let all : spare ≡ c.loop-spare.most = omega (arith, c.loop-spare-test.false, inv.order) in
     front_done table w want trials given c.loop-spare.requests.items to_try spare inv.left front.answered
     (omega (arith, inv.order, inv.within))

@@ -1,4 +1,5 @@
 use Rattle.pua_tool.proofs.Common.{choice_of, err_from_is_err_and, as_replayed}
+use Rattle.pua_tool.specs.Texts.{given_bytes}
 use Rattle.pua_tool.proofs.EverHowTexts.{after_done, fault_told}
 use Rattle.pua_tool.proofs.ever_how.ever_how_to.Goals as goal
 
@@ -6,7 +7,7 @@ pub returns-in_err-replay : goal.returns-in_err-replay
 returns-in_err-replay g c =
     let p = err_from_is_err_and c.from_residual.result c.from_residual.ensures.1 in
     rw (p.1, p.2) (record {
-      text = fault_told (choice_of c.args.table) c.args.tree_bytes.now c.args.script_bytes.now c.args.process g.S.Sink.written
+      text = fault_told (choice_of c.args.table) c.args.tree_bytes.now c.args.script_bytes.now c.args.process (given_bytes c.args.path) g.S.Sink.written
           g.S.Sink.failed c.in_err-replay.field-0.0 c.args.sink.now c.in_err-replay.ensures.refused;
     })
 
@@ -17,7 +18,7 @@ returns g c =
     record {
       text = (
         listed.0,
-        after_done (choice_of c.args.table) c.args.tree_bytes.now c.args.script_bytes.now c.args.process (as_replayed c.in_ok-replay.replay) listed.0 served listed.1,
+        after_done (choice_of c.args.table) c.args.tree_bytes.now c.args.script_bytes.now c.args.process (given_bytes c.args.path) (as_replayed c.in_ok-replay.replay) listed.0 served listed.1,
         listed.2,
       );
     }

@@ -1,30 +1,28 @@
-use Rattle.std.proofs.Common.{sym, subst}
-use Rattle.std.specs.Prelude.{Option}
-use Rattle.pua_words.specs.declared.command.Processes.{Processes}
+use Rattle.std.proofs.Common.{Bool, refl, sym, subst, ◌∙◌, Err}
 use Rattle.pua_tool.proofs.Common.{choice_of}
-use Rattle.pua_tool.specs.ListTexts.{IsListOf}
+use Rattle.pua_tool.specs.ListTexts.{IsUnlessPlain}
+use Rattle.pua_tool.specs.declared.fault.ToolFault.TheVariants.{PlainBelow}
 use Rattle.pua_tool.proofs.lists.list_to.Goals as goal
 
-pub returns-in-Some : goal.returns-in-Some
-returns-in-Some g c =
-    let list = c.args.list.now in
-    let told = c.helped_to.ensures.text in record {
+pub returns-then-is_plain_below : goal.returns-then-is_plain_below
+returns-then-is_plain_below g c =
+    let list = c.args.list.now in record {
       text = (
-        told.0,
-        subst (λ (beside : Option Processes). IsListOf beside list.images list.span list.columns list.whose (choice_of c.args.table)
-            c.args.tree_bytes.now c.args.script_bytes.now told.0) (sym c.in-Some.is) told.1,
-        told.2,
+        Err PlainBelow,
+        subst (λ (plain : Bool). IsUnlessPlain plain (choice_of c.args.table) c.args.tree_bytes.now c.args.script_bytes.now list (Err PlainBelow))
+            (sym c.if-is_plain_below.true ∙ c.is_plain_below.ensures) refl,
+        (λ other. refl, refl),
       );
     }
 
-pub returns-in-None : goal.returns-in-None
-returns-in-None g c =
+pub returns : goal.returns
+returns g c =
     let list = c.args.list.now in
-    let told = c.unhelped_to.ensures.text in record {
+    let told = c.sound_to.ensures.text in record {
       text = (
         told.0,
-        subst (λ (beside : Option Processes). IsListOf beside list.images list.span list.columns list.whose (choice_of c.args.table)
-            c.args.tree_bytes.now c.args.script_bytes.now told.0) (sym c.in-None.is) told.1,
+        subst (λ (plain : Bool). IsUnlessPlain plain (choice_of c.args.table) c.args.tree_bytes.now c.args.script_bytes.now list told.0)
+            (sym c.if-is_plain_below.false ∙ c.is_plain_below.ensures) told.1,
         told.2,
       );
     }

@@ -1,4 +1,4 @@
-use Rattle.pua_tree.proofs.Common.{◌≡◌, ◌<◌, ◌≤◌, ◌⊎◌, ℕ, List, [], length, sym, ap, ◌∙◌, arith, inl, inr, option_map, ltb-true, ltb-false}
+use Rattle.pua_tree.proofs.Common.{◌≡◌, ◌<◌, ◌≤◌, ◌⊎◌, ℕ, Some, List, [], length, sym, ap, ◌∙◌, arith, inl, inr, option_map, ltb-true, ltb-false}
 use Rattle.pua_tree.proofs.Common.{leb-true, line_of_fields, line_read}
 use Rattle.pua_tree.specs.Listing.{plain_kind, long_kind}
 use Rattle.std.proofs.Common.{get_or}
@@ -15,7 +15,8 @@ pub returns-in_ok-plain_kind-in-len4 : goal.returns-in_ok-plain_kind-in-len4
 returns-in_ok-plain_kind-in-len4 c =
     let none : Bor (List ℕ) = record { ref_ptr = (0, 0); now = [] } in
     let four : length c.as_slice.result.now ≡ 4 = omega arith in
-    sym
+    (λ i. Some (record (plain_line c.as_slice.result.now none c.in_ok-plain_kind-in-len4.field-0) { mount = c.is_mount_word.ensures i }))
+    ∙ sym
     (line_of-first_fields c.args.form c.args.text.now c.in_ok-fields.fields c.in_ok-fields.ensures ∙
     ap (line_of_fields c.args.form) (sym c.as_slice.ensures)
     ∙ line_of_fields-four c.args.form c.as_slice.result.now none four

@@ -6,25 +6,25 @@ use Rattle.pua_ever.proofs.Prospected.{moved_calls, still_calls}
 use Rattle.pua_ever.proofs.prospects.Prospects.on_dir.Goals as goal
 
 pub returns-then-moves_dir : goal.returns-then-moves_dir
-returns-then-moves_dir c = λ t way needs is living named covered seen call.
+returns-then-moves_dir c = λ t way needs is finds living named covered seen call.
     let h = c.args.process.now in
     let can : (is_none (perms_kept h (place.Dir c.args.dir)) && can_move c.args.table.now h (cover_in t h c.args.dir)) ≡ true
     = (λ i. is_none (perms_kept h (place.Dir c.args.dir)) && can_move c.args.table.now h (sym covered i)) ∙
     sym c.moves_dir.ensures ∙ c.if-moves_dir.true in
     ap (λ set. has set call) c.on_dir.ensures
-    ∙ moved_calls t c.args.table.now h c.args.self.now is c.args.dir way living can c.can_empty-emptied.result
-    (c.can_empty-emptied.ensures ∙ ap (λ b. b && not (list_any (λ other. other == c.args.dir) c.args.self.now.held.items)) named) call
+    ∙ moved_calls t c.args.table.now h c.args.self.now is c.args.dir way living c.args.movable.now finds can c.can_empty-emptied.result
+    (c.can_empty-emptied.ensures ∙ ap (λ b. b && not (list_any (λ other. other == c.args.dir) c.args.self.now.destinations.held.items)) named) call
 
 pub returns : goal.returns
-returns c = λ t way needs is living named covered seen call.
+returns c = λ t way needs is finds living named covered seen call.
     let h = c.args.process.now in
     let p = c.args.self.now in
     let can : (is_none (perms_kept h (place.Dir c.args.dir)) && can_move c.args.table.now h (cover_in t h c.args.dir)) ≡ false
     = (λ i. is_none (perms_kept h (place.Dir c.args.dir)) && can_move c.args.table.now h (sym covered i)) ∙
     sym c.moves_dir.ensures ∙ c.if-moves_dir.false in
-    let emptied : c.can_empty-emptied.result ≡ (is_named_way way && not (list_any (λ other. other == c.args.dir) p.held.items))
-    = c.can_empty-emptied.ensures ∙ ap (λ b. b && not (list_any (λ other. other == c.args.dir) p.held.items)) named in
-    still_calls t c.args.table.now h p is c.args.dir way living needs can c.seen_as-object.result
+    let emptied : c.can_empty-emptied.result ≡ (is_named_way way && not (list_any (λ other. other == c.args.dir) p.destinations.held.items))
+    = c.can_empty-emptied.ensures ∙ ap (λ b. b && not (list_any (λ other. other == c.args.dir) p.destinations.held.items)) named in
+    still_calls t c.args.table.now h p is c.args.dir way living c.args.movable.now finds needs can c.seen_as-object.result
     (c.seen_as-object.ensures ∙ (λ i. if emptied i && is.edits i then see.Removable else seen i))
     c.allowed.result
     (λ o sees call. c.allowed.ensures empty_tree o sees call ∙

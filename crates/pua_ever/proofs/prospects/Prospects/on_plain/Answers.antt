@@ -14,20 +14,20 @@ not_missing Link e = cc
 not_missing (Known type) e = cc
 
 pub returns-then-eq : goal.returns-then-eq
-returns-then-eq c = λ t kind found sees call.
+returns-then-eq c = λ t on kind found finds sees call.
     let h = c.args.process.now in
     let is : c.args.item.now.object ≡ see.Missing = search rules in
     elim kind as (λ k. c.args.item.now.object ≡ object_seen empty_tree (object_of_kind k) → has c.allowed.result call
-    ≡ can_allow c.args.table.now h c.args.turned (kind_covers t c.args.table.now h c.args.item.now.cover k) (object_of_kind k) call) [
+    ≡ can_allow c.args.table.now h c.args.turned (kind_covers t c.args.table.now h on c.args.item.now.cover k) (object_of_kind k) call) [
       | None ↦ λ sees. (let allowed = c.allowed.ensures empty_tree IsMissing sees call in search (rules, allowed))
       | Some k ↦ λ sees. absurd (not_missing k (sym is ∙ sees))
     ] sees
 
 pub returns : goal.returns
-returns c = λ t kind found sees call.
+returns c = λ t on kind found finds sees call.
     let h = c.args.process.now in
     elim kind as (λ k. c.args.item.now.object ≡ object_seen empty_tree (object_of_kind k) → has c.on_thing.result call
-    ≡ can_allow c.args.table.now h c.args.turned (kind_covers t c.args.table.now h c.args.item.now.cover k) (object_of_kind k) call) [
+    ≡ can_allow c.args.table.now h c.args.turned (kind_covers t c.args.table.now h on c.args.item.now.cover k) (object_of_kind k) call) [
       | None ↦ λ sees. search (rules, tests)
-      | Some k ↦ λ sees. c.on_thing.ensures t k found sees call
+      | Some k ↦ λ sees. c.on_thing.ensures t on k found finds sees call
     ] sees

@@ -39,8 +39,8 @@ returns-then-not-is_taken c = λ t crew a about is fits on.
     let of = c.args.of.now in
     let entry = c.in-Some-entry.entry.now in
     let found = c.in-Some-entry.ensures is.facts_are.worked.1.in_order in
-    let held : is_taken facts.crew facts.told.items entry.row ≡ false =
-    ap (λ told. is_taken facts.crew told entry.row) (sym c.deref.ensures.value) ∙ sym c.is_taken.ensures ∙ c.if-not-is_taken.true in
+    let held : is_taken facts.crew.columns facts.crew.shape.agents facts.told.items entry.row ≡ false =
+    ap (λ told. is_taken facts.crew.columns facts.crew.shape.agents told entry.row) (sym c.deref.ensures.value) ∙ sym c.is_taken.ensures ∙ c.if-not-is_taken.true in
     subst (λ (o : Option Spot). AreOwnCalls t table crew a o 0) c.in-Some.ensures
     (as_held t table crew facts a of is c.in-Some.own.0 c.in-Some.own.1.now entry found.0 found.1 held 0 has_none)
 
@@ -55,8 +55,8 @@ returns c = λ t crew a about is fits on.
     let well = is.facts_are.worked.0 in
     let own : own_spot about ≡ Some spot = sym (c.in-Some.ensures ∙ own_name_is t well table a about c.args.item.now fits on) in
     let there = own_stands t a about spot.0 spot.1 fits own in
-    let taken : is_taken facts.crew facts.told.items entry.row ≡ true =
-    ap (λ told. is_taken facts.crew told entry.row) (sym c.deref.ensures.value) ∙ sym c.is_taken.ensures ∙ c.if-not-is_taken.false in
+    let taken : is_taken facts.crew.columns facts.crew.shape.agents facts.told.items entry.row ≡ true =
+    ap (λ told. is_taken facts.crew.columns facts.crew.shape.agents told entry.row) (sym c.deref.ensures.value) ∙ sym c.is_taken.ensures ∙ c.if-not-is_taken.false in
     subst (λ (o : Option Spot). AreOwnCalls t table crew a o c.calls_on_free.result) c.in-Some.ensures
     (as_freed t table crew facts a of is spot.0 spot.1 entry found.0 found.1 taken
     (row_says t (sound_from t well) spot there.0 there.1).0 c.calls_on_free.result

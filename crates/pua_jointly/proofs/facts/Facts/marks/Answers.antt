@@ -15,10 +15,10 @@ loop-entry-preserved c =
     record {
       held_full = c.mark.ensures.full ∙ inv.held_full;
       turned_full = c.mark-in-loop-entry.ensures.full ∙ inv.turned_full;
-      held = marked_more (stays_in facts.crew facts.told.items) all i item c.args.count c.loop-entry.held.items c.mark.new.marked.items item.dir
+      held = marked_more (stays_in facts.crew.columns facts.crew.shape.agents facts.told.items) all i item c.args.count c.loop-entry.held.items c.mark.new.marked.items item.dir
           (not c.is_taken-stays.result) c.loop-entry-test.true c.entry-item.is inv.held_full c.mark.ensures.marked
           (λ n. ap (λ b. (item.dir == n) && not b)
-          (ap (λ words. is_taken facts.crew words item.row) (sym c.deref.ensures.value) ∙ sym c.is_taken-stays.ensures)) inv.held;
+          (ap (λ words. is_taken facts.crew.columns facts.crew.shape.agents words item.row) (sym c.deref.ensures.value) ∙ sym c.is_taken-stays.ensures)) inv.held;
       turned = marked_more (turns_in facts.crew facts.told.items) all i item c.args.count c.loop-entry.turned.items
           c.mark-in-loop-entry.new.marked.items item.node c.turns.result c.loop-entry-test.true c.entry-item.is inv.turned_full c.mark-in-loop-entry.ensures.marked
           (λ n. ap (λ b. (item.node == n) && b) (sym c.turns.ensures)) inv.turned;

@@ -2,7 +2,7 @@ use Rattle.pua_jointly.proofs.Common.{◌∙◌, sym, ap, subst, Tree}
 use Rattle.std.specs.Prelude.{◌==◌}
 use Rattle.std.specs.Int.{bit_at}
 use Rattle.pua_jointly.specs.JointFacts.{watches}
-use Rattle.pua_jointly.specs.JointSetup.{FollowsTold, RoundsState, crew_told, spots_told, guarded_told}
+use Rattle.pua_jointly.specs.JointSetup.{FollowsTold, RoundsState, crew_told, devices_told, guarded_told, hands_told, spots_told}
 use Rattle.pua_jointly.specs.declared.crew.Crew.{Crew}
 use Rattle.pua_jointly.proofs.JointSteps.{step_only, step_all}
 use Rattle.pua_jointly.proofs.finding.RoundsSteps.next.Goals as goal
@@ -13,8 +13,8 @@ returns-clause-only g c = λ bit held.
     let k : Crew = c.self.inside.crew.now in
     let out = c.self.invariant.0 in
     subst (λ (s : RoundsState). FollowsTold s.tree s.table s.crew c.args.told.now c.args.at bit) c.self.view_is
-    (step_only t out.0 c.self.inside.table.now (crew_told k) (watches t (crew_told k)) (spots_told k) (guarded_told k) k out.1 c.args.told.now c.args.at
-    c.row.result c.part.result (c.row.ensures (crew_told k) (spots_told k) (sym out.1.many))
+    (step_only t out.0 c.self.inside.table.now (crew_told k) (devices_told k) (watches t (crew_told k)) (spots_told k) (guarded_told k) k out.1 c.args.told.now c.args.at
+    c.row.result c.part.result (c.row.ensures (hands_told k) (spots_told k) (sym out.1.hands))
     (c.part.ensures (crew_told k) (guarded_told k) (sym out.1.many)) bit
     (ap (λ w. bit_at w bit == 1) (sym c.part-2.ensures) ∙ held))
 
@@ -24,7 +24,7 @@ returns-clause-all g c = λ bit new.
     let k : Crew = c.self.inside.crew.now in
     let out = c.self.invariant.0 in
     ap (λ w. bit_at w bit == 1) c.part-2.ensures
-    ∙ step_all t out.0 c.self.inside.table.now (crew_told k) (watches t (crew_told k)) (spots_told k) (guarded_told k) k out.1 c.args.told.now
-    c.args.at c.row.result c.part.result (c.row.ensures (crew_told k) (spots_told k) (sym out.1.many))
+    ∙ step_all t out.0 c.self.inside.table.now (crew_told k) (devices_told k) (watches t (crew_told k)) (spots_told k) (guarded_told k) k out.1 c.args.told.now
+    c.args.at c.row.result c.part.result (c.row.ensures (hands_told k) (spots_told k) (sym out.1.hands))
     (c.part.ensures (crew_told k) (guarded_told k) (sym out.1.many)) bit
     (subst (λ (s : RoundsState). FollowsTold s.tree s.table s.crew c.args.told.now c.args.at bit) (sym c.self.view_is) new)

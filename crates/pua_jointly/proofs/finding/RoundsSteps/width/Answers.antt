@@ -1,12 +1,13 @@
 use Rattle.pua_jointly.proofs.Common.{◌≡◌, ◌<◌, ◌≤◌, ◌∙◌, ap, false, false≢true, inl, inr, is_some, List, None, Option, option_map, refl}
-use Rattle.pua_jointly.proofs.Common.{ProcessState, Some, subst, sym, Tree, ℕ}
+use Rattle.pua_jointly.proofs.Common.{Some, subst, sym, Tree, ℕ}
 use Rattle.std.specs.Prelude.{◌+◌, ◌*◌, slice_get}
 use Rattle.pua_jointly.specs.Closing.{Reached}
-use Rattle.pua_jointly.specs.JointSetup.{FollowsTold, RoundsState, crew_told, spots_told}
+use Rattle.pua_jointly.specs.JointSetup.{FollowsTold, RoundsState, hands_told, spots_told}
 use Rattle.pua_jointly.specs.JointShape.{entity_of}
-use Rattle.pua_jointly.specs.JointTable.{DropsOf, Makers, NameAt}
+use Rattle.pua_jointly.specs.Jointly.{Hand}
+use Rattle.pua_jointly.specs.JointTable.{DropsOf, NameAt}
 use Rattle.pua_jointly.specs.declared.crew.Crew.{Crew}
-use Rattle.pua_jointly.proofs.JointWidth.{IsOfAgents, IsOfName, no_dir, past_agents, past_common}
+use Rattle.pua_jointly.proofs.JointWidth.{IsOfName, no_dir, past_common}
 use Rattle.pua_jointly.proofs.finding.RoundsSteps.width.Goals as goal
 use Rattle.pua_jointly.proofs.finding.RoundsSteps.width.Goals.{else-is_marked, then-is_marked}
 
@@ -26,7 +27,7 @@ returns-else-is_some g c =
     let k : Crew = c.self.inside.crew.now in
     let out = c.self.invariant.0 in
     let d : ℕ = c.in-Dir.dir in
-    let is = c.row.ensures (crew_told k) (spots_told k) (sym out.1.many) ∙ ap (entity_of (crew_told k) (spots_told k)) c.in-Dir.is in
+    let is = c.row.ensures (hands_told k) (spots_told k) (sym out.1.hands) ∙ ap (entity_of (hands_told k) (spots_told k)) c.in-Dir.is in
     subst (AreVoid c.args.row 0) c.self.view_is
     (elim c.if-is_marked.branch [
       | then-is_marked w ↦ absurd (false≢true (sym c.if-is_some.false ∙ w.value-is ∙ w.if-is_marked.true))
@@ -41,31 +42,21 @@ returns-in-Drops g c =
     let t : Tree = g.T.FileTree.content c.self.inside.tree.now in
     let k : Crew = c.self.inside.crew.now in
     let out = c.self.invariant.0 in
-    let row = c.row.ensures (crew_told k) (spots_told k) (sym out.1.many) in
-    subst (AreVoid c.args.row k.shape.agents) c.self.view_is
+    let row = c.row.ensures (hands_told k) (spots_told k) (sym out.1.hands) in
+    subst (AreVoid c.args.row (k.shape.agents + 1)) c.self.view_is
     (elim c.in-Drops.is [
-      | inl drops ↦ (λ column more low. past_agents t c.self.inside.table.now k out c.args.row column low
-          (option_map DropsOf (slice_get (crew_told k) drops.0)) (row ∙ ap (entity_of (crew_told k) (spots_told k)) drops.1)
-          (of_agents (slice_get (crew_told k) drops.0)) (subst (λ n. n ≤ column) out.1.many more))
-      | inr makers ↦ (λ column more low. past_agents t c.self.inside.table.now k out c.args.row column low
-          (Some Makers) (row ∙ ap (entity_of (crew_told k) (spots_told k)) makers) tt (subst (λ n. n ≤ column) out.1.many more))
+      | inl drops ↦ (λ column more low. past_common t c.self.inside.table.now k out c.args.row column low
+          (option_map DropsOf (slice_get (hands_told k) drops.0)) (row ∙ ap (entity_of (hands_told k) (spots_told k)) drops.1)
+          (of_hand (slice_get (hands_told k) drops.0)) (subst (λ n. n + 1 ≤ column) out.1.many more))
+      | inr name ↦ (λ column more low. past_common t c.self.inside.table.now k out c.args.row column low
+          (option_map NameAt (slice_get (spots_told k) name.0)) (row ∙ ap (entity_of (hands_told k) (spots_told k)) name.1)
+          (of_name (slice_get (spots_told k) name.0)) (subst (λ n. n + 1 ≤ column) out.1.many more))
     ])
   where
-    of_agents : (o : Option ProcessState) → IsOfAgents (option_map DropsOf o)
-    of_agents None = tt
-    of_agents (Some b) = tt
+    of_hand : (o : Option Hand) → IsOfName (option_map DropsOf o)
+    of_hand None = tt
+    of_hand (Some b) = tt
 
-pub returns-in-Name : goal.returns-in-Name
-returns-in-Name g c =
-    let t : Tree = g.T.FileTree.content c.self.inside.tree.now in
-    let k : Crew = c.self.inside.crew.now in
-    let out = c.self.invariant.0 in
-    let is = c.row.ensures (crew_told k) (spots_told k) (sym out.1.many) ∙ ap (entity_of (crew_told k) (spots_told k)) c.in-Name.is in
-    subst (AreVoid c.args.row (k.shape.agents + 1)) c.self.view_is
-    (λ column more low. past_common t c.self.inside.table.now k out c.args.row column low
-    (option_map NameAt (slice_get (spots_told k) c.in-Name.field-0)) is
-    (of_name (slice_get (spots_told k) c.in-Name.field-0)) (subst (λ n. n + 1 ≤ column) out.1.many more))
-  where
     of_name : (o : Option (ℕ × List ℕ)) → IsOfName (option_map NameAt o)
     of_name None = tt
     of_name (Some s) = tt

@@ -26,19 +26,18 @@ loop-piece-init g c =
     let start = rw c.bytes.ensures.bytes at c.in-Some.ensures.start in
     record {
       tree = c.start_of.ensures.tree;
-      stack = rw (c.new-walk.ensures) (omega (arith, c.of_text.ensures.depth));
-      so_far = sym (trace_begins t c.args.from text.ending text.bytes c.args.mode c.in-Some.start walk.left walk.root walk.here
+      so_far = sym (trace_begins t c.args.from text.ending text.bytes c.args.mode c.in-Some.start walk.rest.left walk.root walk.here
           (way_of walk.way) walk.rest.parts
           (after_links spots.items (walk_trace t c.args.mode walk))
           (record {
-            all_links = ap (λ w. w.left) c.new-walk.ensures;
+            all_links = ap (λ w. w.rest.left) c.new-walk.ensures ∙ c.of_text.ensures.left;
             by_root = ap (λ w. w.root) c.new-walk.ensures;
             at_start = ap (λ w. w.here) c.new-walk.ensures;
             no_way = ap (λ w. way_of w.way) c.new-walk.ensures;
             all_parts = ap (λ w. w.rest.parts) c.new-walk.ensures ∙ c.of_text.ensures.parts;
           })
           start (ap (λ (links : List Spot). after_links links (walk_trace t c.args.mode walk)) none));
-      room = rw (c.new-walk.ensures) (omega (arith, spots.ok.0 ∙ ap length none, c.links.invariant));
+      room = rw (c.new-walk.ensures) (omega (arith, c.of_text.ensures.left, spots.ok.0 ∙ ap length none, c.links.invariant));
       all_room = c.links.invariant;
     }
 
@@ -72,10 +71,9 @@ returns-clause-fits g c =
     (ap (λ (trace : PathTrace). object_or_errno trace.outcome) (returns-clause-exact g c) ∙
     from_answers t c.args.from text.ending text.bytes c.args.mode)
 
-pub loop-piece-preserved-then-walk-left : goal.loop-piece-preserved-then-walk-left
-loop-piece-preserved-then-walk-left g c = record {
+pub loop-piece-preserved-then-left : goal.loop-piece-preserved-then-left
+loop-piece-preserved-then-left g c = record {
   tree = search rules;
-  stack = search rules;
   so_far =
       let t = g.P.Probe.tree c.args.probe.now in
       let spot : Spot = (c.loop-piece.walk.here, c.name.result) in

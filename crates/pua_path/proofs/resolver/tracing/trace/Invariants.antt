@@ -9,10 +9,9 @@ invariant-loop-piece g l =
     let t = g.P.Probe.tree l.fn.probe in
     record {
       tree : g.P.Probe.tree l.probe ≡ t;
-      stack : l.walk.rest.depth + l.walk.left ≤ most_links;
       so_far : as_path_trace (after_links l.links-inside.spots.items (walk_trace t l.fn.mode l.walk))
           ≡ trace_from t l.fn.from l.fn.text.ending l.fn.text.bytes l.fn.mode;
-      room : vec_len l.links-inside.spots + l.walk.left ≤ vec_capacity l.links-inside.spots;
+      room : vec_len l.links-inside.spots + l.walk.rest.left ≤ vec_capacity l.links-inside.spots;
       all_room : most_links ≤ vec_capacity l.links-inside.spots;
     }
 

@@ -28,4 +28,4 @@ returns-in_err-target-in-Some g c = λ es h.
 pub returns-in_ok-target-in-Some : goal.returns-in_ok-target-in-Some
 returns-in_ok-target-in-Some g c = λ es h.
     let line = line_read c.args.line.now in
-    ap (node_of es c.args.n c.args.number line) c.in-Some.is ∙ rw c.new.ensures (c.in_ok-target-in-Some.ensures.ok es c.args.number)
+    ap (node_of es c.args.n c.args.number line) c.in-Some.is ∙ rw (c.new.ensures, c.is_mounted-mount.ensures.mount) (c.in_ok-target-in-Some.ensures.ok es c.args.number)

@@ -1,4 +1,4 @@
-use Rattle.pua_tree.proofs.Common.{◌≡◌, ◌<◌, ◌+◌, ◌∙◌, rules, arith, sym, subst, Ok, Some, option_map, WellFormed, AreConsistent, Follows}
+use Rattle.pua_tree.proofs.Common.{◌≡◌, ◌<◌, ◌+◌, ◌∙◌, false, refl, rules, arith, sym, subst, Ok, Some, option_map, WellFormed, AreConsistent, Follows}
 use Rattle.pua_tree.proofs.Common.{Entry, true≢false, tree_with, held_in_slots}
 use Rattle.pua_tree.specs.Numbering.{with_next}
 use Rattle.pua_tree.specs.Tree as tree
@@ -22,7 +22,7 @@ module _ (c : goal.After-self-1) where
   t = held_in_slots c.self.inside.slots c.self.inside.numbering
 
   abbrev node : tree.Node
-  node = record { kind = c.args.kind; target = option_map (λ bytes. bytes.items) c.in_ok-target.target }
+  node = record { kind = c.args.kind; target = option_map (λ bytes. bytes.items) c.in_ok-target.target; mount = false }
 
   abbrev e : Entry
   e = record { number = c.self.inside.numbering.next; parent = c.args.dir; name = c.args.name; node = c.new-node.result; made = Some node }
@@ -36,7 +36,7 @@ module _ (c : goal.After-self-1) where
     number = omega arith;
     not_last = subst (λ (u : tree.Tree). u.next < 4294967295) (sym c.self.view_is) c.in_ok-may_add.ensures.number;
     named = c.may_add.ensures.name;
-    enters = (c.new-node.ensures, rw c.in_ok-target.ensures c.requires, added);
+    enters = (c.new-node.ensures, rw c.in_ok-target.ensures c.requires, refl, added);
   }
 
   grown : AreConsistent c.put_entry.new.self × (held_in_slots c.put_entry.new.self (with_next c.self.inside.numbering (c.self.inside.numbering.next + 1)) ≡ tree_with t e)
@@ -50,5 +50,5 @@ invariant_of-self-2 c = (subst WellFormed (sym (grown c).1) (grown_keeps (t c) (
 pub returns-clause-exact : goal.returns-clause-exact
 returns-clause-exact c =
     let target = sym c.in_ok-target.ensures in
-    (λ i. add (sym c.self.view_is i) c.args.dir c.args.name (record { kind = c.args.kind; target = target i }))
+    (λ i. add (sym c.self.view_is i) c.args.dir c.args.name (record { kind = c.args.kind; target = target i; mount = false }))
     ∙ added c ∙ (λ i. Ok (sym c.new-node.ensures i, sym (grown c).1 i))

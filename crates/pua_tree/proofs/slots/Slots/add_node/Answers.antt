@@ -11,7 +11,7 @@ abbrev after : goal.After-insert-2 → Slots
 after c = record c.args.self.now { numbers = c.insert-2.new.self; nodes = c.insert.new.self }
 
 abbrev node : goal.After-insert-2 → SlotNode
-node c = record { kind = c.args.kind; target = c.args.target; standing = record { key = record { dir = 0; name = 0 }; rows = 0; names = 0 } }
+node c = record { kind = c.args.kind; target = c.args.target; mount = c.args.mount; standing = record { key = record { dir = 0; name = 0 }; rows = 0; names = 0 } }
 
 -- with room, the number has the slot
 numbered : (c : goal.After-insert-2) → HasNodeRoom c.args.self.now → IsNew c.args.self.now c.args.id

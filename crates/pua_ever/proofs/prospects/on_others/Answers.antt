@@ -1,5 +1,5 @@
 use Rattle.pua_ever.proofs.Common.{refl, empty_tree, IsMissing, rules}
-use Rattle.pua_ever.proofs.prospects.Prospects.on_others.Goals as goal
+use Rattle.pua_ever.proofs.prospects.on_others.Goals as goal
 
 pub returns : goal.returns
 returns c = λ t found covered call. (let allowed = c.allowed.ensures empty_tree IsMissing refl call in search (rules, allowed))
