@@ -32,7 +32,7 @@ my %HELP = (
     tight   => ['tight --help', 'help tight'],
     how     => ['how --help', 'help how'],
 );
-my $VERSION = "pua 0.1.0\nrattle-kit-13b logic dac8208d650f15bf\n";
+my $VERSION = "pua 0.1.0\nrattle-kit-13f logic dac8208d650f15bf\n";
 
 # Tests what a command writes, and its status.
 sub is_told {
