@@ -29,7 +29,7 @@ module _ (c : goal.After-self-1) where
 
   added : add t c.args.dir c.args.name node ≡ Ok (c.self.inside.numbering.next, with_new t c.args.dir c.args.name node)
   added = subst (λ (u : tree.Tree). add u c.args.dir c.args.name node ≡ Ok (u.next, with_new u c.args.dir c.args.name node))
-      (sym c.self.view_is) (c.in_ok-may_add.ensures.exact node)
+      (sym c.self.view_is) (c.in_ok-may_add.ensures.exact c.placed-place.ensures node)
 
   follows : Follows t e
   follows = record {
