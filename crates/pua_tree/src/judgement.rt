@@ -121,26 +121,30 @@ pub(crate) fn parent<T: Judged>(tree: &T, dir: NodeId) -> Option<NodeId>
     }
 }
 
-/// Whether a node may be added under this name, or else the first fault. What stands in the row of
-/// that name has been looked up.
+/// Whether a node may be added under this name, or else the first fault. Whether the directory
+/// lives, and which node stands in the row of that name, have been looked up.
 pub(crate) fn may_add<T: Judged>(
     tree: &T,
     dir: NodeId,
     name: &Name,
-    row: Option<(NodeId, Kind)>,
+    lives: bool,
+    there: Option<NodeId>,
 ) -> Result<(), TreeFault>
-    ensures exact { let held = T.held tree.now in row ≡ found_at held dir name.now →
-        MatchResult result
+    ensures exact { let held = T.held tree.now in lives ≡ is_dir held dir →
+        there ≡ look held dir name.now → MatchResult result
         (λ _. (node : Node) →
         add held dir name.now node ≡ Ok (held.next, with_new held dir name.now node))
         (λ fault. (fault ≢ TreeFault.OutOfMemory) × ((node : Node) →
         add held dir name.now node ≡ Err fault)) }
     ensures number { OnOk result ((T.held tree.now).next < number_end) }
     ensures name { IsTrue (is_name name.now) }
+    ensures lives { OnOk result (IsTrue lives) }
 {
     name.known();
-    let row = row_in(tree, dir, name, row)?;
-    if row.is_some() {
+    if !lives {
+        return Err(TreeFault::NotDir);
+    }
+    if there.is_some() {
         return Err(TreeFault::Taken);
     }
     if !has_room(tree) {
@@ -347,7 +351,7 @@ fn is_full_there<T: Judged>(tree: &T, row: &Option<(NodeId, Kind)>) -> bool
     }
 }
 
-fn is_dir<T: Judged>(tree: &T, id: NodeId) -> bool
+pub(crate) fn is_dir<T: Judged>(tree: &T, id: NodeId) -> bool
     ensures { result ≡ is_dir (T.held tree.now) id }
 {
     tree.kind_of(id) == Some(Kind::Dir)

@@ -143,7 +143,8 @@ impl FileTree for ListTree {
         kind: Kind,
         target: Option<&[u8]>,
     ) -> Result<NodeId, TreeFault> {
-        may_add(self, dir, &name, self.standing(dir, &name))?;
+        let lives = judgement::is_dir(self, dir);
+        may_add(self, dir, &name, lives, self.look(dir, &name))?;
         let alloc = *self.nodes.allocator();
         let target = copied_target(alloc, target)?;
         let number = self.numbering.next;

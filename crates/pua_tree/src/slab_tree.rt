@@ -112,8 +112,10 @@ impl FileTree for SlabTree {
         kind: Kind,
         target: Option<&[u8]>,
     ) -> Result<NodeId, TreeFault> {
-        let (place, row) = self.placed(dir, &name);
-        may_add(self, dir, &name, row)?;
+        let above = self.slots.dir_slot(dir);
+        let place = self.slots.place(name.bytes());
+        let there = self.slots.row_at_place(dir, place);
+        may_add(self, dir, &name, above.is_some(), there)?;
         let alloc = self.slots.allocator();
         let target = copied_target(alloc, target)?;
         let number = self.numbering.next;
@@ -124,7 +126,6 @@ impl FileTree for SlabTree {
             mount: false,
         });
         let stands = LineNode { number, node, made };
-        let above = self.slots.slot(dir);
         self.slots
             .put_entry(above, None, place, dir, &name, stands)?;
         self.numbering.next = number + 1;

@@ -264,6 +264,7 @@ impl Slots {
     }
 
     /// The slot of the directory of this number, and None for what is no living directory.
+    #[inline(always)]
     pub(crate) fn dir_slot(&self, id: NodeId) -> Option<usize>
         ensures slot { IsSome result → result ≡ slot_of self.now id }
         ensures dir { is_some result
