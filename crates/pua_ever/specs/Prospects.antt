@@ -11,6 +11,7 @@ use Rattle.pua_path.specs.declared.found.Found.TheVariants.{Slot, Whole}
 use Rattle.pua_calls.specs.Calls.{CallTable}
 use Rattle.pua_calls.specs.CallSets.{has, keeps_link}
 use Rattle.pua_policy.specs.States.{ProcessState}
+use Rattle.pua_policy.specs.AllowedCalls.{AreWorkedOut}
 use Rattle.pua_policy.specs.Verdict.{object_of_kind}
 use Rattle.pua_policy.specs.declared.answer.Cover.{Cover}
 use Rattle.pua_calls.specs.declared.call.Call.{Call}
@@ -35,6 +36,7 @@ IsTurnedSet h nodes = (node : ℕ) → contains nat_cmp nodes node ≡ is_turned
 pub record IsProspects (t : Tree) (table : CallTable) (h : ProcessState) (found : Prospects) : Type 0 where
   pub edits : found.may_edit ≡ may_edit table h
   pub links : found.may_link ≡ may_link table h
+  pub allowed : AreWorkedOut h table found.allowed
   pub movable : IsMovable t table h None found.movable
   pub destinations : AreDestinations t h found.destinations
   pub turned : IsTurnedSet h found.turned

@@ -41,7 +41,7 @@ use crate::turned::turned_nodes;
 use pua_calls::{Call, CallTable, Calls};
 use pua_objects::{Item, Subject};
 use pua_path::Last;
-use pua_policy::{Cover, Object, Place, Process, judge};
+use pua_policy::{AllowedCalls, Cover, Object, Place, Process, judge};
 use pua_tree::{FileTree, FileType, Kind, Name, NodeId, OutOfMemory};
 use std::alloc::{AllocError, Global};
 use std::collections::BTreeSet;
@@ -60,6 +60,8 @@ pub struct Prospects {
     turned: BTreeSet<u32>,
     /// The calls on what is moved or made, on any device.
     movable: Movable,
+    /// What the process is allowed by the table.
+    allowed: AllowedCalls,
 }
 
 /// Finds what decides the calls of the lines of a process's list for ever, by a table of what calls
@@ -77,12 +79,14 @@ pub fn find_prospects<T: FileTree>(
     let covers = found.covers(alloc, None)?;
     let movable = calls_by_object(process, table, &covers);
     let turned = turned_nodes(alloc, process)?;
+    let allowed = AllowedCalls::new(process, table);
     Ok(Prospects {
         may_edit: may_edit(process, table),
         may_link: may_link(process, table),
         destinations: found,
         turned,
         movable,
+        allowed,
     })
 }
 
@@ -192,7 +196,7 @@ impl Prospects {
             return movable.on_dir(emptied);
         }
         let object = self.seen_as(emptied, item.object);
-        judge::allowed(process, table, item.cover, object)
+        self.allowed.on(item.cover, object)
     }
 
     /// The calls on a name at which no directory stands, by what does.
@@ -236,7 +240,7 @@ impl Prospects {
             (kind_covers t table.now process.now on item.now.cover kind) (object_of_kind kind) call }
     {
         if item.object == Object::Missing {
-            return judge::allowed(process, table, item.cover, item.object);
+            return self.allowed.on(item.cover, item.object);
         }
         self.on_thing(process, table, movable, turned, item)
     }
@@ -287,7 +291,7 @@ impl Prospects {
         if can_move(process, table, cover) {
             return movable.on(object);
         }
-        let calls = judge::allowed(process, table, *cover, object);
+        let calls = self.allowed.on(*cover, object);
         if self.can_link(table, *cover, object) {
             return calls.union(movable.on(object));
         }
@@ -419,7 +423,7 @@ pub(crate) fn moves_dir(process: &Process, table: &CallTable, dir: NodeId, cover
     ensures { result ≡ (is_none (perms_kept process.now (Place.Dir dir))
         && moves table.now process.now cover.now) }
 {
-    process.kept(&Place::Dir(dir)).is_none() && can_move(process, table, cover)
+    can_move(process, table, cover) && process.kept(&Place::Dir(dir)).is_none()
 }
 
 /// The name at which what an item is about stands; None for the root, for further names, and where

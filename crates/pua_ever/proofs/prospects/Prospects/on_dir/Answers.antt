@@ -26,7 +26,7 @@ returns c = λ t way needs is finds living named covered seen call.
     = c.can_empty-emptied.ensures ∙ ap (λ b. b && not (list_any (λ other. other == c.args.dir) p.destinations.held.items)) named in
     still_calls t c.args.table.now h p is c.args.dir way living c.args.movable.now finds needs can c.seen_as-object.result
     (c.seen_as-object.ensures ∙ (λ i. if emptied i && is.edits i then see.Removable else seen i))
-    c.allowed.result
-    (λ o sees call. c.allowed.ensures empty_tree o sees call ∙
+    c.on.result
+    (λ o sees call. c.on.ensures h c.args.table.now empty_tree o is.allowed sees call ∙
     ap (λ left. is_allowed (covered_verdict empty_tree c.args.table.now h call left o)) covered)
     call
