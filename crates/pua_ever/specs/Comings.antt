@@ -2,6 +2,7 @@
 -- A process without veils has none.
 use Rattle.std.specs.Prelude.{◌≡◌, ℕ, Bool, true, not, ◌&&◌, if◌then◌else◌, List, [], ◌∷◌, ◌++◌, filter_map, map, ◌==◌, Option, Some, None}
 use Rattle.std.specs.Prelude.{is_none, is_some, option_and_then}
+use Rattle.std.specs.BTreeSet.{BTreeSet}
 use Rattle.std.specs.List.{list_any}
 use Rattle.pua_tree.specs.Tree.{Tree, above, is_dir, kind_at}
 use Rattle.pua_tree.specs.declared.node.Kind.{Kind}
@@ -18,7 +19,7 @@ use Rattle.pua_policy.specs.declared.place.Place.TheVariants as place
 use Rattle.pua_policy.specs.declared.reason.Covering.{Covering}
 use Rattle.pua_policy.specs.declared.reason.Covering.TheVariants.{By}
 use Rattle.pua_objects.specs.Objects.{At, Others, cover_in}
-use Rattle.pua_ever.specs.Ever.{NewDir, NewOthers, NewFile, NewLink, NewSock, NewFifo, Thing, Stands, Comes, can_empty, can_link, can_move, has_c_outside}
+use Rattle.pua_ever.specs.Ever.{NewDir, NewOthers, NewFile, NewLink, NewSock, NewFifo, Thing, Stands, Comes, can_link, can_move, can_yield}
 use Rattle.pua_ever.specs.Ever.{is_free, some_dir_moves}
 use Rattle.pua_ever.specs.Destinations.{can_give_way, destination}
 use Rattle.pua_ever.specs.declared.comings.Comings.{Comings}
@@ -59,7 +60,7 @@ abbrev pub entered : Tree → ProcessState → Place → Option ℕ
 entered t h (place.Slot dir name) =
     if is_dir t dir && (is_free t h (dir, name) && has_c_at h (place.Slot dir name)) then Some dir else None
 entered t h (place.Dir dir) =
-    if is_dir t dir && (not (dir == 0) && (has_c_at h (place.Dir dir) && (can_empty t h dir && has_c_outside t h dir)))
+    if is_dir t dir && (not (dir == 0) && (has_c_at h (place.Dir dir) && can_yield t h dir))
     then Some (above t dir) else None
 
 -- and what covers that directory covers the one that comes
@@ -118,10 +119,9 @@ pub record AreComings (t : Tree) (table : CallTable) (h : ProcessState) (found :
   pub moves : found.moves ≡ some_dir_moves t table h None
 
 -- by these directories it is told which give way
-abbrev pub GivesWay : Tree → ProcessState → List ℕ → List ℕ → Type 0
+abbrev pub GivesWay : Tree → ProcessState → BTreeSet ℕ → List ℕ → Type 0
 GivesWay t h held opened =
-    (dir : ℕ) → is_dir t dir ≡ true → has_c_at h (place.Dir dir) ≡ true →
-    can_give_way t held opened dir ≡ (can_empty t h dir && has_c_outside t h dir)
+    (dir : ℕ) → is_dir t dir ≡ true → has_c_at h (place.Dir dir) ≡ true → can_give_way t held opened dir ≡ can_yield t h dir
 
 -- what a veil at a place takes
 pub record IsTaking (t : Tree) (table : CallTable) (h : ProcessState) (at : Place) (taking : Taking) : Type 0 where

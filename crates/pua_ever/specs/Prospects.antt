@@ -1,7 +1,6 @@
 -- What is found before the first line, and the calls that it decides.
 use Rattle.std.specs.Prelude.{◌≡◌, ℕ, Bool, true, false, not, ◌&&◌, ◌||◌, if◌then◌else◌, is_some, List, [], ◌∷◌}
-use Rattle.std.specs.Prelude.{◌==◌, Option, Some, None}
-use Rattle.std.specs.List.{list_any}
+use Rattle.std.specs.Prelude.{Option, Some, None}
 use Rattle.std.specs.BTreeSet.{BTreeSet, contains}
 use Rattle.std.specs.Ordering.{nat_cmp}
 use Rattle.pua_tree.specs.Tree.{Tree, Spot, is_dir}
@@ -41,7 +40,7 @@ pub record IsProspects (t : Tree) (table : CallTable) (h : ProcessState) (found 
   pub destinations : AreDestinations t h found.destinations
   pub turned : IsTurnedSet h found.turned
   pub held : (dir : ℕ) → is_dir t dir ≡ true → has_c (cover_in t h dir) ≡ true →
-      can_empty t h dir ≡ not (list_any (λ other. other == dir) found.destinations.held.items)
+      can_empty t h dir ≡ not (contains nat_cmp found.destinations.held dir)
 
 -- the calls on what is moved from where a thing stands
 abbrev pub dir_of_subject : Subject → ℕ
