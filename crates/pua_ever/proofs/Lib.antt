@@ -5,6 +5,7 @@ pub mod Growing
 pub mod Ways
 pub mod Quiet
 pub mod Devices
+pub mod Mounts
 pub mod Origins
 pub mod RequestKeepsRows
 pub mod Execs
