@@ -268,19 +268,23 @@ sub _found {
     return { dir => $node, way => 'name' };
 }
 
-sub _row_has_c {
+# Whether that can come to leave its name: it has `c`, and is no mount point.
+sub _can_leave {
     my ($ever, $dir, $name) = @_;
-    return _has_c($ever->{model}->_cover($ever->{process}, $ever->_found($dir, $name)));
+    return !$ever->_is_mount($ever->{model}{rows}{$dir}{$name})
+        && _has_c($ever->{model}->_cover($ever->{process}, $ever->_found($dir, $name)));
 }
+
+sub _is_mount { return $_[0]{model}{mount}{ $_[1] } }
 
 sub _is_free {
     my ($ever, $dir, $name) = @_;
-    return !defined $ever->{model}{rows}{$dir}{$name} || $ever->_row_has_c($dir, $name);
+    return !defined $ever->{model}{rows}{$dir}{$name} || $ever->_can_leave($dir, $name);
 }
 
 sub _can_be_emptied {
     my ($ever, $dir) = @_;
-    return !grep { !$ever->_row_has_c($dir, $_) } keys %{ $ever->{model}{rows}{$dir} };
+    return !grep { !$ever->_can_leave($dir, $_) } keys %{ $ever->{model}{rows}{$dir} };
 }
 
 # The names in living directories that have a veil of their own, with its letters.
@@ -309,6 +313,7 @@ sub _is_way_in {
 sub _gives_way {
     my ($ever, $node) = @_;
     return $ever->{model}{kind}{$node} eq 'dir'
+        && !$ever->_is_mount($node)
         && _has_c($ever->_cover_of_dir($node))
         && $ever->_can_be_emptied($node)
         && $ever->_has_c_outside($node);
@@ -401,11 +406,11 @@ sub _lines_in {
     );
 }
 
-# Whether rmdir may find a directory empty; whether a file system is mounted there is asked where nothing can change.
+# Whether rmdir may find a directory empty that is no mount point.
 sub _is_gone {
     my ($ever, $dir) = @_;
-    return 0 if $dir == 0 || !$ever->_can_be_emptied($dir);
-    return $ever->{edits} || $ever->{model}->_is_empty($dir) && !$ever->{model}{mount}{$dir};
+    return 0 if $dir == 0 || $ever->{model}{mount}{$dir} || !$ever->_can_be_emptied($dir);
+    return $ever->{edits} || $ever->{model}->_is_empty($dir);
 }
 
 sub _lines_at {

@@ -3,8 +3,9 @@
 use Rattle.std.specs.Prelude.{◌≡◌, ℕ, Bool, false, not, ◌&&◌, ◌||◌, if◌then◌else◌, List, ◌++◌, filter_map, ◌==◌, Option, Some, None, is_some, option_map, min, length, IsFalse}
 use Rattle.std.specs.BTreeSet.{BTreeSet, contains}
 use Rattle.std.specs.List.{list_any, Contains}
+use Rattle.std.specs.Option.{option_eq}
 use Rattle.std.specs.Ordering.{nat_cmp}
-use Rattle.pua_tree.specs.Tree.{Tree, is_dir, is_mount, look, above, climb, device}
+use Rattle.pua_tree.specs.Tree.{Tree, Spot, is_dir, is_mount, look, above, climb, device}
 use Rattle.pua_policy.specs.States.{ProcessState, perms_kept}
 use Rattle.pua_policy.specs.declared.answer.Cover.{Cover}
 use Rattle.pua_policy.specs.declared.answer.Cover.TheVariants.{Only}
@@ -74,14 +75,19 @@ held_dir t h (place.Dir dir) =
 held_dir t h (place.Slot dir name) =
     if is_no_dir t (look t dir name) && is_barred h (place.Slot dir name) then Some dir else None
 
--- a mount point stands in the directory: so it can't either
+abbrev pub holds_dir : Tree → ProcessState → ℕ → Place → Bool
+holds_dir t h dir at = option_eq ◌==◌ (held_dir t h at) (Some dir)
+
+-- nor can one in which a mount point stands
+abbrev pub is_mounted_in : Tree → ℕ → (Spot × ℕ) → Bool
+is_mounted_in t dir row = row.0.0 == dir && is_mount t row.1
+
 abbrev pub has_mount : Tree → ℕ → Bool
-has_mount t dir = list_any (λ row. row.0.0 == dir && is_mount t row.1) t.rows
+has_mount t dir = list_any (is_mounted_in t dir) t.rows
 
 -- those directories are in a set
 abbrev pub AreHeld : Tree → ProcessState → List Place → BTreeSet ℕ → Type 0
-AreHeld t h places held = (dir : ℕ) →
-    contains nat_cmp held dir ≡ (list_any (λ other. other == dir) (filter_map (held_dir t h) places) || has_mount t dir)
+AreHeld t h places held = (dir : ℕ) → contains nat_cmp held dir ≡ (has_mount t dir || list_any (holds_dir t h dir) places)
 
 -- the cover under which a directory can come by this veil: at a name that can come to be free, or in the
 -- place of a directory that is no mount point and can come to be empty, if something has `c` that isn't in that

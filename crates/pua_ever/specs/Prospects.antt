@@ -3,7 +3,7 @@ use Rattle.std.specs.Prelude.{◌≡◌, ℕ, Bool, true, false, not, ◌&&◌, 
 use Rattle.std.specs.Prelude.{Option, Some, None}
 use Rattle.std.specs.BTreeSet.{BTreeSet, contains}
 use Rattle.std.specs.Ordering.{nat_cmp}
-use Rattle.pua_tree.specs.Tree.{Tree, Spot, is_dir}
+use Rattle.pua_tree.specs.Tree.{Tree, Spot, is_dir, is_mount}
 use Rattle.pua_tree.specs.declared.node.Kind.{Kind}
 use Rattle.pua_path.specs.Fits.{is_link_kind}
 use Rattle.pua_path.specs.declared.found.Found.TheVariants.{Slot, Whole}
@@ -67,6 +67,11 @@ own_given (subject.Name dir name) object = by object
     by see.Missing = None
     by _ = Some (dir, name.now)
 own_given _ object = None
+
+-- what it is about is a mount point
+abbrev pub is_mount_given : Tree → about.Subject → Bool
+is_mount_given t (subject.Dir id dir name) = is_mount t id
+is_mount_given t _ = false
 
 -- an object is a file that is a plain one or may be
 abbrev pub is_startable : seen.Object → Bool

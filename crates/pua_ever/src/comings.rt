@@ -32,6 +32,7 @@ use pua_path::{Counted, Found, Last, Way};
 use pua_policy::{Cover, Covering, Place, Process, judge};
 use pua_tree::{FileTree, Kind, Name, NodeId, OutOfMemory};
 use std::alloc::{AllocError, Global};
+use std::collections::BTreeSet;
 
 /// The places of the veils under which things come to stand that are moved or made.
 #[derive(Drop)]
@@ -173,7 +174,7 @@ fn arounds<T: FileTree>(
     alloc: Global,
     tree: &T,
     process: &Process,
-    held: &[NodeId],
+    held: &BTreeSet<u32>,
     opened: &Opened,
     places: &[&Place],
 ) -> Result<Vec<Place>, AllocError>
@@ -217,7 +218,7 @@ fn inside<T: FileTree>(tree: &T, process: &Process, place: &Place) -> Option<Pla
 fn around<T: FileTree>(
     tree: &T,
     process: &Process,
-    held: &[NodeId],
+    held: &BTreeSet<u32>,
     opened: &Opened,
     place: &Place,
 ) -> Option<Place>
@@ -235,7 +236,7 @@ fn around<T: FileTree>(
 fn entered<T: FileTree>(
     tree: &T,
     process: &Process,
-    held: &[NodeId],
+    held: &BTreeSet<u32>,
     opened: &Opened,
     place: &Place,
 ) -> Option<NodeId>

@@ -265,7 +265,7 @@ fn add_rows<'t, T: FileTree>(
     let Ok(()) = rows.push(stands) else {
         return Err(AllocError);
     };
-    let Some(freed) = freed_row(prospects, process, table, item) else {
+    let Some(freed) = freed_row(tree, prospects, process, table, item) else {
         return Ok(());
     };
     let Ok(()) = rows.push(freed) else {
@@ -341,7 +341,8 @@ pub fn place_of(item: &Item<'_>) -> EverPlace
 
 /// The row of the name at which an item stands, once that can be taken away; None where it has
 /// none.
-fn freed_row<'t>(
+fn freed_row<'t, T: FileTree>(
+    tree: &T,
     prospects: &Prospects,
     process: &Process,
     table: &CallTable,
@@ -349,17 +350,18 @@ fn freed_row<'t>(
 ) -> Option<EverRow<'t>>
     ensures own { MatchOption result (own_given item.now.item.subject item.now.item.object ≡ None)
         (IsFreedRow item.now (own_given item.now.item.subject item.now.item.object)) }
-    ensures calls { IfSome result (λ row. (t : Tree) → WellFormed t →
-        IsProspects t table.now process.now prospects.now → IsToldIn t process.now item.now →
-        AreOnFreed t table.now process.now (own_spot
-        (subject_given t item.now.item.subject)) row.line.calls) }
+    ensures calls { IfSome result (λ row. WellFormed (T.content tree.now) →
+        IsProspects (T.content tree.now) table.now process.now prospects.now →
+        IsToldIn (T.content tree.now) process.now item.now →
+        AreOnFreed (T.content tree.now) table.now process.now (own_spot
+        (subject_given (T.content tree.now) item.now.item.subject)) row.line.calls) }
     ensures inside { IfSome result (λ row. (t : Tree) → WellFormed t →
         IsToldIn t process.now item.now → IsOwnInside t process.now item.now row.inside) }
 {
     let Some(own) = own_name(&item.item) else {
         return None;
     };
-    let calls = prospects.calls_on_freed(process, table, &item.item);
+    let calls = prospects.calls_on_freed(tree, process, table, &item.item);
     Some(EverRow {
         depth: item.depth,
         name: Some(own.1),
