@@ -478,8 +478,8 @@ fn depth<T: FileTree>(tree: &T, dir: NodeId) -> usize
     count
 }
 
-/// Whether a name in a directory can come to be free: nothing stands there, or what does has `c` and
-/// is no mount point.
+/// Whether a name in a directory can come to be free: nothing stands there, or what does has `c`
+/// and is no mount point.
 pub(crate) fn is_free<T: FileTree>(tree: &T, process: &Process, dir: NodeId, name: &Name) -> bool
     ensures { result ≡ can_be_free (T.content tree.now) process.now (dir, name.now) }
 {
