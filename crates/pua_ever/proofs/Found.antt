@@ -1,8 +1,7 @@
 -- The covers on a device are those of the definition.
-use Rattle.pua_ever.proofs.Common.{◌≡◌, ◌++◌, ℕ, zero, suc, List, [], ◌∷◌, Bool, true, false, cond, refl, sym, subst, take, Option, Some, None}
+use Rattle.pua_ever.proofs.Common.{◌≡◌, ◌++◌, ℕ, List, [], ◌∷◌, Bool, true, false, cond, refl, sym, subst, Option, Some, None}
 use Rattle.pua_ever.proofs.Common.{Tree, WellFormed, is_dir, is_mount, climb, ProcessState, HaveSame, dir_covers, name_covers, open_covers}
 use Rattle.pua_ever.proofs.Common.{None≢Some, same_Some}
-use Rattle.std.specs.List.{AllByRecursion}
 use Rattle.pua_tree.specs.Tree.{device, first_mount}
 use Rattle.pua_ever.specs.Ever.{goes_along, kept_on}
 use Rattle.pua_ever.specs.Destinations.{AreDestinations, StaysPut, covers_on}
@@ -28,12 +27,6 @@ stays_put t h device = by (goes_along t h device) refl
     by : (b : Bool) → goes_along t h device ≡ b → StaysPut t h (cond b None (Some device))
     by true goes found e = absurd (None≢Some found e)
     by false stays found e = subst (λ d. goes_along t h d ≡ false) (same_Some device found e) stays
-
--- all of some are so, but for the last ones
-pub all_take : {X : Type 0} (P : X → Type 0) (n : ℕ) (xs : List X) → AllByRecursion P xs → AllByRecursion P (take n xs)
-all_take P zero xs all = tt
-all_take P (suc n) [] all = tt
-all_take P (suc n) (x ∷ xs) all = (all.0, all_take P n xs all.1)
 
 -- a device is a living directory
 first_lives : (t : Tree) → WellFormed t → (ds : List ℕ) → is_dir t (first_mount t ds) ≡ true
