@@ -29,6 +29,7 @@ pub mod Opened
 pub mod DestinationCovers
 pub mod Found
 pub mod Picked
+pub mod ComingDevices
 pub mod ComingPlaces
 pub mod ComingRows
 pub mod Under

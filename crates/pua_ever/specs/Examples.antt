@@ -41,7 +41,7 @@ abbrev locked_by : ℕ → List (Place × ℕ) → ProcessState
 locked_by promises veils = record new_process { promises = Some promises; veils = veils; locked = true }
 
 -- the same with promises for every call of the table
-abbrev locked_with : List (Place × ℕ) → ProcessState
+abbrev pub locked_with : List (Place × ℕ) → ProcessState
 locked_with veils = locked_by (rpath + wpath + cpath + fattr + exec) veils
 
 -- `/a` has rwc and `/b` has c: what stands in `/b` can be moved into `/a`, and be read there

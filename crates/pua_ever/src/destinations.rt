@@ -35,7 +35,7 @@ use std::collections::BTreeSet;
 #[derive(Drop)]
 pub(crate) struct Destinations {
     /// The covers of directories that have `c`.
-    dirs: Vec<(NodeId, Cover)>,
+    pub(crate) dirs: Vec<(NodeId, Cover)>,
     /// The covers under which a directory can come beside: at names with veils of their own, and in
     /// the place of others.
     entrances: Vec<(NodeId, Cover)>,
@@ -101,7 +101,7 @@ fn cover_on(on: Option<NodeId>, found: &(NodeId, Cover)) -> Option<Cover>
 }
 
 /// Whether a device is this one, or any.
-fn is_device(on: Option<NodeId>, device: NodeId) -> bool
+pub(crate) fn is_device(on: Option<NodeId>, device: NodeId) -> bool
     ensures { result ≡ is_device on device }
 {
     match on {
@@ -570,7 +570,7 @@ fn cover_of_dir<T: FileTree>(tree: &T, process: &Process, dir: NodeId) -> Cover
 /// A directory, the one at which its file system is mounted, and whether that goes along with the
 /// directory in which it stands.
 #[derive(Clone, Copy)]
-pub(crate) struct OnDevice {
+pub struct OnDevice {
     pub(crate) dir: NodeId,
     pub(crate) device: NodeId,
     pub(crate) along: bool,
@@ -592,7 +592,7 @@ pub(crate) fn on_device<T: FileTree>(tree: &T, process: &Process, dir: NodeId) -
 }
 
 /// Whether a mount point goes along with the directory in which it stands, by what covers it.
-pub(crate) fn goes_along(process: &Process, mount: NodeId, cover: Cover) -> bool
+fn goes_along(process: &Process, mount: NodeId, cover: Cover) -> bool
     ensures { result ≡ (is_none (perms_kept process.now (Place.Dir mount)) && cover_has_c cover) }
 {
     process.kept(&Place::Dir(mount)).is_none() && has_c(cover)
