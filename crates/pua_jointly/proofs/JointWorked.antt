@@ -26,7 +26,7 @@ use Rattle.pua_jointly.specs.JointPlace.{Once}
 use Rattle.pua_jointly.specs.JointSetting.{AreColumns, AreDevices, AreInOrder, AreMarksOf, AreWatched, IsEntryAt, IsMarkOf, IsRowIn, IsShape, IsSize, entry_of}
 use Rattle.pua_jointly.specs.JointSetting.{is_watched}
 use Rattle.pua_jointly.specs.JointSides.{IsPart}
-use Rattle.pua_jointly.specs.declared.setup.Parts.{Parts}
+use Rattle.pua_jointly.specs.declared.parts.Parts.{Parts}
 use Rattle.pua_jointly.proofs.JointSides.{hands_length, hands_once, no_rows, rows_have, side_among}
 use Rattle.std.proofs.Math.Nat.{mul_comm}
 use Rattle.pua_jointly.specs.JointSetup.{AreEntries, AreWatches, IsEntry, IsRowOf, IsWatch, IsWorkedOut, count_told, crew_told, devices_told, dirs_of, hands_told}

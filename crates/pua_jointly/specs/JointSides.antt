@@ -7,7 +7,7 @@ use Rattle.pua_jointly.specs.declared.crew.Mark.{Mark}
 use Rattle.pua_jointly.specs.declared.crew.Side.{Side}
 use Rattle.pua_jointly.specs.declared.crew.Watch.{Watch}
 use Rattle.pua_jointly.specs.declared.mover.Mover.{Mover}
-use Rattle.pua_jointly.specs.declared.setup.Parts.{Parts}
+use Rattle.pua_jointly.specs.declared.parts.Parts.{Parts}
 
 -- a directory is on a device, by the devices of directories
 abbrev pub is_there : ℕ → Option ℕ → Bool
