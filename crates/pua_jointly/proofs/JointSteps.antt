@@ -89,7 +89,7 @@ module _ (t : Tree) (well : WellFormed t) (table : CallTable) (crew : List Proce
         has_bit (found (side_of c about)) bit → Here bit
     side_only e is_about at bit held =
         whole_only t well table crew devices watched dirs spots guarded is.fits is.each_agent is.each_hand is.each_name is.each_watched told c
-        at.side at.on at.is is.agents is.entries is.watches is.only_watched is.watch_columns place about p e (rows_now ∙ is_about) is_about at.here
+        at.side at.on at.is is.agents is.entries is.watches is.only_watched is.watch_columns is.low_nodes is.on_devices place about p e (rows_now ∙ is_about) is_about at.here
         parts_now bit
         (subst (λ n. has_bit (part_word t (record (ground_of c at.side) { columns = many; common = length crew }) told (place / n) about p) bit)
         is.columns (subst (λ (k : Ground). has_bit (part_word t k told (place / c.columns) about p) bit) (same at.side)
@@ -103,7 +103,7 @@ module _ (t : Tree) (well : WellFormed t) (table : CallTable) (crew : List Proce
         (subst (λ n. has_bit (part_word t (record (ground_of c at.side) { columns = many; common = length crew }) told (place / n) about p) bit)
         (sym is.columns)
         (whole_all t well table crew devices watched dirs spots guarded is.fits is.each_agent is.each_hand is.each_name is.each_watched told c
-        at.side at.on at.is is.agents is.entries is.watches is.only_watched is.watch_columns place about p e (rows_now ∙ is_about) is_about at.here
+        at.side at.on at.is is.agents is.entries is.watches is.only_watched is.watch_columns is.low_nodes is.on_devices place about p e (rows_now ∙ is_about) is_about at.here
         parts_now bit new)))
 
     pub step_only : (bit : ℕ) → has_bit (found (side_of c about)) bit → Here bit

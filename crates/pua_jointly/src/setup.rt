@@ -458,7 +458,7 @@ fn is_seat_on(parts: &Parts<'_, '_>, device: NodeId, first: usize, seat: usize) 
 }
 
 /// Whether a directory is on a device.
-fn is_on_device(devices: &[NodeId], dir: NodeId, device: NodeId) -> bool
+pub(crate) fn is_on_device(devices: &[NodeId], dir: NodeId, device: NodeId) -> bool
     ensures { result ≡ is_on_device devices.now device dir }
 {
     match devices.get(dir.number() as usize) {
