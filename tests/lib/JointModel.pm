@@ -183,7 +183,7 @@ sub _covers_at {
     return defined $own ? $own : $joint->_of_facts('cover', $by, $seat);
 }
 
-# Names that one can take away.
+# Names that one can take away, none of them a mount point's.
 sub _free {
     my ($joint, $by) = @_;
     my ($model, $ever) = ($joint->{model}, $joint->{crew}[$by]);
@@ -191,6 +191,7 @@ sub _free {
     for my $dir (@{ $joint->{dirs} }) {
         for my $name (keys %{ $model->{rows}{$dir} }) {
             my $node = $model->{rows}{$dir}{$name};
+            next if $model->{mount}{$node};
             my @covers = $model->{kind}{$node} eq 'dir' ? $joint->_of_facts('cover', $by, $node) : $joint->_covers_at($by, $dir, $name);
             $joint->_has('free', $dir, $name) if grep { /c/ } @covers;
         }
@@ -360,7 +361,7 @@ sub _lines_in {
     my ($joint, $dir, @agents) = @_;
     my $model = $joint->{model};
     my ($path, $rows) = ($model->_path($dir), $model->{rows}{$dir});
-    my $is = $dir != 0 && $joint->_can_be_emptied($dir) ? 'gone' : 'dir';
+    my $is = $dir != 0 && !$model->{mount}{$dir} && $joint->_can_be_emptied($dir) ? 'gone' : 'dir';
     my %has = map { $_ => 1 } map { $joint->_calls($_, $is, $joint->_of_facts('cover', $_, $dir)) } @agents;
     my %others = map { $_ => 1 } map { $joint->_calls($_, 'missing', $joint->_of_facts('cover', $_, $dir)) } @agents;
     my $letters = $joint->{crew}[ $agents[0] ]{process}{letters};
