@@ -292,6 +292,12 @@ abbrev pub part_at_once : Ground → List ℕ → Row → Part → ℕ
 part_at_once c told about (parts.Agent i) = by_agent_at_once c told about (slice_get c.agents i)
 part_at_once c told about _ = 0
 
+-- a word of a name has one bit alone, and that of all processes none on a directory
+abbrev pub is_full : Row → Part → ℕ → Bool
+is_full (rows.Name i) p word = has_one word 0
+is_full (rows.Dir dir) parts.Common word = true
+is_full _ p word = false
+
 -- the same on the device of the row, if it has one
 abbrev pub side_word : Tree → Crew → List ℕ → ℕ → Row → Part → Option Side → ℕ
 side_word t c told at about p None = 0
