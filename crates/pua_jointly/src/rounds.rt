@@ -99,6 +99,7 @@ impl<'t> Crew<'t> {
     }
 
     /// The device of a row.
+    #[inline(always)]
     fn side(&self, row: Row) -> Option<&Side<'t>>
         ensures { option_map (λ side. side.now) result ≡ side_of self.now row }
     {
@@ -424,6 +425,7 @@ impl Ground<'_, '_> {
     }
 
     /// Whether a process can put another directory into one.
+    #[inline(always)]
     fn enters<T: FileTree>(&self, tree: &T, told: &[u32], of: &Agent<'_>, seat: usize) -> bool
         ensures { result ≡ can_enter (T.content tree.now) (ground_at self.now) told.now of.now seat }
     {
