@@ -29,8 +29,7 @@ my @EDITS = qw(create mkdir rmdir unlink symlink bind mknod create-rw);
 my @OPENED = qw(create unlink create-rw);
 my $OPENER = 'tmppath';
 
-# Whether lists for ever keep what is moved or linked on its file system, as they do; else they take all of a tree for one.
-our $BY_DEVICE = 1;
+# All devices, where something can come to be on any.
 my $ALL = 'all';
 
 # What a file is that can be made a program whatever covers it: one that is made, or that the process holds so.
@@ -47,18 +46,8 @@ my @NEW = (
 );
 
 # The lines of the list for ever of a process that can put no veil any more; with reasons each has the covers under which
-# its thing could come if all of the tree were on one file system, in the order of the veils that leave them, as letters and
-# the number of the veil.
+# its thing could come, in the order of the veils that leave them, as letters and the number of the veil.
 sub lines {
-    my ($model, $number, $with_reasons) = @_;
-    my @lines = _lines_of($model, $number, $with_reasons);
-    return @lines if !$with_reasons || !$BY_DEVICE;
-    local $BY_DEVICE = 0;
-    my %covers = map { /\A(\S+ \S+) \S+(.*)\z/ ? ($1 => $2) : () } _lines_of($model, $number, $with_reasons);
-    return map { /\A((\S+ \S+) \S+)/ ? "$1$covers{$2}" : () } @lines;
-}
-
-sub _lines_of {
     my ($model, $number, $with_reasons) = @_;
     $model = widened($model);
     my $process = $model->{processes}{$number};
@@ -237,7 +226,7 @@ sub _find_covers {
     return;
 }
 
-sub _device { return $BY_DEVICE ? $_[0]{model}->device($_[1]) : 0 }
+sub _device { return $_[0]{model}->device($_[1]) }
 
 # Where that is under whose covers things in a directory can come: on its device; anywhere, if the mount point goes along with
 # the directory in which it stands, as it has `c` and no veil of its own.

@@ -88,11 +88,10 @@ sub _begin {
     return;
 }
 
-# The device of a directory, or of what one makes on a device; one for all where lists for ever don't go by them.
+# The device of a directory, or of what one makes on a device.
 sub _device {
     my ($joint, $seat) = @_;
-    return $1 if $seat =~ / on ([0-9]+)\z/;
-    return $EverModel::BY_DEVICE ? $joint->{model}->device($seat) : 0;
+    return $seat =~ / on ([0-9]+)\z/ ? $1 : $joint->{model}->device($seat);
 }
 
 # Notes a fact, and whether it is a new one.
@@ -219,7 +218,7 @@ sub _ways_in {
             if grep { /c/ } $joint->_of_facts('cover', $by, $seat), map { $letters->{"$seat/$_"} } @names;
     }
     for my $dir (grep { ($letters->{$_} || '') =~ /c/ && $joint->_can_be_emptied($_) } @{ $joint->{dirs} }) {
-        next if $EverModel::BY_DEVICE && $joint->{model}{mount}{$dir};
+        next if $joint->{model}{mount}{$dir};
         my @others = grep { $_ ne $dir && $joint->_device($_) == $joint->_device($dir) } @{ $joint->{seats} };
         next if !grep { $joint->_is('apart', $dir, $_) && $joint->_moves_dir($by, $_) } @others;
         $joint->_has('way', $by, $_) for $joint->_of_facts('in', $dir);
