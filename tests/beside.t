@@ -4,7 +4,8 @@
 # touch now lies within its list beside the others, and so does what it and what it forks can touch behind random
 # requests of them all: short of an exec that succeeds where what one of them starts isn't bounded, and else whatever is
 # started, so that a future goes on. Things are followed through renames by a model (Model.pm). The lists are those of a
-# plain model, too (JointModel.pm), so they aren't too long, and the help of others takes no line away.
+# plain model, too (JointModel.pm), so they aren't too long, and the help of others takes no line away. And so they are in a
+# world for each wrong model of mount points (WrongMounts.pm) that has another list there.
 use strict;
 use warnings;
 use FindBin qw($Bin);
@@ -22,9 +23,14 @@ use Plays qw(asked behind differs told);
 use Things;
 use Tree qw(unspelled);
 use Worlds qw(program_in);
+use WrongMounts;
+use WrongRoots qw(with_wrong);
 
 my $WORLDS = 36;
 my $PLAYS  = 10;
+
+# Among how many worlds one is looked for in which a wrong model has other lists.
+my $LOOKED = 5000;
 
 # A process that the first line of each script forks, and that asks for nothing: it has no veils and all
 # promises, so its list has each name of the tree.
@@ -73,6 +79,12 @@ for my $number (1 .. $WORLDS) {
     ok(!is_told($world, beyond_ever($world)), "$who they have what can be touched in $PLAYS futures");
     ok(!$world->{stray}, "$who no exec succeeds where none has one");
 }
+for (@WrongMounts::WRONG_JOINTLY) {
+    my ($name, @wrong) = @$_;
+    my $world = noticing(@wrong) or fail("not noticed: $name"), next;
+    ok(!is_told($world, not_modelled($world)), "noticed: $name");
+    ok(!is_told($world, beyond_ever($world)), "$name: there the lists have what can be touched in $PLAYS futures");
+}
 cmp_ok($counts{sent}, '>=', 1, 'a file becomes a program that one sends to another');
 note("$counts{lists} lists and $counts{answers} answers, of which $counts{opened} are by an opening alone, in ",
     "$counts{plays} futures within lists, of which $counts{met} calls of $counts{calls} were met; $counts{more} lines ",
@@ -91,6 +103,20 @@ sub world {
         next if $number % 3 && $number % 4 && !has_help($world);
         return with_lists($world);
     }
+}
+
+# A world in which a wrong model has other lists for ever; undef where none is found.
+sub noticing {
+    my ($place, $wrong) = @_;
+    for my $number (1 .. $LOOKED) {
+        my $world = drawn($RULES[ $number % @RULES ], 1 + $number % 3);
+        my ($model, @members) = ($world->{model}, @{ $world->{members} });
+        next if !%{ $model->{mount} } || grep { $model->state($_) !~ /^unveil (?:locked|given-up)$/m } @members;
+        $world->{found} = JointModel::found($model, @members);
+        my $found = with_wrong($place, $wrong, sub { return JointModel::found($model, @members) });
+        return with_lists($world) if grep { "@{ $found->{lines}{$_} }" ne "@{ $world->{found}{lines}{$_} }" } @members;
+    }
+    return;
 }
 
 # Whether some list has more by the help of others.

@@ -5,7 +5,8 @@
 # is started isn't bounded, and else whatever is started, so that a future goes on. Things are followed through renames
 # by a model (Model.pm) of which the same is requested. The list for ever is that of a plain model, too (EverModel.pm),
 # so it isn't too long; and what can have no such list is refused. So it is of two processes together, with other
-# promises and the same veils; and of two that have files open, each its own.
+# promises and the same veils; and of two that have files open, each its own. And so it is in a world for each wrong model of
+# mount points (WrongMounts.pm) that has another list there.
 use strict;
 use warnings;
 use FindBin qw($Bin);
@@ -22,11 +23,16 @@ use Plays qw(asked behind differs told);
 use Things;
 use Tree qw(unspelled);
 use Worlds qw(answer_of program_in worlds_told);
+use WrongMounts;
+use WrongRoots qw(with_wrong);
 
 my $WORLDS = 40;
 my $PAIRS  = 15;
 my $OPEN   = 12;
 my $PLAYS  = 12;
+
+# Among how many worlds one is looked for in which a wrong model has another list.
+my $LOOKED = 5000;
 
 # A process that the first line of each script forks, and that asks for nothing: it has no veils and all
 # promises, so its list has each name of the tree.
@@ -90,6 +96,12 @@ for my $number (1 .. $PAIRS + $OPEN) {
     ok(!is_told($world, not_modelled($world)), "pair $number: the list of both is that of the model");
     ok(!is_told($world, beyond_ever($world)), "pair $number: it has what they can touch in $PLAYS futures");
     ok(!$world->{stray}, "pair $number: no exec succeeds where it has none");
+}
+for (@WrongMounts::WRONG) {
+    my ($name, @wrong) = @$_;
+    my $world = noticing(@wrong) or fail("not noticed: $name"), next;
+    ok(!is_told($world, not_modelled($world) // not_reasoned($world)), "noticed: $name");
+    ok(!is_told($world, beyond_ever($world)), "$name: there the list has what can be touched in $PLAYS futures");
 }
 note("$counts{lists} lists and $counts{answers} answers, of which $counts{opened} are by an opening alone, and ",
     "$counts{by_tmppath} by tmppath with a line, in $counts{plays} futures within lists for ever, of which ",
@@ -161,6 +173,25 @@ sub is_by_child {
     my @lines = EverModel::lasting(EverModel::joined($model, 1, $CHILD), 0);
     local $model->{processes}{$CHILD}{files} = {};
     return "@lines" ne join ' ', EverModel::lasting(EverModel::joined($model, 1, $CHILD), 0);
+}
+
+# A world in which a wrong model has another list for ever of process 1; undef where none is found.
+sub noticing {
+    my ($place, $wrong) = @_;
+    for my $number (1 .. $LOOKED) {
+        my $world = drawn($RULES[ $number % @RULES ]);
+        my $model = $world->{model};
+        next if !%{ $model->{mount} } || $model->state(1) !~ /^unveil (?:locked|given-up)$/m;
+        my ($told, $told_wrongly) = (told_by_model($model), with_wrong($place, $wrong, sub { return told_by_model($model) }));
+        return with_lists($world, 1) if $told ne $told_wrongly;
+    }
+    return;
+}
+
+# The lines of the model's list for ever of process 1, each with its promises and the numbers of its veils.
+sub told_by_model {
+    my ($model) = @_;
+    return join "\n", map { join ' ', (split / /)[ 0 .. 2 ], EverModel::reasons($model, 1, $_) } EverModel::lasting($model, 1, 1);
 }
 
 # A world with the lists of now, and the one for ever of these processes.

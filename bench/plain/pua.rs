@@ -2105,19 +2105,21 @@ impl<'a> Ways<'a> {
         self.names_with_c().filter(move |(dir, name, _)| self.is_free(*dir, name))
     }
 
-    fn row_has_c(self, dir: u32, name: &[u8], node: u32) -> bool {
-        has_c(match self.tree.node(node).kind {
+    /// What stands there has `c`, and is no mount point.
+    fn can_leave(self, dir: u32, name: &[u8], node: u32) -> bool {
+        let cover = match self.tree.node(node).kind {
             Kind::Dir => self.process.dir_cover(self.tree, node),
             _ => self.process.cover(self.tree, Found::Slot(dir, name, Some(node))),
-        })
+        };
+        has_c(cover) && !self.tree.node(node).is_mount
     }
 
     fn is_free(self, dir: u32, name: &[u8]) -> bool {
-        self.tree.node(dir).rows.get(name).is_none_or(|node| self.row_has_c(dir, name, *node))
+        self.tree.node(dir).rows.get(name).is_none_or(|node| self.can_leave(dir, name, *node))
     }
 
     fn can_empty(self, dir: u32) -> bool {
-        self.tree.node(dir).rows.iter().all(|(name, node)| self.row_has_c(dir, name, *node))
+        self.tree.node(dir).rows.iter().all(|(name, node)| self.can_leave(dir, name, *node))
     }
 
     fn is_below(self, over: u32, dir: u32) -> bool {
@@ -2135,6 +2137,7 @@ impl<'a> Ways<'a> {
 
     fn gives_way(self, dir: u32) -> bool {
         self.tree.is_living_dir(dir)
+            && !self.tree.node(dir).is_mount
             && has_c(self.process.dir_cover(self.tree, dir))
             && self.can_empty(dir)
             && self.has_c_outside(dir)
@@ -2288,8 +2291,8 @@ impl<'a> Ever<'a> {
         let now = process.dir_cover(tree, dir);
         let moves = !process.on_dirs.contains_key(&dir) && self.can_move(now);
         let covers = if moves { self.coming_to(dir).dirs.clone() } else { vec![now] };
-        let is_bare = rmdir_fault(tree, dir).is_none();
-        let is_removable = dir != ROOT && self.ways.can_empty(dir) && (self.may_edit || is_bare);
+        let stays = dir == ROOT || tree.node(dir).is_mount;
+        let is_removable = !stays && self.ways.can_empty(dir) && (self.may_edit || tree.node(dir).rows.is_empty());
         self.line("dir", &covers, dir_object((!is_removable).then_some("ENOTEMPTY")));
         if let Some((over, name)) = at {
             self.freed(over, name);

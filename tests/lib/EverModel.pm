@@ -29,8 +29,7 @@ my @EDITS = qw(create mkdir rmdir unlink symlink bind mknod create-rw);
 my @OPENED = qw(create unlink create-rw);
 my $OPENER = 'tmppath';
 
-# Whether lists for ever keep what is moved or linked on its file system, as they do; else they take all of a tree for one.
-our $BY_DEVICE = 1;
+# All devices, where something can come to be on any.
 my $ALL = 'all';
 
 # What a file is that can be made a program whatever covers it: one that is made, or that the process holds so.
@@ -47,18 +46,8 @@ my @NEW = (
 );
 
 # The lines of the list for ever of a process that can put no veil any more; with reasons each has the covers under which
-# its thing could come if all of the tree were on one file system, in the order of the veils that leave them, as letters and
-# the number of the veil.
+# its thing could come, in the order of the veils that leave them, as letters and the number of the veil.
 sub lines {
-    my ($model, $number, $with_reasons) = @_;
-    my @lines = _lines_of($model, $number, $with_reasons);
-    return @lines if !$with_reasons || !$BY_DEVICE;
-    local $BY_DEVICE = 0;
-    my %covers = map { /\A(\S+ \S+) \S+(.*)\z/ ? ($1 => $2) : () } _lines_of($model, $number, $with_reasons);
-    return map { /\A((\S+ \S+) \S+)/ ? "$1$covers{$2}" : () } @lines;
-}
-
-sub _lines_of {
     my ($model, $number, $with_reasons) = @_;
     $model = widened($model);
     my $process = $model->{processes}{$number};
@@ -237,7 +226,7 @@ sub _find_covers {
     return;
 }
 
-sub _device { return $BY_DEVICE ? $_[0]{model}->device($_[1]) : 0 }
+sub _device { return $_[0]{model}->device($_[1]) }
 
 # Where that is under whose covers things in a directory can come: on its device; anywhere, if the mount point goes along with
 # the directory in which it stands, as it has `c` and no veil of its own.
@@ -268,19 +257,23 @@ sub _found {
     return { dir => $node, way => 'name' };
 }
 
-sub _row_has_c {
+# Whether that can come to leave its name: it has `c`, and is no mount point.
+sub _can_leave {
     my ($ever, $dir, $name) = @_;
-    return _has_c($ever->{model}->_cover($ever->{process}, $ever->_found($dir, $name)));
+    return !$ever->_is_mount($ever->{model}{rows}{$dir}{$name})
+        && _has_c($ever->{model}->_cover($ever->{process}, $ever->_found($dir, $name)));
 }
+
+sub _is_mount { return $_[0]{model}{mount}{ $_[1] } }
 
 sub _is_free {
     my ($ever, $dir, $name) = @_;
-    return !defined $ever->{model}{rows}{$dir}{$name} || $ever->_row_has_c($dir, $name);
+    return !defined $ever->{model}{rows}{$dir}{$name} || $ever->_can_leave($dir, $name);
 }
 
 sub _can_be_emptied {
     my ($ever, $dir) = @_;
-    return !grep { !$ever->_row_has_c($dir, $_) } keys %{ $ever->{model}{rows}{$dir} };
+    return !grep { !$ever->_can_leave($dir, $_) } keys %{ $ever->{model}{rows}{$dir} };
 }
 
 # The names in living directories that have a veil of their own, with its letters.
@@ -309,6 +302,7 @@ sub _is_way_in {
 sub _gives_way {
     my ($ever, $node) = @_;
     return $ever->{model}{kind}{$node} eq 'dir'
+        && !$ever->_is_mount($node)
         && _has_c($ever->_cover_of_dir($node))
         && $ever->_can_be_emptied($node)
         && $ever->_has_c_outside($node);
@@ -401,11 +395,11 @@ sub _lines_in {
     );
 }
 
-# Whether rmdir may find a directory empty; whether a file system is mounted there is asked where nothing can change.
+# Whether rmdir may find a directory empty that is no mount point.
 sub _is_gone {
     my ($ever, $dir) = @_;
-    return 0 if $dir == 0 || !$ever->_can_be_emptied($dir);
-    return $ever->{edits} || $ever->{model}->_is_empty($dir) && !$ever->{model}{mount}{$dir};
+    return 0 if $dir == 0 || $ever->{model}{mount}{$dir} || !$ever->_can_be_emptied($dir);
+    return $ever->{edits} || $ever->{model}->_is_empty($dir);
 }
 
 sub _lines_at {

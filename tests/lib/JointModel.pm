@@ -88,11 +88,10 @@ sub _begin {
     return;
 }
 
-# The device of a directory, or of what one makes on a device; one for all where lists for ever don't go by them.
+# The device of a directory, or of what one makes on a device.
 sub _device {
     my ($joint, $seat) = @_;
-    return $1 if $seat =~ / on ([0-9]+)\z/;
-    return $EverModel::BY_DEVICE ? $joint->{model}->device($seat) : 0;
+    return $seat =~ / on ([0-9]+)\z/ ? $1 : $joint->{model}->device($seat);
 }
 
 # Notes a fact, and whether it is a new one.
@@ -183,7 +182,7 @@ sub _covers_at {
     return defined $own ? $own : $joint->_of_facts('cover', $by, $seat);
 }
 
-# Names that one can take away.
+# Names that one can take away, none of them a mount point's.
 sub _free {
     my ($joint, $by) = @_;
     my ($model, $ever) = ($joint->{model}, $joint->{crew}[$by]);
@@ -191,6 +190,7 @@ sub _free {
     for my $dir (@{ $joint->{dirs} }) {
         for my $name (keys %{ $model->{rows}{$dir} }) {
             my $node = $model->{rows}{$dir}{$name};
+            next if $model->{mount}{$node};
             my @covers = $model->{kind}{$node} eq 'dir' ? $joint->_of_facts('cover', $by, $node) : $joint->_covers_at($by, $dir, $name);
             $joint->_has('free', $dir, $name) if grep { /c/ } @covers;
         }
@@ -218,7 +218,7 @@ sub _ways_in {
             if grep { /c/ } $joint->_of_facts('cover', $by, $seat), map { $letters->{"$seat/$_"} } @names;
     }
     for my $dir (grep { ($letters->{$_} || '') =~ /c/ && $joint->_can_be_emptied($_) } @{ $joint->{dirs} }) {
-        next if $EverModel::BY_DEVICE && $joint->{model}{mount}{$dir};
+        next if $joint->{model}{mount}{$dir};
         my @others = grep { $_ ne $dir && $joint->_device($_) == $joint->_device($dir) } @{ $joint->{seats} };
         next if !grep { $joint->_is('apart', $dir, $_) && $joint->_moves_dir($by, $_) } @others;
         $joint->_has('way', $by, $_) for $joint->_of_facts('in', $dir);
@@ -360,7 +360,7 @@ sub _lines_in {
     my ($joint, $dir, @agents) = @_;
     my $model = $joint->{model};
     my ($path, $rows) = ($model->_path($dir), $model->{rows}{$dir});
-    my $is = $dir != 0 && $joint->_can_be_emptied($dir) ? 'gone' : 'dir';
+    my $is = $dir != 0 && !$model->{mount}{$dir} && $joint->_can_be_emptied($dir) ? 'gone' : 'dir';
     my %has = map { $_ => 1 } map { $joint->_calls($_, $is, $joint->_of_facts('cover', $_, $dir)) } @agents;
     my %others = map { $_ => 1 } map { $joint->_calls($_, 'missing', $joint->_of_facts('cover', $_, $dir)) } @agents;
     my $letters = $joint->{crew}[ $agents[0] ]{process}{letters};

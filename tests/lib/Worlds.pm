@@ -177,12 +177,11 @@ my @STRETCHES = (
 
 # Makes a generator of worlds. Those of one seed are always the same. In %$how, optional: paths_alone, where scripts
 # have no call without a path; openings, where by OpenBSD's rules trees have paths that promises open, and scripts ask
-# for these; files, where by these rules scripts are about descriptors; roots, where they are about these too; on_one, where
-# all of a tree is on one file system.
+# for these; files, where by these rules scripts are about descriptors; roots, where they are about these too.
 sub new {
     my ($class, $seed, $how) = @_;
     my $worlds = bless { state => 1 + $seed % 2147483646, names => [@NAMES] }, $class;
-    my @parts = qw(paths_alone openings files roots on_one);
+    my @parts = qw(paths_alone openings files roots);
     @$worlds{@parts} = @$how{@parts};
     @$worlds{qw(paths of)} = (['/'], { dir => [''] });
     $worlds->number(2) for 1 .. 5;
@@ -238,7 +237,7 @@ sub listing {
 sub _add_line {
     my ($worlds, $tree, $number) = @_;
     my $parent = $worlds->pick(sort { $a <=> $b } keys %{ $tree->{dirs} });
-    my @kinds = $tree->{header} ne 'tree 3' ? @KINDS : (@TYPED_KINDS, $worlds->{on_one} ? () : @MOUNTS);
+    my @kinds = $tree->{header} ne 'tree 3' ? @KINDS : (@TYPED_KINDS, @MOUNTS);
     my ($kind, $name) = ($worlds->pick(@kinds), $worlds->name);
     my $path = "$tree->{dirs}{$parent}/$name";
     return if $tree->{taken}{$path} || $kind eq 'hard' && !@{ $tree->{others} };

@@ -34,6 +34,8 @@ printf '%s\n' '1 pledge stdio,,rpath -' > list
 printf '%s\n' '1 uses inet|unix|inet' > asks
 printf '%s\n' '1 unveil /d rwc' '1 unveil - -' '1 fork 2' '2 pledge stdio,rpath -' > both
 printf '%s\n' '1 unveil /d wc' '1 unveil /o rwc' '1 unveil - -' > drop
+printf '%s\n' 'tree 3' '0 dir' '1 dir 0 d' '2 mount 1 m' '3 file 2 f' '4 mount 0 n' '5 dir 4 e' '6 dir 0 o' > mounts
+printf '%s\n' '1 fork 2' '1 unveil /d rc' '1 unveil /n rwc' '1 unveil /n/x c' '1 unveil /o c' '1 unveil - -' '2 unveil - -' > apart
 printf '%s\n' '[chmod]' 'promises = ["fattr", "rpath"]' 'veil = "r"' 'stat = { promises = [""], veil = "" }' > nested
 printf '%s\n' 'stat = { promises = [""], veil = "" }' '[chmod]' 'promises = ["fattr", "rpath"]' 'veil = "r"' > calls
 printf '%s\n' 'unlink = { promises = ["cpath"], veil = "" }' > stays
@@ -107,10 +109,14 @@ sweep 'for ever, and what can be moved' 0 objects --ever --process 2 twice moves
 sweep 'for ever, and places that are gone' 0 objects --ever tree gone
 sweep 'for ever, two together' 0 objects --ever --process 1,2 twice both
 sweep 'for ever, all together' 0 objects --ever --process all twice both
+sweep 'for ever, with the help of another' 0 objects --ever --process 1 --beside 2 twice both
+sweep 'for ever, over mount points' 0 objects --ever mounts apart
+sweep 'for ever, over mount points, with the help of another' 0 objects --ever --process 1 --beside 2 mounts apart
 sweep 'for ever, with the steps of ways' 0 objects --ever --how twice drop
 sweep 'for ever, with the steps of ways, at or below a path' 0 objects --ever --how --below /d twice drop
 sweep 'for ever, with what lets calls through' 0 objects --ever --why tree one
 sweep 'for ever, with reasons, and what can be moved' 0 objects --ever --why --process 2 twice moves
+sweep 'for ever, with reasons, over mount points' 0 objects --ever --why mounts apart
 sweep 'a way' 0 how twice drop open-r /d/f
 sweep 'a way to what is made' 0 how twice drop stat new
 sweep 'what never comes' 0 how twice both open-r /k

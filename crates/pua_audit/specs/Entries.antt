@@ -12,7 +12,7 @@ use Rattle.pua_path.specs.declared.found.Found.TheVariants.{Whole, Slot}
 use Rattle.pua_calls.specs.Calls.{CallTable, last_of}
 use Rattle.pua_calls.specs.CallSets.{has}
 use Rattle.pua_policy.specs.States.{ProcessState}
-use Rattle.pua_tree.specs.declared.node.Kind.TheVariants.{Known}
+use Rattle.pua_tree.specs.declared.node.Kind.TheVariants.{Known, Link}
 use Rattle.pua_tree.specs.declared.node.FileType.TheVariants.{Plain, Sock, Fifo, Dev}
 use Rattle.pua_policy.specs.Verdict.{Object, Is, IsMissing, IsFile, IsProg, cover, covered_verdict, verdict_of, is_allowed}
 use Rattle.pua_calls.specs.declared.call.Call.{Call}
@@ -61,6 +61,7 @@ pub record AreWithin (t : Tree) (table : CallTable) (h : ProcessState) (dir : �
   pub socket : (call : Call) → has w.socket call ≡ allowed_within t table h dir (Is (Known Sock)) call
   pub fifo : (call : Call) → has w.fifo call ≡ allowed_within t table h dir (Is (Known Fifo)) call
   pub device : (call : Call) → has w.device call ≡ allowed_within t table h dir (Is (Known Dev)) call
+  pub link : (call : Call) → has w.link call ≡ allowed_within t table h dir (Is Link) call
   pub bare : w.veiled ≡ false → AreUnveiled h dir
 
 -- what the letter is, for each number of links used before

@@ -618,13 +618,40 @@ impl Call {
         Call::read_by(Rules::Standard, word)
     }
 
-    /// The call of this name, if there is one by any rules.
+    /// The call of this name, if there is one by any rules. A name that a call has is found at once;
+    /// only any other word is compared with all names.
     pub(crate) fn of_name(word: &[u8]) -> Option<Call>
         ensures { result ≡ call_of_name word.now }
     {
+        if let Some(call) = likely(word) {
+            if call.name().as_bytes() == word {
+                return Some(call);
+            }
+        }
         Call::ALL
             .iter()
             .find(|call| call.name().as_bytes() == word)
             .copied()
+    }
+}
+
+/// The only call of the standard rules whose name may be this word, by some of its bytes. Nothing is
+/// promised of it, so that its name is to be compared.
+fn likely(word: &[u8]) -> Option<Call> {
+    match word {
+        [b's', b't', ..] => Some(Call::Stat),
+        [b'l', ..] => Some(Call::Lstat),
+        [b'r', b'e', ..] => Some(Call::Readlink),
+        [b'r', ..] => Some(Call::Rmdir),
+        [b'o', _, _, _, _, b'r'] => Some(Call::OpenRead),
+        [b'o', _, _, _, _, b'w'] => Some(Call::OpenWrite),
+        [b'o', ..] => Some(Call::OpenBoth),
+        [b'c', b'r', ..] => Some(Call::Create),
+        [b'c', _, b'm', ..] => Some(Call::Chmod),
+        [b'c', ..] => Some(Call::Chdir),
+        [b'm', ..] => Some(Call::Mkdir),
+        [b'u', ..] => Some(Call::Unlink),
+        [b'e', ..] => Some(Call::Exec),
+        _ => None,
     }
 }

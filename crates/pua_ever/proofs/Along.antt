@@ -114,6 +114,7 @@ module _ (table : CallTable) (sound : NoCallNeedsError table) (now a : ProcessSt
       rows = λ s x e. elim (grown.rows s x e) [ inl there ↦ inl there | inr put ↦ inr (put_within s x put) ];
       nodes = λ x l. elim (grown.nodes x l) [ inl same_node ↦ inl same_node | inr born ↦ inr (born_within u x born) ];
       next = grown.next;
+      mounts = grown.mounts;
     }
 
 module _ (table : CallTable) (sound : NoCallNeedsError table) (needs : EditsNeedC table) (t0 : Tree) (now : ProcessState) (well0 : WellFormed t0)

@@ -1,7 +1,10 @@
 -- By which veils a directory and a name in it are covered, and which directories give way.
 use Rattle.pua_ever.proofs.Common.{◌≡◌, ℕ, List, Bool, true, false, map, refl, sym, ap, subst, ◌∙◌, Option, Some, None, not, ◌&&◌, ◌==◌}
 use Rattle.pua_ever.proofs.Common.{cond, if◌then◌else◌, list_any, eqb-true, Tree, WellFormed, above, above_lives, is_dir, climb, Whole, Slot, Way, Top}
+use Rattle.std.specs.BTreeSet.{BTreeSet, contains}
+use Rattle.std.specs.Ordering.{nat_cmp}
 use Rattle.std.specs.Prelude.{IfSome}
+use Rattle.pua_ever.proofs.Common.{is_mount}
 use Rattle.pua_tree.specs.Tree.{parent}
 use Rattle.pua_ever.proofs.Common.{ProcessState, has_veil, perms_kept, has_c, cover_in, can_empty}
 use Rattle.std.proofs.lemmas.Bool.{eqb-false}
@@ -58,11 +61,11 @@ module _ (t : Tree) (well : WellFormed t) (h : ProcessState) where
       ap place_by (whole_same dir Top is ∙ (λ i. if has_veil h.veils then kept_or (place.Slot dir name) (sym none i) (far dir) else InView))
 
   -- which directories give way is told by those in which something stays, and those with `c`
-  pub ways_given : EachOnce h.veils → (stays dirs : List ℕ)
-      → ((dir : ℕ) → is_dir t dir ≡ true → has_c (cover_in t h dir) ≡ true → can_empty t h dir ≡ not (list_any (λ other. other == dir) stays))
+  pub ways_given : EachOnce h.veils → (stays : BTreeSet ℕ) (dirs : List ℕ)
+      → ((dir : ℕ) → is_dir t dir ≡ true → has_c (cover_in t h dir) ≡ true → can_empty t h dir ≡ not (contains nat_cmp stays dir))
       → dirs ≡ opened t h well → GivesWay t h stays dirs
   ways_given single stays dirs empties is dir living has =
       let veil = opening_some (perms_kept h (place.Dir dir)) has in
       let covers : has_c (cover_in t h dir) ≡ true = ap has_c (own_cover t well h dir veil.0 living veil.1) ∙ veil.2 in
-      λ i. sym (empties dir living covers) i
-      && (ap (list_any (is_outside t dir)) is ∙ sym (outsides t h well single (veiled_where_kept h.veils (place.Dir dir) veil.0 veil.1) dir)) i
+      λ i. not (is_mount t dir) && (sym (empties dir living covers) i
+      && (ap (list_any (is_outside t dir)) is ∙ sym (outsides t h well single (veiled_where_kept h.veils (place.Dir dir) veil.0 veil.1) dir)) i)

@@ -29,10 +29,10 @@ module _ (t : Tree) (h : ProcessState) where
 module _ (t : Tree) (h : ProcessState) (object : seen.Object) (now : Cover) (well : WellFormed t) (table : CallTable) (under : ComesUnder)
     (about : Subject) (on : IsStandingOn t h object now about) where
   abbrev IsUnder : Subject → Type 0
-  IsUnder subject = places_under t table h under ≡ places_on t table h (Stands subject)
+  IsUnder subject = places_under t h under ≡ places_on t table h (Stands subject)
 
   abbrev OfDir : ℕ → Type 0
-  OfDir dir = is_dir t dir ≡ true → now ≡ cover_in t h dir → places_under t table h under ≡ places_of_dir t table h dir
+  OfDir dir = is_dir t dir ≡ true → now ≡ cover_in t h dir → places_under t h under ≡ places_of_dir t table h dir
 
   -- a directory, and its further names
   pub whole_under : (dir : ℕ) (way : Way) → OfDir dir → At (Whole dir way) ≡ about → IsUnder about

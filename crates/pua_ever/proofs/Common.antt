@@ -56,7 +56,7 @@ pub use Rattle.pua_tree.proofs.ForCallers.{spots_total}
 pub use Rattle.pua_tree.specs.Tree.{above, climb, empty_tree, has_no_row, is_dir, is_dir_kind, is_empty, is_living, is_mount, kind_at, look}
 pub use Rattle.pua_tree.specs.Tree.{Node, node_at, Spot, spot_cmp, Tree, WellFormed}
 pub use Rattle.pua_tree.specs.declared.node.Kind.{Kind}
-pub use Rattle.pua_ever.specs.Ever.{all_new, can_empty, can_link, can_make, Comes, dir_covers, directories, ever, ever_line, EverLine}
+pub use Rattle.pua_ever.specs.Ever.{all_new, can_empty, can_leave, can_link, can_make, can_yield, Comes, dir_covers, directories, ever, ever_line, EverLine}
 pub use Rattle.pua_ever.specs.Ever.{file_covers, has_c_outside, has_ever_calls, is_allowed_under, is_below, is_ever_allowed, is_free}
 pub use Rattle.pua_ever.specs.Ever.{is_named_way, is_yes, lasting_dir, is_made_by, may_edit, name_covers, New, new_line, NewDir, NewFifo, NewFile}
 pub use Rattle.pua_ever.specs.Ever.{NewLink, NewOthers, NewSock, own_spot, removable_dir, row_cover, some_dir_moves, Stands, subjects_of}

@@ -1,12 +1,13 @@
 -- The covers that the veils give are those of the definition.
 use Rattle.pua_ever.proofs.Common.{◌≡◌, ◌≢◌, ℕ, List, [], ◌∷◌, ◌++◌, Bool, true, false, map, refl, sym, ap, subst, ◌∙◌, inl, inr}
-use Rattle.pua_ever.proofs.Common.{Option, Some, None, is_some, not, ◌&&◌, ◌==◌, filter, filter_map, if◌then◌else◌, list_any}
+use Rattle.pua_ever.proofs.Common.{Option, Some, None, is_some, not, ◌&&◌, ◌==◌, filter, filter_map, if◌then◌else◌}
 use Rattle.pua_ever.proofs.Common.{false≢true, eq-eqb, eqb-true, and_parts, and_from, not-true, Tree, WellFormed, Spot, is_dir, look, climb}
 use Rattle.pua_ever.proofs.Common.{same_Some, None≢Some, sound_from, row_says, row_of, ProcessState, perms_kept, veils, has_veil}
 use Rattle.pua_ever.proofs.Common.{Cover, All, Only, Place, has_c, cover_in, Among, among_left, among_right, map_among, filter_among}
-use Rattle.pua_ever.proofs.Common.{contained, among_contained, among_filter_map, is_free, can_empty, has_c_outside, directories, dir_covers}
+use Rattle.pua_ever.proofs.Common.{contained, among_contained, among_filter_map, is_free, is_mount, can_empty, can_yield, has_c_outside, nat_cmp, directories, dir_covers}
 use Rattle.pua_ever.proofs.Common.{name_covers, open_covers, dir_destination, name_destination, entrance_cover, HaveSame}
 use Rattle.std.proofs.lemmas.Bool.{or_cases}
+use Rattle.std.specs.BTreeSet.{BTreeSet, contains}
 use Rattle.std.specs.Prelude.{is_none}
 use Rattle.pua_tree.specs.Tree.{above, device}
 use Rattle.pua_tree.proofs.DevicesKeep.{device_root}
@@ -17,10 +18,10 @@ use Rattle.pua_policy.specs.States.{EachOnce}
 use Rattle.pua_objects.proofs.ForCallers.{among_either}
 use Rattle.pua_objects.proofs.ForCallers.{filter_map_among}
 use Rattle.pua_ever.specs.Ever.{goes_along, is_device, is_on, opens_at, gives_way, is_way_in, veil_cover_at}
-use Rattle.pua_ever.specs.Destinations.{StaysPut, cover_on, covers_on, destination, with_device}
+use Rattle.pua_ever.specs.Destinations.{AreHeld, StaysPut, cover_on, covers_on, destination, with_device}
 use Rattle.pua_ever.proofs.Covers.{under_dir}
 use Rattle.pua_ever.proofs.KeptVeils.{among_kept_at}
-use Rattle.pua_ever.proofs.Opened.{when_some, when, opening_is, destination_from, opening_some, places_of, place_among, held, opened, empties}
+use Rattle.pua_ever.proofs.Opened.{when_some, when, opening_is, destination_from, opening_some, places_of, place_among, opened, empties}
 use Rattle.pua_ever.proofs.Opened.{outsides}
 use Rattle.pua_ever.proofs.Origin.{own_cover, origin}
 use Rattle.pua_ever.proofs.Quiet.{above_row}
@@ -57,9 +58,6 @@ module _ (t : Tree) (h : ProcessState) (well : WellFormed t) where
   -- the covers of directories with `c`, and those of entrances, as they are gathered
   abbrev pub own_covers : List (ℕ × Cover)
   own_covers = filter_map (dir_destination t h) (places_of h) ++ (if has_veil (veils h) then [] else (0, All) ∷ [])
-
-  abbrev pub entrances : List (ℕ × Cover)
-  entrances = filter_map (entrance_cover t h (held t h well) (opened t h well)) (places_of h)
 
   no_veils : has_veil (veils h) ≡ false → (d : ℕ) → cover_in t h d ≡ All
   no_veils none d = ap (λ b. if b then nearest (map (λ over. perms_kept h (place.Dir over)) (climb t d)) else All) none
@@ -142,130 +140,144 @@ module _ (t : Tree) (h : ProcessState) (well : WellFormed t) where
       )
       by_none false none (inr a) = absurd a
 
-  -- a directory that is moved or made can come there
-  entrance_covers : EachOnce h.veils → (on : Option ℕ) (at : Place) (p : ℕ × Cover) →
-      entrance_cover t h (held t h well) (opened t h well) at ≡ Some p → is_device on p.0 ≡ true → Among (dir_covers t h on) p.1
-  entrance_covers once on (place.Slot d name) p e here =
-      let parts = when_some _ _ p e in
-      let both = with_some t d (Some (cover_in t h d)) p parts.1 in
-      let one = and_parts (is_dir t d) _ parts.0 in
-      let two = and_parts (is_free t h (d, name)) _ one.1 in
-      let veil = opening_some (perms_kept h (place.Slot d name)) two.1 in
-      subst (Among (dir_covers t h on)) (same_Some _ p.1 both.0)
-      (way_by_name t h on d name veil.0 one.0 (ap (is_device on) both.1 ∙ here) veil.1 veil.2 two.0)
-  entrance_covers once on (place.Dir y) p e here =
-      let parts = when_some _ _ p e in
-      let both = with_some t (above t y) (Some (cover_in t h (above t y))) p parts.1 in
-      let one = and_parts (is_dir t y) _ parts.0 in
-      let two = and_parts (not (y == 0)) _ one.1 in
-      let three = and_parts (is_some (destination h (place.Dir y))) _ two.1 in
-      let four = and_parts (not (list_any (λ other. other == y) (held t h well))) _ three.1 in
-      let veil = opening_some (perms_kept h (place.Dir y)) three.0 in
-      let n : y ≢ 0 = λ z. false≢true (sym (not-true _ two.0) ∙ eq-eqb y 0 z) in
-      let row = row_of t (sound_from t well) y one.0 n in
-      let has : has_c (cover_in t h y) ≡ true = ap has_c (own_cover t well h y veil.0 one.0 veil.1) ∙ veil.2 in
-      subst (Among (dir_covers t h on)) (ap (cover_in t h) (sym row.2) ∙ same_Some _ p.1 both.0)
-      (way_by_turn t h on row.0.0 row.0.1 y (row_says t (sound_from t well) row.0 y row.1).0
-      (ap (is_on t on) (sym row.2) ∙ ap (is_device on) both.1 ∙ here) row.1 one.0 has
-      (empties t h well y one.0 has ∙ four.0) (outsides t h well once (veiled (place.Dir y) veil.0 veil.1) y ∙ four.1))
+  module _ (stays : BTreeSet ℕ) (are : AreHeld t h (places_of h) stays) where
+    abbrev pub entrances : List (ℕ × Cover)
+    entrances = filter_map (entrance_cover t h stays (opened t h well)) (places_of h)
 
-  -- and no other covers a directory that comes there
-  ways_gathered : EachOnce h.veils → (on : Option ℕ) → StaysPut t h on → (d : ℕ) → is_dir t d ≡ true → is_on t on d ≡ true →
-      is_way_in t h d ≡ true → Among (covers_on on (own_covers ++ entrances)) (cover_in t h d)
-  ways_gathered once on put d is here way = elim (or_cases _ _ way) [
-    | inl has ↦ own has
-    | inr more ↦ elim (or_cases _ _ more) [ inl a ↦ by_name (any_found _ _ a) | inr a ↦ by_turn (any_found _ _ a) ]
-  ]
-    where
-      Here : Type 0
-      Here = Among (covers_on on (own_covers ++ entrances)) (cover_in t h d)
+    -- in a directory with `c` all can leave, if it is not in that set
+    pub empties_told : (y : ℕ) → is_dir t y ≡ true → has_c (cover_in t h y) ≡ true → can_empty t h y ≡ not (contains nat_cmp stays y)
+    empties_told y is has = empties t h well y is has ∙ ap not (sym (are y))
 
-      own : has_c (cover_in t h d) ≡ true → Here
-      own has =
-          let found = among_on on own_covers (cover_in t h d) (by_own on put d is here has) in
-          subst (Among (covers_on on (own_covers ++ entrances))) found.3
-          (on_among on (own_covers ++ entrances) found.0.0 found.0.1 (among_left own_covers entrances found.0 found.1) found.2)
+    -- a directory that is moved or made can come there
+    entrance_covers : EachOnce h.veils → (on : Option ℕ) (at : Place) (p : ℕ × Cover) →
+        entrance_cover t h stays (opened t h well) at ≡ Some p → is_device on p.0 ≡ true → Among (dir_covers t h on) p.1
+    entrance_covers once on (place.Slot d name) p e here =
+        let parts = when_some _ _ p e in
+        let both = with_some t d (Some (cover_in t h d)) p parts.1 in
+        let one = and_parts (is_dir t d) _ parts.0 in
+        let two = and_parts (is_free t h (d, name)) _ one.1 in
+        let veil = opening_some (perms_kept h (place.Slot d name)) two.1 in
+        subst (Among (dir_covers t h on)) (same_Some _ p.1 both.0)
+        (way_by_name t h on d name veil.0 one.0 (ap (is_device on) both.1 ∙ here) veil.1 veil.2 two.0)
+    entrance_covers once on (place.Dir y) p e here =
+        let parts = when_some _ _ p e in
+        let both = with_some t (above t y) (Some (cover_in t h (above t y))) p parts.1 in
+        let one = and_parts (is_dir t y) _ parts.0 in
+        let two = and_parts (not (y == 0)) _ one.1 in
+        let three = and_parts (is_some (destination h (place.Dir y))) _ two.1 in
+        let plain = and_parts (not (is_mount t y)) _ three.1 in
+        let four = and_parts (not (contains nat_cmp stays y)) _ plain.1 in
+        let veil = opening_some (perms_kept h (place.Dir y)) three.0 in
+        let n : y ≢ 0 = λ z. false≢true (sym (not-true _ two.0) ∙ eq-eqb y 0 z) in
+        let row = row_of t (sound_from t well) y one.0 n in
+        let has : has_c (cover_in t h y) ≡ true = ap has_c (own_cover t well h y veil.0 one.0 veil.1) ∙ veil.2 in
+        subst (Among (dir_covers t h on)) (ap (cover_in t h) (sym row.2) ∙ same_Some _ p.1 both.0)
+        (way_by_turn t h on row.0.0 row.0.1 y (row_says t (sound_from t well) row.0 y row.1).0
+        (ap (is_on t on) (sym row.2) ∙ ap (is_device on) both.1 ∙ here) row.1 one.0 has
+        (and_from (not (is_mount t y)) _ plain.0 (and_from (can_empty t h y) _ (empties_told y one.0 has ∙ four.0)
+        (outsides t h well once (veiled (place.Dir y) veil.0 veil.1) y ∙ four.1))))
 
-      enters : (at : Place) (perms : ℕ) → perms_kept h at ≡ Some perms →
-          entrance_cover t h (held t h well) (opened t h well) at ≡ Some (device t d, cover_in t h d) → Here
-      enters at perms veil e =
-          on_among on (own_covers ++ entrances) (device t d) (cover_in t h d)
-          (among_right own_covers entrances (device t d, cover_in t h d)
-          (among_filter_map (entrance_cover t h (held t h well) (opened t h well)) (places_of h) at (device t d, cover_in t h d)
-          (place_among h at perms veil) e)) here
+    -- and no other covers a directory that comes there
+    ways_gathered : EachOnce h.veils → (on : Option ℕ) → StaysPut t h on → (d : ℕ) → is_dir t d ≡ true → is_on t on d ≡ true →
+        is_way_in t h d ≡ true → Among (covers_on on (own_covers ++ entrances)) (cover_in t h d)
+    ways_gathered once on put d is here way = elim (or_cases _ _ way) [
+      | inl has ↦ own has
+      | inr more ↦ elim (or_cases _ _ more) [ inl a ↦ by_name (any_found _ _ a) | inr a ↦ by_turn (any_found _ _ a) ]
+    ]
+      where
+        Here : Type 0
+        Here = Among (covers_on on (own_covers ++ entrances)) (cover_in t h d)
 
-      by_name : (veil : Place × ℕ) × Among (veils h) veil × (opens_at t h d veil.0 veil.1 ≡ true) → Here
-      by_name ((place.Slot other name, perms), a, all) =
-          let one = and_parts (other == d) _ all in
-          let two = and_parts (has_c (Only perms)) _ one.1 in
-          let same = eqb-true other d one.0 in
-          let veil = among_kept_at h.veils once (place.Slot other name) perms a in
-          enters (place.Slot other name) perms veil
-          (when _ _ (and_from (is_dir t other) _ (ap (is_dir t) same ∙
-          is) (and_from (is_free t h (other, name)) _ two.1 (ap is_some (destination_from _ perms veil two.0)))) ∙
-          ap (λ d. Some (device t d, cover_in t h d)) same)
-      by_name ((place.Dir other, perms), a, all) = absurd (false≢true all)
+        own : has_c (cover_in t h d) ≡ true → Here
+        own has =
+            let found = among_on on own_covers (cover_in t h d) (by_own on put d is here has) in
+            subst (Among (covers_on on (own_covers ++ entrances))) found.3
+            (on_among on (own_covers ++ entrances) found.0.0 found.0.1 (among_left own_covers entrances found.0 found.1) found.2)
 
-      by_turn : (row : Spot × ℕ) × Among t.rows row × (gives_way t h d row ≡ true) → Here
-      by_turn ((s, y), a, all) = turned (perms_kept h (place.Dir y)) refl
-        where
-          row : look t s.0 s.1 ≡ Some y
-          row = among_rows t well (s, y) a
+        enters : (at : Place) (perms : ℕ) → perms_kept h at ≡ Some perms →
+            entrance_cover t h stays (opened t h well) at ≡ Some (device t d, cover_in t h d) → Here
+        enters at perms veil e =
+            on_among on (own_covers ++ entrances) (device t d) (cover_in t h d)
+            (among_right own_covers entrances (device t d, cover_in t h d)
+            (among_filter_map (entrance_cover t h stays (opened t h well)) (places_of h) at (device t d, cover_in t h d)
+            (place_among h at perms veil) e)) here
 
-          one : ((s.0 == d) ≡ true) × ((is_dir t y && (has_c (cover_in t h y) && (can_empty t h y && has_c_outside t h y))) ≡ true)
-          one = and_parts (s.0 == d) _ all
+        by_name : (veil : Place × ℕ) × Among (veils h) veil × (opens_at t h d veil.0 veil.1 ≡ true) → Here
+        by_name ((place.Slot other name, perms), a, all) =
+            let one = and_parts (other == d) _ all in
+            let two = and_parts (has_c (Only perms)) _ one.1 in
+            let same = eqb-true other d one.0 in
+            let veil = among_kept_at h.veils once (place.Slot other name) perms a in
+            enters (place.Slot other name) perms veil
+            (when _ _ (and_from (is_dir t other) _ (ap (is_dir t) same ∙
+            is) (and_from (is_free t h (other, name)) _ two.1 (ap is_some (destination_from _ perms veil two.0)))) ∙
+            ap (λ d. Some (device t d, cover_in t h d)) same)
+        by_name ((place.Dir other, perms), a, all) = absurd (false≢true all)
 
-          two : (is_dir t y ≡ true) × ((has_c (cover_in t h y) && (can_empty t h y && has_c_outside t h y)) ≡ true)
-          two = and_parts (is_dir t y) _ one.1
+        by_turn : (row : Spot × ℕ) × Among t.rows row × (gives_way t h d row ≡ true) → Here
+        by_turn ((s, y), a, all) = turned (perms_kept h (place.Dir y)) refl
+          where
+            row : look t s.0 s.1 ≡ Some y
+            row = among_rows t well (s, y) a
 
-          three : (has_c (cover_in t h y) ≡ true) × ((can_empty t h y && has_c_outside t h y) ≡ true)
-          three = and_parts (has_c (cover_in t h y)) _ two.1
+            one : ((s.0 == d) ≡ true) × ((is_dir t y && (has_c (cover_in t h y) && can_yield t h y)) ≡ true)
+            one = and_parts (s.0 == d) _ all
 
-          four : (can_empty t h y ≡ true) × (has_c_outside t h y ≡ true)
-          four = and_parts (can_empty t h y) _ three.1
+            two : (is_dir t y ≡ true) × ((has_c (cover_in t h y) && can_yield t h y) ≡ true)
+            two = and_parts (is_dir t y) _ one.1
 
-          same : s.0 ≡ d
-          same = eqb-true s.0 d one.0
+            three : (has_c (cover_in t h y) ≡ true) × (can_yield t h y ≡ true)
+            three = and_parts (has_c (cover_in t h y)) _ two.1
 
-          turned : (o : Option ℕ) → perms_kept h (place.Dir y) ≡ o → Here
-          turned None e = own (ap has_c (sym (under_dir t h well s y two.0 row e ∙ ap (cover_in t h) same)) ∙ three.0)
-          turned (Some perms) e =
-              let n : y ≢ 0 = (row_says t (sound_from t well) s y row).3 in
-              let no_root : not (y == 0) ≡ true = elim (y == 0) as (λ b. (y == 0) ≡ b → not b ≡ true) [
-                | true ↦ λ z. absurd (n (eqb-true y 0 z))
-                | false ↦ λ z. refl
-              ] refl in
-              let has : has_c (Only perms) ≡ true = ap has_c (sym (own_cover t well h y perms two.0 e)) ∙ three.0 in
-              enters (place.Dir y) perms e
-              (when _ _ (and_from (is_dir t y) _ two.0
-              (and_from (not (y == 0)) _ no_root
-              (and_from (is_some (destination h (place.Dir y))) _ (ap is_some (destination_from _ perms e has))
-              (and_from (not (list_any (λ other. other == y) (held t h well))) _ (sym (empties t h well y two.0 three.0) ∙
-              four.0) (sym (outsides t h well once (veiled (place.Dir y) perms e) y) ∙ four.1)))))
-              ∙ ap (λ d. Some (device t d, cover_in t h d)) (above_row t well y s y row two.0 ∙ same))
+            plain : (not (is_mount t y) ≡ true) × ((can_empty t h y && has_c_outside t h y) ≡ true)
+            plain = and_parts (not (is_mount t y)) _ three.1
 
-  pub dirs_same : EachOnce h.veils → (on : Option ℕ) → StaysPut t h on → HaveSame (covers_on on (own_covers ++ entrances)) (dir_covers t h on)
-  dirs_same once on put = have_same _ _ within all
-    where
-      within : (c : Cover) → Among (covers_on on (own_covers ++ entrances)) c → Among (dir_covers t h on) c
-      within c a =
-          let found = among_on on (own_covers ++ entrances) c a in
-          subst (Among (dir_covers t h on)) found.3
-          (elim (among_either own_covers entrances found.0 found.1) [
-            | inl b ↦ (let at = own_dir_at found.0 b in
-                subst (Among (dir_covers t h on)) at.3 (way_by_c t h on at.0 at.1 (ap (is_device on) at.4 ∙ found.2) at.2))
-            | inr b ↦ (let from = filter_map_among (entrance_cover t h (held t h well) (opened t h well)) (places_of h) found.0 b in
-                entrance_covers once on from.0 found.0 from.2 found.2)
-          ])
+            four : (can_empty t h y ≡ true) × (has_c_outside t h y ≡ true)
+            four = and_parts (can_empty t h y) _ plain.1
 
-      all : (c : Cover) → Among (dir_covers t h on) c → Among (covers_on on (own_covers ++ entrances)) c
-      all c a =
-          let test : ℕ → Bool = λ dir. is_on t on dir && is_way_in t h dir in
-          let from = map_among (cover_in t h) (filter test (directories t)) c a in
-          let d = filter_among test (directories t) from.0 from.1 in
-          let both = and_parts (is_on t on from.0) _ d.1 in
-          subst (Among (covers_on on (own_covers ++ entrances))) from.2
-          (ways_gathered once on put from.0 (among_dir t well from.0 d.0) both.0 both.1)
+            same : s.0 ≡ d
+            same = eqb-true s.0 d one.0
+
+            turned : (o : Option ℕ) → perms_kept h (place.Dir y) ≡ o → Here
+            turned None e = own (ap has_c (sym (under_dir t h well s y two.0 row e ∙ ap (cover_in t h) same)) ∙ three.0)
+            turned (Some perms) e =
+                let n : y ≢ 0 = (row_says t (sound_from t well) s y row).3 in
+                let no_root : not (y == 0) ≡ true = elim (y == 0) as (λ b. (y == 0) ≡ b → not b ≡ true) [
+                  | true ↦ λ z. absurd (n (eqb-true y 0 z))
+                  | false ↦ λ z. refl
+                ] refl in
+                let has : has_c (Only perms) ≡ true = ap has_c (sym (own_cover t well h y perms two.0 e)) ∙ three.0 in
+                enters (place.Dir y) perms e
+                (when _ _ (and_from (is_dir t y) _ two.0
+                (and_from (not (y == 0)) _ no_root
+                (and_from (is_some (destination h (place.Dir y))) _ (ap is_some (destination_from _ perms e has))
+                (and_from (not (is_mount t y)) _ plain.0
+                (and_from (not (contains nat_cmp stays y)) _ (sym (empties_told y two.0 three.0) ∙ four.0)
+                (sym (outsides t h well once (veiled (place.Dir y) perms e) y) ∙ four.1))))))
+                ∙ ap (λ d. Some (device t d, cover_in t h d)) (above_row t well y s y row two.0 ∙ same))
+
+    pub dirs_same : EachOnce h.veils → (on : Option ℕ) → StaysPut t h on → HaveSame (covers_on on (own_covers ++ entrances)) (dir_covers t h on)
+    dirs_same once on put = have_same _ _ within all
+      where
+        within : (c : Cover) → Among (covers_on on (own_covers ++ entrances)) c → Among (dir_covers t h on) c
+        within c a =
+            let found = among_on on (own_covers ++ entrances) c a in
+            subst (Among (dir_covers t h on)) found.3
+            (elim (among_either own_covers entrances found.0 found.1) [
+              | inl b ↦ (let at = own_dir_at found.0 b in
+                  subst (Among (dir_covers t h on)) at.3 (way_by_c t h on at.0 at.1 (ap (is_device on) at.4 ∙ found.2) at.2))
+              | inr b ↦ (let from = filter_map_among (entrance_cover t h stays (opened t h well)) (places_of h) found.0 b in
+                  entrance_covers once on from.0 found.0 from.2 found.2)
+            ])
+
+        all : (c : Cover) → Among (dir_covers t h on) c → Among (covers_on on (own_covers ++ entrances)) c
+        all c a =
+            let test : ℕ → Bool = λ dir. is_on t on dir && is_way_in t h dir in
+            let from = map_among (cover_in t h) (filter test (directories t)) c a in
+            let d = filter_among test (directories t) from.0 from.1 in
+            let both = and_parts (is_on t on from.0) _ d.1 in
+            subst (Among (covers_on on (own_covers ++ entrances))) from.2
+            (ways_gathered once on put from.0 (among_dir t well from.0 d.0) both.0 both.1)
 
   pub names_same : EachOnce h.veils → (on : Option ℕ) →
       HaveSame (covers_on on (filter_map (name_destination t h) (places_of h))) (name_covers t h on)

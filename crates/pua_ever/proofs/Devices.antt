@@ -1,10 +1,10 @@
 -- A request leaves each directory on its device.
-use Rattle.pua_ever.proofs.Common.{◌≡◌, ℕ, true, false, cond, sym, ap, ◌∙◌, inl, inr, arith, None, Some, ◌==◌, false≢true, eqb-true, and_parts}
+use Rattle.pua_ever.proofs.Common.{◌≡◌, ◌≢◌, ℕ, Bool, true, false, above, cond, refl, None≢Some, sym, ap, ◌∙◌, inl, inr, arith, None, Some, ◌==◌, false≢true, eqb-true, and_parts}
 use Rattle.pua_ever.proofs.Common.{same_Some, Tree, WellFormed, Spot, is_dir, is_mount, look, node_at, sound_from, row_says, CallTable, ProcessState}
 use Rattle.pua_ever.proofs.Common.{Found, Slot, Whole, Named, Top, Dot, DotDot}
 use Rattle.std.proofs.lemmas.Bool.{not-false}
 use Rattle.pua_tree.specs.Laws.{KeepsDevices}
-use Rattle.pua_tree.specs.Tree.{device}
+use Rattle.pua_tree.specs.Tree.{device, parent}
 use Rattle.pua_tree.proofs.DevicesKeep.{device_here, device_up, keeps}
 use Rattle.pua_path.specs.Fits.{node_named, spot_named}
 use Rattle.pua_path.specs.declared.errno.Errno.TheVariants.{EXDEV}
@@ -20,6 +20,14 @@ pub device_over_row : (t : Tree) → WellFormed t → (s : Spot) (d : ℕ) → l
     device t d ≡ device t s.0
 device_over_row t well s d row is none =
     device_up t (sound_from t well) d is (row_says t (sound_from t well) s d row).3 none ∙ ap (device t) (above_row t well 0 s d row is)
+
+-- by the one above it
+pub device_above : (t : Tree) → WellFormed t → (d over : ℕ) → parent t d ≡ Some over → d ≢ 0 → is_mount t d ≡ false → device t d ≡ device t over
+device_above t well d over at other none = by (is_dir t d) refl at
+  where
+    by : (b : Bool) → is_dir t d ≡ b → cond b (Some (above t d)) None ≡ Some over → device t d ≡ device t over
+    by true living at = device_up t (sound_from t well) d living other none ∙ ap (device t) (same_Some (above t d) over at)
+    by false living at = absurd (None≢Some over at)
 
 pub device_at : (t : Tree) → WellFormed t → (d : ℕ) → is_dir t d ≡ true → is_mount t d ≡ true → device t d ≡ d
 device_at t well d is here = device_here t (sound_from t well) d is here

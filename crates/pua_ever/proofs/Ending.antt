@@ -13,7 +13,8 @@ use Rattle.pua_ever.proofs.Common.{named_within_text, row_cover, is_free, can_em
 use Rattle.pua_ever.proofs.Common.{removable_dir, is_named_way, is_allowed_under, ever_line, New, NewDir, NewOthers, NewFile, NewLink, NewSock, NewFifo}
 use Rattle.pua_ever.proofs.Common.{same_Some, eqb-true, can_make, Stands, Comes, EverLine, subjects_of, all_new, new_line, has_ever_calls, ever, VeilsStand}
 use Rattle.std.proofs.Math.Bool.{or-true}
-use Rattle.std.specs.Prelude.{◌∷◌}
+use Rattle.std.specs.Prelude.{◌∷◌, unwrap_or}
+use Rattle.pua_ever.proofs.Common.{Node}
 use Rattle.pua_tree.specs.declared.node.Kind.TheVariants as kind
 use Rattle.pua_tree.proofs.ForCallers.{Sound}
 use Rattle.pua_path.specs.Resolution.{resolution_of_text}
@@ -43,10 +44,9 @@ use Rattle.pua_tree.specs.declared.node.FileType.TheVariants.{Sock, Fifo}
 use Rattle.pua_ever.proofs.MadeKinds.{file_starts, file_no_dir}
 use Rattle.pua_ever.specs.Laws.{of_new_others, IsForeseen}
 use Rattle.pua_ever.proofs.Grown.{new_kind, moved_has_c}
-use Rattle.pua_ever.proofs.Prospected.{emptied}
 use Rattle.pua_ever.proofs.Ways.{all_within, any_among, files_all, on_own, way_by_c}
 use Rattle.pua_ever.proofs.Covers.{given_or_new, living_dir, below_next}
-use Rattle.pua_ever.proofs.KindFaults.{plain_alike, dir_as, dir_alike}
+use Rattle.pua_ever.proofs.KindFaults.{plain_alike, dir_as, dir_alike, emptied}
 use Rattle.pua_ever.proofs.Origins.{Origin, stood, linked, since, Known, Stays, DirUnder, at_rest, come, old_dir, dir_under, file_under}
 use Rattle.pua_ever.proofs.Origins.{could_empty, fixed_covered, free_then, kept_in}
 use Rattle.pua_path.specs.declared.found.Start.{Start}
@@ -274,7 +274,7 @@ module _ (table : CallTable) (t0 : Tree) (h : ProcessState) (well0 : WellFormed 
 
     -- a directory that can be removed now has a name, and can come to be empty
     is_removed : (d : ℕ) (w : Way) → is_dir u d ≡ true → StandsAsNamed u (Whole d w) → is_dir t0 d ≡ true → rmdir_fault table.whose u d w ≡ None →
-        (is_named_way (own_way t0 d) && (can_empty t0 h d && (may_edit table h || (not (list_any (λ row. row.0.0 == d) t0.rows) && not (is_mount t0 d))))) ≡ true
+        (is_named_way (own_way t0 d) && (not (is_mount t0 d) && (can_empty t0 h d && (may_edit table h || has_no_row t0 d)))) ≡ true
     is_removed d Dot is named was e = cc
     is_removed d DotDot is named was e = cc
     is_removed d Top is named was e = cc
@@ -283,14 +283,17 @@ module _ (table : CallTable) (t0 : Tree) (h : ProcessState) (well0 : WellFormed 
         let row = row_of t0 s0 d was other in
         let own : own_way t0 d ≡ Named row.0.0 row.0.1 = named_by_row t0 s0 d row.0 was other row.1 in
         let bare = emptied (is_mount u d) (is_empty u d) e in
+        let below = below_next t0 h well0 d (living_dir t0 h well0 d was) in
+        let plain : is_mount t0 d ≡ false =
+        ap (λ o. unwrap_or (option_map (λ (n : Node). n.mount) o) false) (sym (k.old d below (living_dir u h k.well d is))) ∙ bare.0 in
         and_from (is_named_way (own_way t0 d)) _ (ap is_named_way own)
-        (and_from (can_empty t0 h d) _ (could_empty table t0 h well0 stand u k d bare.1) (by bare edit))
+        (and_from (not (is_mount t0 d)) _ (ap not plain)
+        (and_from (can_empty t0 h d) _ (could_empty table t0 h well0 stand u k d bare.1) (by bare.1 edit)))
       where
-        by : (is_mount u d ≡ false) × (is_empty u d ≡ true) → (may_edit table h ≡ true) ⊎ (u ≡ t0) →
-            (may_edit table h || (not (list_any (λ row. row.0.0 == d) t0.rows) && not (is_mount t0 d))) ≡ true
-        by bare (inl edits) = or_left (may_edit table h) _ edits
-        by bare (inr same) = or_right (may_edit table h) _ (and_from (has_no_row t0 d) _ (ap (λ v. has_no_row v d) (sym same) ∙
-            (and_parts (is_dir u d) (has_no_row u d) bare.1).1) (ap (λ v. not (is_mount v d)) (sym same) ∙ ap not bare.0))
+        by : is_empty u d ≡ true → (may_edit table h ≡ true) ⊎ (u ≡ t0) → (may_edit table h || has_no_row t0 d) ≡ true
+        by empty (inl edits) = or_left (may_edit table h) _ edits
+        by empty (inr same) = or_right (may_edit table h) _ (ap (λ v. has_no_row v d) (sym same) ∙
+            (and_parts (is_dir u d) (has_no_row u d) empty).1)
 
     is_rmdir : (w : Way) (d : ℕ) (b : Bool) → (rmdir_fault table.whose u d w ≡ None → b ≡ true) → object_fault table.whose u c (IsDir d w) ≡ None → c ≡ call.Rmdir →
         b ≡ true
@@ -308,7 +311,7 @@ module _ (table : CallTable) (t0 : Tree) (h : ProcessState) (well0 : WellFormed 
               let item = has_item t0 s0 h (Whole d Top) was in
               let subject : Subject = At (Whole d (own_way t0 d)) in
               let test : Bool = is_named_way (own_way t0 d)
-              && (can_empty t0 h d && (may_edit table h || (not (list_any (λ row. row.0.0 == d) t0.rows) && not (is_mount t0 d)))) in
+              && (not (is_mount t0 d) && (can_empty t0 h d && (may_edit table h || has_no_row t0 d))) in
               record {
                 thing = Stands subject;
                 listed = listed_stands item.0 subject c (item_subject _ item.1)

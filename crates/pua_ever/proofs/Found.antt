@@ -1,14 +1,13 @@
 -- The covers on a device are those of the definition.
-use Rattle.pua_ever.proofs.Common.{◌≡◌, ◌++◌, ℕ, zero, suc, List, [], ◌∷◌, Bool, true, false, cond, refl, sym, ap, ◌∙◌, subst, take, Option, Some, None, Node}
-use Rattle.pua_ever.proofs.Common.{Tree, WellFormed, is_dir, is_dir_kind, is_mount, node_at, climb, option_map, not, ◌&&◌, ◌==◌, ProcessState, HaveSame, dir_covers, name_covers, open_covers}
-use Rattle.pua_ever.proofs.Common.{and_parts, false≢true, None≢Some, same_Some, sound_from}
-use Rattle.std.specs.List.{AllByRecursion}
-use Rattle.std.specs.Prelude.{unwrap_or}
+use Rattle.pua_ever.proofs.Common.{◌≡◌, ◌++◌, ℕ, List, [], ◌∷◌, Bool, true, false, cond, refl, sym, subst, Option, Some, None}
+use Rattle.pua_ever.proofs.Common.{Tree, WellFormed, is_dir, is_mount, climb, ProcessState, HaveSame, dir_covers, name_covers, open_covers}
+use Rattle.pua_ever.proofs.Common.{None≢Some, same_Some}
 use Rattle.pua_tree.specs.Tree.{device, first_mount}
 use Rattle.pua_ever.specs.Ever.{goes_along, kept_on}
 use Rattle.pua_ever.specs.Destinations.{AreDestinations, StaysPut, covers_on}
 use Rattle.pua_ever.specs.declared.destinations.Covers.{Covers}
 use Rattle.pua_ever.specs.declared.destinations.Destinations.{Destinations}
+use Rattle.pua_ever.proofs.Mounts.{mount_lives}
 
 pub found_so : (t : Tree) (h : ProcessState) (on : Option ℕ) (found : Destinations) (covers : Covers) → AreDestinations t h found → StaysPut t h on →
     covers.dirs.items ≡ covers_on on found.dirs.items → covers.entrances.items ≡ covers_on on found.entrances.items →
@@ -28,26 +27,6 @@ stays_put t h device = by (goes_along t h device) refl
     by : (b : Bool) → goes_along t h device ≡ b → StaysPut t h (cond b None (Some device))
     by true goes found e = absurd (None≢Some found e)
     by false stays found e = subst (λ d. goes_along t h d ≡ false) (same_Some device found e) stays
-
--- all of some are so, but for the last ones
-pub all_take : {X : Type 0} (P : X → Type 0) (n : ℕ) (xs : List X) → AllByRecursion P xs → AllByRecursion P (take n xs)
-all_take P zero xs all = tt
-all_take P (suc n) [] all = tt
-all_take P (suc n) (x ∷ xs) all = (all.0, all_take P n xs all.1)
-
--- a mount point is one
-mount_lives : (t : Tree) → WellFormed t → (d : ℕ) → is_mount t d ≡ true → is_dir t d ≡ true
-mount_lives t well d = by (node_at t d) refl
-  where
-    fits : (x : ℕ) (n : Node) → node_at t x ≡ Some n → n.mount ≡ true → is_dir_kind (Some n.kind) ≡ true
-    fits x n e mount =
-        (and_parts (is_dir_kind (Some n.kind)) (not (x == 0))
-        (sym (ap (λ b. cond b (is_dir_kind (Some n.kind) && not (x == 0)) true) mount) ∙ (sound_from t well).marks x n e)).0
-
-    by : (o : Option Node) → node_at t d ≡ o → unwrap_or (option_map (λ (n : Node). n.mount) o) false ≡ true →
-        is_dir_kind (option_map (λ (n : Node). n.kind) o) ≡ true
-    by None e mount = absurd (false≢true mount)
-    by (Some n) e mount = fits d n e mount
 
 -- a device is a living directory
 first_lives : (t : Tree) → WellFormed t → (ds : List ℕ) → is_dir t (first_mount t ds) ≡ true

@@ -16,7 +16,7 @@ use Rattle.pua_tree.specs.declared.node.Kind.TheVariants as kind
 use Rattle.pua_path.specs.Fits.{IsOf, is_link, spot_named, node_named}
 use Rattle.pua_path.specs.declared.found.Last.{Last}
 use Rattle.pua_path.specs.declared.found.Last.TheVariants.{Kept}
-use Rattle.pua_path.specs.declared.errno.Errno.TheVariants.{EISDIR, ENOTEMPTY, EXDEV}
+use Rattle.pua_path.specs.declared.errno.Errno.TheVariants.{EINVAL, EISDIR, ENOTEMPTY, EXDEV}
 use Rattle.pua_path.specs.declared.text.Ending.TheVariants.{Dot, Dropped}
 use Rattle.pua_path.specs.declared.found.Way.TheVariants as way
 use Rattle.pua_calls.specs.Promises.{holds, creating}
@@ -27,24 +27,28 @@ use Rattle.pua_script.specs.Confinement.{TakingNeedsC, changes_names}
 use Rattle.pua_tree.specs.declared.node.FileType.TheVariants.{Sock, Fifo}
 use Rattle.pua_calls.specs.Calls.{file_by_rules}
 use Rattle.pua_script.specs.Decide.{NoChange, AddNode, CutRow, ShiftRow, TieRow, adding, making, made_by, shifting, fault_if}
-use Rattle.pua_script.specs.Decide.{device_of, device_over, is_elsewhere, is_whole, plain_node, link_node, kinds_fault}
+use Rattle.pua_script.specs.Decide.{device_of, device_over, is_elsewhere, is_whole, plain_node, link_node, inside_fault, kinds_fault}
+use Rattle.pua_tree.specs.Edits.{is_inside}
 use Rattle.pua_tree.specs.Tree.{device}
 use Rattle.pua_tree.proofs.ForCallers.{row_says, sound_from}
-use Rattle.pua_ever.proofs.Common.{eqb-true}
+use Rattle.pua_ever.proofs.Common.{eqb-true, is_mount, Some≢None}
 use Rattle.pua_ever.proofs.Covers.{below_next}
+use Rattle.pua_ever.proofs.KindFaults.{emptied}
+use Rattle.pua_ever.proofs.Mounts.{moves_none, no_mount, turns_none}
 use Rattle.pua_script.specs.Guards.{IsGranted, IsShift}
 use Rattle.pua_script.proofs.ForCallers.{name_fits, c_from_cover, covered_by_c, by_tree, by_own_tree, by_cutting}
 use Rattle.pua_script.proofs.ForCallers.{by_tying, changes_granted, first_none, second_none, not_faulty, tmp_perms}
-use Rattle.pua_calls.specs.Calls.{calls}
+use Rattle.pua_calls.specs.Calls.{calls, ending_of, last_of}
 use Rattle.pua_calls.specs.TmpTable.{tmp_table}
 use Rattle.pua_objects.proofs.ForCallers.{one_of_calls}
 use Rattle.pua_ever.specs.Ever.{may_link, is_some_file, file_makers}
 use Rattle.pua_ever.proofs.Common.{among_filter}
 use Rattle.pua_ever.proofs.Ways.{any_among}
-use Rattle.pua_ever.proofs.Grown.{Grown, Written, by_name, by_turn, From, IsMaker, IsNear, TurnsNear, Put, row_device, is_moved, is_linked, new_kind, name_cover, grown_all, grown_add}
+use Rattle.pua_ever.proofs.Grown.{Grown, IsPlain, Written, by_name, by_turn, From, IsMaker, IsNear, TurnsNear, Put, row_device, is_moved, is_linked, new_kind, name_cover, grown_all, grown_add}
 use Rattle.pua_ever.proofs.Grown.{grown_tie, grown_cut, grown_shift}
 use Rattle.pua_path.specs.declared.errno.Errno.{Errno}
 use Rattle.pua_policy.specs.States.{is_pledged}
+use Rattle.pua_policy.specs.Verdict.{object_of}
 use Rattle.pua_policy.specs.declared.open_file.OpenFile.{OpenFile}
 use Rattle.pua_script.specs.Decide.{TakeFile, file_opened}
 use Rattle.pua_script.specs.Replay.{sent_by, take_effect}
@@ -75,7 +79,8 @@ module _ (table : CallTable) (needs : EditsNeedC table) (t : Tree) (h : ProcessS
   -- what is asked of a change, so that what it leaves has grown so
   abbrev Grows : Change → Type 0
   Grows (AddNode s node) = (new : New) × (node.kind ≡ new_kind table new) × (node.mount ≡ false) × IsMade new s
-  Grows (ShiftRow s r) = (x : ℕ) × (look t s.0 s.1 ≡ Some x) × Put table t h r x
+  Grows (CutRow s) = IsPlain table t h s
+  Grows (ShiftRow s r) = (x : ℕ) × (look t s.0 s.1 ≡ Some x) × Put table t h r x × (is_mount t x ≡ false) × IsPlain table t h r
   Grows (TieRow s x) = Put table t h s x
   Grows _ = Unit {0}
 
@@ -121,19 +126,54 @@ module _ (table : CallTable) (needs : EditsNeedC table) (t : Tree) (h : ProcessS
   by_made c x granted covered (Some kind.Link) is = absurd (false≢true is)
   by_made c x granted covered (Some (kind.Known type)) is = absurd (false≢true is)
 
-  by_call : (c : Call) (x : Found) → may_any h (rule_of table c).alternatives ≡ may.Yes →
-      cover_fault (cover t h x) (rule_of table c).perms ≡ None → Grows (change_by table c x)
-  by_call call.Mkdir x granted covered =
+  is_other : (b : Bool) → not b ≡ true → b ≡ false
+  is_other true e = cc
+  is_other false e = refl
+
+  -- what stands at a name as no directory is none
+  pub plain_at : (dir : ℕ) (name : List ℕ) (y : ℕ) → FoundFits t (Slot dir name (Some y)) → is_dir t y ≡ false
+  plain_at dir name y fits =
+      is_other (is_dir t y) (and_parts (option_eq ◌==◌ (look t dir name) (Some y)) (not (is_dir t y))
+      (and_parts (is_dir t dir) (option_eq ◌==◌ (look t dir name) (Some y) && not (is_dir t y)) fits).1).1
+
+  -- so no mount point stands there
+  named_none : (dir : ℕ) (name : List ℕ) (o : Option ℕ) → NameFits t (Slot dir name o) → IsPlain table t h (dir, name)
+  named_none dir name None fits y at = absurd (None≢Some y (sym fits.named.1 ∙ at))
+  named_none dir name (Some z) fits y at =
+      ap (is_mount t) (same_Some y z (sym at ∙ fits.named.1)) ∙ no_mount t well z (plain_at dir name z fits.fits)
+
+  -- nor is what a call removes one
+  removes_none : (x : Found) → NameFits t x → object_fault table.whose t call.Rmdir (object_of t x) ≡ None → (s : Spot) → spot_named x ≡ Some s →
+      IsPlain table t h s
+  removes_none (Whole dir (way.Named parent name)) fits kind s e =
+      subst (IsPlain table t h) (same_Some (parent, name) s e)
+      (λ y at. ap (is_mount t) (same_Some y dir (sym at ∙ fits.named.1)) ∙ (emptied (is_mount t dir) (is_empty t dir) kind).0)
+  removes_none (Whole dir way.Dot) fits kind s e = cc
+  removes_none (Whole dir way.DotDot) fits kind s e = cc
+  removes_none (Whole dir way.Top) fits kind s e = cc
+  removes_none (Slot dir name o) fits kind s e = subst (IsPlain table t h) (same_Some (dir, name) s e) (named_none dir name o fits)
+
+  unlinks_none : (x : Found) → NameFits t x → object_fault table.whose t call.Unlink (object_of t x) ≡ None → (s : Spot) →
+      spot_named x ≡ Some s → IsPlain table t h s
+  unlinks_none (Whole dir w) fits kind s e = absurd (Some≢None _ kind)
+  unlinks_none (Slot dir name o) fits kind s e = subst (IsPlain table t h) (same_Some (dir, name) s e) (named_none dir name o fits)
+
+  by_call : (c : Call) (x : Found) → NameFits t x → may_any h (rule_of table c).alternatives ≡ may.Yes →
+      cover_fault (cover t h x) (rule_of table c).perms ≡ None → object_fault table.whose t c (object_of t x) ≡ None →
+      Grows (change_by table c x)
+  by_call call.Mkdir x fits granted covered suits =
       by_added NewDir call.Mkdir (λ passes e. e) (plain_node kind.Dir) refl refl refl (needs.calls call.Mkdir refl) x granted covered
-  by_call call.Rmdir x granted covered = by_cutting Grows tt (spot_named x) (node_named x) (λ s is. tt)
-  by_call call.Unlink x granted covered = by_cutting Grows tt (spot_named x) (node_named x) (λ s is. tt)
-  by_call call.Chdir x granted covered = by_going Grows tt x (λ dir. tt)
-  by_call call.Exec x granted covered = tt
-  by_call call.Bind x granted covered =
+  by_call call.Rmdir x fits granted covered suits =
+      by_cutting Grows tt (spot_named x) (node_named x) (λ s is. removes_none x fits suits s is)
+  by_call call.Unlink x fits granted covered suits =
+      by_cutting Grows tt (spot_named x) (node_named x) (λ s is. unlinks_none x fits suits s is)
+  by_call call.Chdir x fits granted covered suits = by_going Grows tt x (λ dir. tt)
+  by_call call.Exec x fits granted covered suits = tt
+  by_call call.Bind x fits granted covered suits =
       by_added NewSock call.Bind (λ passes e. e) (plain_node (kind.Known Sock)) refl refl refl (needs.calls call.Bind refl) x granted covered
-  by_call call.Mknod x granted covered =
+  by_call call.Mknod x fits granted covered suits =
       by_added NewFifo call.Mknod (λ passes e. e) (plain_node (kind.Known Fifo)) refl refl refl (needs.calls call.Mknod refl) x granted covered
-  by_call c x granted covered = by_made c x granted covered (made_by c) refl
+  by_call c x fits granted covered suits = by_made c x granted covered (made_by c) refl
 
   -- what stands at the spot by whose name something was found
   pub standing : (a : Found) → NameFits t a → (s : Spot) → spot_named a ≡ Some s → (is_dir t s.0 ≡ true) × (look t s.0 s.1 ≡ node_named a)
@@ -146,16 +186,6 @@ module _ (table : CallTable) (needs : EditsNeedC table) (t : Tree) (h : ProcessS
   standing (Slot dir name o) fits s e =
       let is : (dir, name) ≡ s = same_Some (dir, name) s e in
       (ap (λ (r : Spot). is_dir t r.0) (sym is) ∙ fits.named.0, ap (λ (r : Spot). look t r.0 r.1) (sym is) ∙ fits.named.1)
-
-  is_other : (b : Bool) → not b ≡ true → b ≡ false
-  is_other true e = cc
-  is_other false e = refl
-
-  -- what stands at a name as no directory is none
-  pub plain_at : (dir : ℕ) (name : List ℕ) (y : ℕ) → FoundFits t (Slot dir name (Some y)) → is_dir t y ≡ false
-  plain_at dir name y fits =
-      is_other (is_dir t y) (and_parts (option_eq ◌==◌ (look t dir name) (Some y)) (not (is_dir t y))
-      (and_parts (is_dir t dir) (option_eq ◌==◌ (look t dir name) (Some y) && not (is_dir t y)) fits).1).1
 
   -- what covers the row by whose name something was found
   pub row_named : (a : Found) (x : ℕ) → NameFits t a → node_named a ≡ Some x → (s : Spot) → spot_named a ≡ Some s →
@@ -215,19 +245,21 @@ module _ (table : CallTable) (needs : EditsNeedC table) (t : Tree) (h : ProcessS
   -- where it goes
   goes : (a b : Found) (x : ℕ) → NameFits t a → NameFits t b → has_c (cover t h b) ≡ true → node_named a ≡ Some x →
       kinds_fault t x a b ≡ None
-      → (s : Spot) → spot_named b ≡ Some s → (written : Written table t h s x) × TurnsNear table t h s x written
+      → (s : Spot) → spot_named b ≡ Some s → (written : Written table t h s x) × TurnsNear table t h s x written × IsPlain table t h s
   goes a (Slot dir name o) x fa fb has is kinds s e =
-      subst (λ r. (written : Written table t h r x) × TurnsNear table t h r x written) (same_Some (dir, name) s e) (by_name has, tt)
+      subst (λ r. (written : Written table t h r x) × TurnsNear table t h r x written × IsPlain table t h r) (same_Some (dir, name) s e)
+      (by_name has, tt, named_none dir name o fb)
   goes a (Whole y (way.Named parent name)) x fa fb has is kinds s e =
       let fits = second_none (fault_if (is_elsewhere t a (Whole y (way.Named parent name))) EXDEV) _ kinds in
       let whole = not-false (is_whole a) (not_faulty (not (is_whole a)) EISDIR (first_none (fault_if (not (is_whole a)) EISDIR) _ fits)) in
       let empty = not-false (is_empty t y)
       (not_faulty (not (is_empty t y)) ENOTEMPTY (second_none _ (fault_if (not (is_empty t y)) ENOTEMPTY) fits)) in
       let near = near_by a (Whole y (way.Named parent name)) (not_faulty _ EXDEV (first_none (fault_if (is_elsewhere t a (Whole y (way.Named parent name))) EXDEV) _ kinds)) in
-      subst (λ r. (written : Written table t h r x) × TurnsNear table t h r x written) (same_Some (parent, name) s e) (
+      subst (λ r. (written : Written table t h r x) × TurnsNear table t h r x written × IsPlain table t h r) (same_Some (parent, name) s e) (
         by_turn y fb.named.1 empty (ap has_c (sym ((covers_descend t h well).directory y (way.Named parent name) fb.fits)) ∙
             has) (whole_dir a x fa is whole),
         near.1,
+        λ z at. ap (is_mount t) (same_Some z y (sym at ∙ fb.named.1)) ∙ turns_none t well (parent, name) y fb.named.1 empty near.1,
       )
   goes a (Whole y way.Dot) x fa fb has is kinds s e = cc
   goes a (Whole y way.DotDot) x fa fb has is kinds s e = cc
@@ -238,12 +270,13 @@ module _ (table : CallTable) (needs : EditsNeedC table) (t : Tree) (h : ProcessS
 
   by_shifted : (a b : Found) (x : ℕ) → NameFits t a → NameFits t b → may_rename table h ≡ true →
       cover_fault (cover t h a) table.rename.old.needs.perms ≡ None →
-      cover_fault (cover t h b) creating ≡ None → node_named a ≡ Some x → kinds_fault t x a b ≡ None
+      cover_fault (cover t h b) creating ≡ None → node_named a ≡ Some x → inside_fault t x (spot_named b) ≡ None → kinds_fault t x a b ≡ None
       → (oa ob : Option Spot) → spot_named a ≡ oa → spot_named b ≡ ob → Grows (shifting oa ob)
-  by_shifted a b x fa fb held ca cb is kinds (Some sa) (Some sb) ea eb =
+  by_shifted a b x fa fb held ca cb is inside kinds (Some sa) (Some sb) ea eb =
       let near = near_by a b (not_faulty _ EXDEV (first_none (fault_if (is_elsewhere t a b) EXDEV) _ kinds)) in
       let goes_to = goes a b x fa fb (named_c b cb) is kinds sb eb in
-      let comes_from = comes a x fa held ca is sa ea sb.0 (near.0 ∙ over_spot b sb eb) in (
+      let comes_from = comes a x fa held ca is sa ea sb.0 (near.0 ∙ over_spot b sb eb) in
+      let outside = not_faulty (is_inside t x sb.0) EINVAL (subst (λ o. inside_fault t x o ≡ None) eb inside) in (
         x,
         (standing a fa sa ea).1 ∙ is,
         record {
@@ -253,9 +286,12 @@ module _ (table : CallTable) (needs : EditsNeedC table) (t : Tree) (h : ProcessS
           near = comes_from.1;
           turns = goes_to.1;
         },
+        moves_none t well sa x sb.0 ((standing a fa sa ea).1 ∙ is) (standing b fb sb eb).0
+            (row_device_is a x fa is sa ea ∙ near.0 ∙ over_spot b sb eb) outside,
+        goes_to.2,
       )
-  by_shifted a b x fa fb held ca cb is kinds (Some sa) None ea eb = tt
-  by_shifted a b x fa fb held ca cb is kinds None ob ea eb = tt
+  by_shifted a b x fa fb held ca cb is inside kinds (Some sa) None ea eb = tt
+  by_shifted a b x fa fb held ca cb is inside kinds None ob ea eb = tt
 
   by_moved : (a b : Found) (x : ℕ) (c : Change) → NameFits t a → NameFits t b → may_rename table h ≡ true →
       cover_fault (cover t h a) table.rename.old.needs.perms ≡ None →
@@ -263,7 +299,7 @@ module _ (table : CallTable) (needs : EditsNeedC table) (t : Tree) (h : ProcessS
       → (c ≡ NoChange) ⊎ IsShift t a b x c → Grows c
   by_moved a b x c fa fb held ca cb is (inl same) = subst Grows (sym same) tt
   by_moved a b x c fa fb held ca cb is (inr shifts) =
-      subst Grows (sym shifts.is) (by_shifted a b x fa fb held ca cb is shifts.kinds (spot_named a) (spot_named b) refl refl)
+      subst Grows (sym shifts.is) (by_shifted a b x fa fb held ca cb is shifts.inside shifts.kinds (spot_named a) (spot_named b) refl refl)
 
   free_name : (b : Found) → is_some (node_named b) ≡ false → (s : Spot) → spot_named b ≡ Some s → has_c (cover t h b) ≡ true →
       has_c (name_cover table t h s) ≡ true
@@ -298,7 +334,9 @@ module _ (table : CallTable) (needs : EditsNeedC table) (t : Tree) (h : ProcessS
   came (Whole dir w) x of held covered is other to near = cc
 
   grows_by : (action : Action) (c : Change) → IsGranted table t h action c → Grows c
-  grows_by (OnPath asked path) c (inl d) = subst Grows (sym d.2) (by_call asked d.0 d.1.promised d.1.covered)
+  grows_by (OnPath asked path) c (inl d) =
+      let fits = name_fits t well (start h) (ending_of asked) path (last_of asked) d.0 d.1.found in
+      subst Grows (sym d.2) (by_call asked d.0 fits d.1.promised d.1.covered d.1.fitting)
   grows_by (OnPath asked path) c (inr same) = subst Grows (sym same) tt
   grows_by (Symlink target path) c d =
       subst Grows (sym d.3) (by_added NewLink call.Symlink (λ passes e. e) (link_node target) refl refl refl (needs.calls call.Symlink refl) d.0 d.1.promised d.1.covered)
@@ -343,8 +381,9 @@ grown_made table needs w h well (AddNode s node) grows =
     let made = grows.3 in
     grown_add table w.tree h grows.0 made.0 made.1 s.0 s.1 node grows.1 made.2 made.3 grows.2
     (λ r e. let below = below_next w.tree h well w.tree.next (row_says w.tree (sound_from w.tree well) r w.tree.next e).2 in absurd (omega (arith, below)))
-grown_made table needs w h well (CutRow s) grows = grown_cut table w.tree h s.0 s.1
-grown_made table needs w h well (ShiftRow s r) grows = grown_shift table w.tree h s.0 r.0 s.1 r.1 grows.0 grows.1 grows.2
+grown_made table needs w h well (CutRow s) grows = grown_cut table w.tree h s.0 s.1 grows
+grown_made table needs w h well (ShiftRow s r) grows =
+    grown_shift table w.tree h s.0 r.0 s.1 r.1 grows.0 grows.1 grows.2 grows.3 grows.4
 grown_made table needs w h well (TieRow s x) grows = grown_tie table w.tree h s.0 s.1 x grows
 grown_made table needs w h well (CopyAs new) grows = by (is_some (kept_at w new) || nat_le most_processes (length w.processes))
   where

@@ -85,9 +85,15 @@ module _ (table : CallTable) (t : Tree) (h : ProcessState) where
     pub rows : (s : Spot) (x : ℕ) → look u s.0 s.1 ≡ Some x → (look t s.0 s.1 ≡ Some x) ⊎ Put s x
     pub nodes : (x : ℕ) → is_living u x ≡ true → (node_at u x ≡ node_at t x) ⊎ Born u x
     pub next : t.next ≤ u.next
+    -- a mount point stands where it stood
+    pub mounts : (s : Spot) (x : ℕ) → look t s.0 s.1 ≡ Some x → is_mount t x ≡ true → look u s.0 s.1 ≡ Some x
+
+  -- no mount point stands there
+  abbrev pub IsPlain : Spot → Type 0
+  IsPlain s = (y : ℕ) → look t s.0 s.1 ≡ Some y → is_mount t y ≡ false
 
   pub grown_all : Grown t
-  grown_all = record { rows = λ s x e. inl e; nodes = λ x l. inl refl; next = omega arith }
+  grown_all = record { rows = λ s x e. inl e; nodes = λ x l. inl refl; next = omega arith; mounts = λ s x e mount. e }
 
   pub same_look : (v : Tree) (s : Spot) (y : ℕ) → look (without_unnamed v y) s.0 s.1 ≡ look v s.0 s.1
   same_look v s y = elim (rows_of v y == 0) as (λ b. look (cond b (without_node v y) v) s.0 s.1 ≡ look v s.0 s.1) [
@@ -159,6 +165,10 @@ module _ (table : CallTable) (t : Tree) (h : ProcessState) where
           | inr other ↦ inl (put_elsewhere nat_cmp nat_cmp_total nat_cmp-IsAntisymmetric x t.next node t.nodes other.0)
         ];
         next = omega arith;
+        mounts = λ s x e mount. elim (at_or_not s (dir, name)) [
+          | inl same ↦ absurd (Some≢None x (sym e ∙ ap (λ (r : Spot). look t r.0 r.1) same ∙ free))
+          | inr other ↦ put_elsewhere spot_cmp spots_total exact_spots s (dir, name) t.next t.rows other ∙ e
+        ];
       }
 
       by : (a : Bool) (o : Option ℕ) (room : Bool) → is_dir t dir ≡ a → look t dir name ≡ o →
@@ -170,10 +180,10 @@ module _ (table : CallTable) (t : Tree) (h : ProcessState) where
       by true None true l e = grown l e
 
   pub grown_tie : (dir : ℕ) (name : List ℕ) (x : ℕ) → Put (dir, name) x → Grown (tree_left t (edited_tree h (tie t dir name x)))
-  grown_tie dir name y puts = by (is_dir t dir) (is_living t y) (is_dir t y) (look t dir name) (has_name_room t)
+  grown_tie dir name y puts = by (is_dir t dir) (is_living t y) (is_dir t y) (look t dir name) (has_name_room t) refl
     where
-      grown : Grown (with_row t dir name y)
-      grown = record {
+      grown : look t dir name ≡ None → Grown (with_row t dir name y)
+      grown free = record {
         rows = λ s x e. elim (at_or_not s (dir, name)) [
           | inl same ↦ (let is : y ≡ x = same_Some y x (sym (put_here spot_cmp spots_total exact_spots (dir, name) y t.rows) ∙
               ap (λ (r : Spot). look (with_row t dir name y) r.0 r.1) (sym same) ∙ e) in
@@ -183,19 +193,23 @@ module _ (table : CallTable) (t : Tree) (h : ProcessState) where
         ];
         nodes = λ x l. inl refl;
         next = omega arith;
+        mounts = λ s x e mount. elim (at_or_not s (dir, name)) [
+          | inl same ↦ absurd (Some≢None x (sym e ∙ ap (λ (r : Spot). look t r.0 r.1) same ∙ free))
+          | inr other ↦ put_elsewhere spot_cmp spots_total exact_spots s (dir, name) y t.rows other ∙ e
+        ];
       }
 
-      by : (a b c : Bool) (o : Option ℕ) (room : Bool) →
+      by : (a b c : Bool) (o : Option ℕ) (room : Bool) → look t dir name ≡ o →
           Grown (tree_left t (edited_tree h
           (cond (not a) (Err NotDir)
           (cond (not b) (Err Missing)
           (cond c (Err IsDir) (cond (is_some o) (Err Taken) (cond room (Ok (with_row t dir name y)) (Err Full))))))))
-      by false b c o room = grown_all
-      by true false c o room = grown_all
-      by true true true o room = grown_all
-      by true true false (Some z) room = grown_all
-      by true true false None false = grown_all
-      by true true false None true = grown
+      by false b c o room e = grown_all
+      by true false c o room e = grown_all
+      by true true true o room e = grown_all
+      by true true false (Some z) room e = grown_all
+      by true true false None false e = grown_all
+      by true true false None true e = grown e
 
   -- a row that is there without another was there with it
   pub was_there : (spot s : Spot) (x : ℕ) → look (without_row t spot.0 spot.1) s.0 s.1 ≡ Some x → look t s.0 s.1 ≡ Some x
@@ -205,14 +219,24 @@ module _ (table : CallTable) (t : Tree) (h : ProcessState) where
     | inr other ↦ sym (without_elsewhere spot_cmp spots_total exact_spots s spot t.rows other) ∙ e
   ]
 
-  pub grown_cut : (dir : ℕ) (name : List ℕ) → Grown (tree_left t (edit_effect h (cut t dir name)))
-  grown_cut dir name = by (is_dir t dir) (look t dir name)
+  -- what stands elsewhere is there without it
+  still_there : (spot s : Spot) (x : ℕ) → s ≢ spot → look t s.0 s.1 ≡ Some x → look (without_row t spot.0 spot.1) s.0 s.1 ≡ Some x
+  still_there spot s x other e = without_elsewhere spot_cmp spots_total exact_spots s spot t.rows other ∙ e
+
+  -- and a mount point stands elsewhere than what is none
+  apart : (spot s : Spot) (x : ℕ) → IsPlain spot → look t s.0 s.1 ≡ Some x → is_mount t x ≡ true → s ≢ spot
+  apart spot s x plain e mount same = false≢true (sym (plain x (ap (λ (r : Spot). look t r.0 r.1) (sym same) ∙ e)) ∙ mount)
+
+  pub grown_cut : (dir : ℕ) (name : List ℕ) → IsPlain (dir, name) → Grown (tree_left t (edit_effect h (cut t dir name)))
+  grown_cut dir name plain = by (is_dir t dir) (look t dir name)
     where
       gone : (y : ℕ) → Grown (without_unnamed (without_row t dir name) y)
       gone y = record {
         rows = λ s x e. inl (was_there (dir, name) s x (sym (same_look (without_row t dir name) s y) ∙ e));
         nodes = λ x l. inl (lives_same (without_row t dir name) x y l);
         next = let same = same_next (without_row t dir name) y in omega arith;
+        mounts = λ s x e mount. same_look (without_row t dir name) s y ∙
+            still_there (dir, name) s x (apart (dir, name) s x plain e mount) e;
       }
 
       found : (y : ℕ) (full : Bool) →
@@ -226,8 +250,8 @@ module _ (table : CallTable) (t : Tree) (h : ProcessState) where
       by true (Some y) = found y (is_full_dir t y)
 
   pub grown_shift : (from to : ℕ) (name new_name : List ℕ) (x : ℕ) → look t from name ≡ Some x → Put (to, new_name) x →
-      Grown (tree_left t (edited_tree h (shift t from name to new_name)))
-  grown_shift from to name new_name x here puts = by (is_dir t from && is_dir t to) (look t from name) here
+      is_mount t x ≡ false → IsPlain (to, new_name) → Grown (tree_left t (edited_tree h (shift t from name to new_name)))
+  grown_shift from to name new_name x here puts none plain = by (is_dir t from && is_dir t to) (look t from name) here
     where
       turned : Tree
       turned = with_row (without_row t from name) to new_name x
@@ -245,12 +269,20 @@ module _ (table : CallTable) (t : Tree) (h : ProcessState) where
         ) s z (sym (put_elsewhere spot_cmp spots_total exact_spots s (to, new_name) x (without_row t from name).rows other) ∙ e))
       ]
 
+      mounts_turned : (s : Spot) (z : ℕ) → look t s.0 s.1 ≡ Some z → is_mount t z ≡ true → look turned s.0 s.1 ≡ Some z
+      mounts_turned s z e mount =
+          put_elsewhere spot_cmp spots_total exact_spots s (to, new_name) x (without_row t from name).rows
+          (apart (to, new_name) s z plain e mount) ∙
+          still_there (from, name) s z
+          (apart (from, name) s z (λ y at. ap (is_mount t) (same_Some y x (sym at ∙ here)) ∙ none) e mount) e
+
       shifts : (there : Option ℕ) → Grown (with_row_moved t from name to new_name x there)
-      shifts None = record { rows = rows_turned; nodes = λ z l. inl refl; next = omega arith }
+      shifts None = record { rows = rows_turned; nodes = λ z l. inl refl; next = omega arith; mounts = mounts_turned }
       shifts (Some y) = record {
         rows = λ s z e. rows_turned s z (sym (same_look turned s y) ∙ e);
         nodes = λ z l. inl (lives_same turned z y l);
         next = let same = same_next turned y in omega arith;
+        mounts = λ s z e mount. same_look turned s y ∙ mounts_turned s z e mount;
       }
 
       found : (a b c : Bool) (there : Option ℕ) →

@@ -5,6 +5,7 @@ pub mod Growing
 pub mod Ways
 pub mod Quiet
 pub mod Devices
+pub mod Mounts
 pub mod Origins
 pub mod RequestKeepsRows
 pub mod Execs
@@ -28,6 +29,7 @@ pub mod Opened
 pub mod DestinationCovers
 pub mod Found
 pub mod Picked
+pub mod ComingDevices
 pub mod ComingPlaces
 pub mod ComingRows
 pub mod Under

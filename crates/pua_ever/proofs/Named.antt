@@ -14,7 +14,9 @@ use Rattle.pua_objects.specs.declared.item.Item as given
 use Rattle.pua_objects.specs.declared.item.Subject as about
 use Rattle.pua_objects.specs.declared.item.Subject.TheVariants as subject
 use Rattle.pua_ever.specs.Ever.{can_allow, named_covers, can_be_freed, is_turned_there, stays_on}
-use Rattle.pua_ever.specs.Prospects.{kind_allowed, own_given}
+use Rattle.pua_ever.specs.Prospects.{is_mount_given, kind_allowed, own_given}
+use Rattle.pua_ever.proofs.Common.{is_mount}
+use Rattle.pua_ever.proofs.Mounts.{no_mount}
 use Rattle.pua_ever.proofs.Prospected.{last}
 use Rattle.std.proofs.Math.Bool.{or-true}
 use Rattle.pua_calls.proofs.ForCallers.{has_none}
@@ -48,16 +50,23 @@ module _ (t : Tree) (well : WellFormed t) (table : CallTable) (h : ProcessState)
       && can_allow table h (turns i) (if has_kind dir name x fits.1.1 i then named_covers t table h (stays_on t h dir) (kind_at t x) (covered i) else covered i
       ∷ []) (object_of_kind (kind_at t x)) call)
 
+  -- a thing is a mount point
+  abbrev is_mounted : Subject → Bool
+  is_mounted (At (Whole dir way)) = is_mount t dir
+  is_mounted _ = false
+
   -- whether the name of a thing can come to be free, by the thing's own cover
   free_by : (about : Subject) (spot : Spot) → SubjectFits t about → own_spot about ≡ Some spot →
-      is_free t h spot ≡ has_c (cover_on t h about)
+      is_free t h spot ≡ (has_c (cover_on t h about) && not (is_mounted about))
   free_by (At (Slot dir name (Some x))) spot fits own =
       let plain : is_dir t x ≡ false = not-true (is_dir t x) (and_parts _ _ (and_parts (is_dir t dir) _ fits.0).1).1 in
-      let here : is_free t h (dir, name) ≡ has_c (cover t h (Slot dir name (Some x))) = rw (fits.1.1, plain) refl in
-      subst (λ s. is_free t h s ≡ has_c (cover t h (Slot dir name (Some x)))) (same_Some _ _ own) here
+      let here : is_free t h (dir, name) ≡ (has_c (cover t h (Slot dir name (Some x))) && true) =
+      rw (fits.1.1, plain) (ap (λ b. has_c (cover t h (Slot dir name (Some x))) && not b) (no_mount t well x plain)) in
+      subst (λ s. is_free t h s ≡ (has_c (cover t h (Slot dir name (Some x))) && true)) (same_Some _ _ own) here
   free_by (At (Whole dir (Named parent name))) spot fits own =
-      let here : is_free t h (parent, name) ≡ has_c (cover t h (Whole dir (Named parent name))) = rw (fits.1.1, fits.0) refl in
-      subst (λ s. is_free t h s ≡ has_c (cover t h (Whole dir (Named parent name)))) (same_Some _ _ own) here
+      let here : is_free t h (parent, name) ≡ (has_c (cover t h (Whole dir (Named parent name))) && not (is_mount t dir)) =
+      rw (fits.1.1, fits.0) refl in
+      subst (λ s. is_free t h s ≡ (has_c (cover t h (Whole dir (Named parent name))) && not (is_mount t dir))) (same_Some _ _ own) here
   free_by (At (Slot dir name None)) spot fits own = absurd (None≢Some spot own)
   free_by (At (Whole dir Top)) spot fits own = absurd (None≢Some spot own)
   free_by (At (Whole dir Dot)) spot fits own = absurd (None≢Some spot own)
@@ -84,7 +93,7 @@ module _ (t : Tree) (well : WellFormed t) (table : CallTable) (h : ProcessState)
 
     -- and one that can
     pub freed : (left : Cover) (perms : ℕ) (set : ℕ) → left ≡ cover_on t h about → perms_kept h (place.Slot spot.0 spot.1) ≡ Some perms →
-        (may_edit table h && has_c left) ≡ true
+        (may_edit table h && (has_c left && not (is_mounted about))) ≡ true
         → ((call : Call) → has set call ≡ is_allowed (covered_verdict empty_tree table h call (Only perms) IsMissing)) →
         AreOnFreed t table h (own_spot about) set
     freed left perms set covered kept_here can all = record {
@@ -104,7 +113,7 @@ module _ (t : Tree) (well : WellFormed t) (table : CallTable) (h : ProcessState)
         test : can_be_freed t table h spot ≡ true
         test =
             (λ i. is_some (kept_here i) && (may_edit table h && free_by about spot fits (sym own) i))
-            ∙ ap (λ c. may_edit table h && has_c c) (sym covered) ∙ can
+            ∙ ap (λ c. may_edit table h && (has_c c && not (is_mounted about))) (sym covered) ∙ can
 
   -- the name at which an item stands is that of its thing
   own_by : (s : about.Subject) (object : seen.Object) → SubjectFits t (subject_given t s) → object ≡ object_on t (subject_given t s) →
@@ -123,6 +132,18 @@ module _ (t : Tree) (well : WellFormed t) (table : CallTable) (h : ProcessState)
           object ≡ object_on t (At (Slot dir name.now o)) → own_given (subject.Name dir name) object ≡ own_spot (At (Slot dir name.now o))
       by None row fits is = ap (own_given (subject.Name dir name)) is
       by (Some x) row fits is = plain x (kind_at t x) (has_kind dir name.now x row) is
+
+  -- and it is told of the item whether that is a mount point
+  mounted_by : (s : about.Subject) (object : seen.Object) (spot : Spot) → Some spot ≡ own_given s object →
+      is_mount_given t s ≡ is_mounted (subject_given t s)
+  mounted_by subject.Root object spot own = absurd (Some≢None spot own)
+  mounted_by (subject.Dir id dir name) object spot own = refl
+  mounted_by (subject.Others dir) object spot own = refl
+  mounted_by (subject.Name dir name) object spot own = refl
+
+  pub mounted_is : (about : Subject) (item : given.Item) (spot : Spot) → IsItemOn t h about item → Some spot ≡ own_given item.subject item.object →
+      is_mount_given t item.subject ≡ is_mounted about
+  mounted_is about item spot on own = mounted_by item.subject item.object spot own ∙ ap is_mounted on.subject
 
   pub own_name_is : (about : Subject) (item : given.Item) → SubjectFits t about → IsItemOn t h about item →
       own_given item.subject item.object ≡ own_spot about

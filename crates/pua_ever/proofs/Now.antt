@@ -1,14 +1,14 @@
 -- The list of the objects of now lies within the list for ever.
 use Rattle.pua_ever.proofs.Common.{◌≡◌, ℕ, zero, suc, List, [], ◌∷◌, ◌++◌, Bool, true, false, map, refl, sym, ap, subst, ◌∙◌, inl}
-use Rattle.pua_ever.proofs.Common.{inr, Option, Some, None, not, ◌&&◌, ◌||◌, ◌==◌, is_none, if◌then◌else◌, flat_map, nat_lt}
-use Rattle.pua_ever.proofs.Common.{list_any, and_parts, and_from, or_right, Tree, WellFormed, is_dir, look, kind_at, is_empty, has_no_row}
+use Rattle.pua_ever.proofs.Common.{inr, Option, Some, None, not, ◌&&◌, ◌||◌, is_none, if◌then◌else◌, flat_map, nat_lt}
+use Rattle.pua_ever.proofs.Common.{and_parts, and_from, or_right, Tree, WellFormed, is_dir, look, kind_at, is_empty, has_no_row}
 use Rattle.pua_ever.proofs.Common.{sound_from, row_says, Way, Named, Top, Dot, DotDot, Whole, Slot, CallTable}
 use Rattle.pua_ever.proofs.Common.{calls, rule_of, ProcessState, perms_kept, veils, may_any, IsDir, IsMissing, object_of_kind, object_fault}
 use Rattle.pua_ever.proofs.Common.{cover, cover_fault, is_allowed, Call, Cover, Only, has_c, Word, Subject, At, Others, Item, items}
 use Rattle.pua_ever.proofs.Common.{cover_in, own_or, Among, among_left, among_map, map_among, among_filter, filter_among, contained}
 use Rattle.pua_ever.proofs.Common.{among_contained, covers_descend, allowed_is, is_free, can_empty, dir_covers, file_covers, may_edit, can_move}
 use Rattle.pua_ever.proofs.Common.{is_named_way, is_allowed_under, ever_line, EverLine, subjects_of, all_new, new_line, has_ever_calls}
-use Rattle.pua_ever.proofs.Common.{ever, filter, May, Ok, allowed_unless, if_promised, or_fault, is_mount}
+use Rattle.pua_ever.proofs.Common.{ever, filter, May, Ok, allowed_unless, if_promised, or_fault, is_mount, row_cover}
 use Rattle.std.specs.List.{Contains}
 use Rattle.std.specs.Prelude.{length}
 use Rattle.pua_calls.specs.TmpTable.{tmp_table}
@@ -29,9 +29,10 @@ use Rattle.pua_ever.specs.Laws.{IsWithinEver, IsWithinLines, NowWithinEver}
 use Rattle.pua_ever.proofs.Covers.{slot_row}
 use Rattle.pua_ever.proofs.Ways.{on_own, way_by_c, name_by_veil, open_by, file_by_name, file_by_open}
 use Rattle.pua_ever.proofs.Grown.{moved_has_c}
-use Rattle.pua_ever.proofs.KindFaults.{plain_alike, dir_as, dir_alike}
+use Rattle.pua_ever.proofs.KindFaults.{plain_alike, dir_as, dir_alike, emptied}
 use Rattle.pua_ever.proofs.Ending.{parts_of, ever_first, named_first, calls_among, under_one}
-use Rattle.pua_ever.proofs.Prospected.{empty_can, emptied}
+use Rattle.pua_ever.proofs.Mounts.{no_mount}
+use Rattle.pua_ever.proofs.Prospected.{empty_can}
 
 module _ (t : Tree) (h : ProcessState) where
   -- what an item is about stands in the tree
@@ -93,7 +94,8 @@ module _ (t : Tree) (h : ProcessState) where
         over = (covers_descend t h well).at_name dir name (Some x)
 
         free : has_c left ≡ true → is_free t h (dir, name) ≡ true
-        free has = rw (row, ap has_c (slot_row t h well (dir, name) x other ∙ sym over) ∙ has) refl
+        free has = rw row (and_from (has_c (row_cover t h (dir, name) x)) _ (ap has_c (slot_row t h well (dir, name) x other ∙ sym over) ∙ has)
+            (ap not (no_mount t well x other)))
 
         by : (o : Option ℕ) → perms_kept h (place.Slot dir name) ≡ o → has_c left ≡ true → Among (file_covers t table h (stays_on t h dir)) left
         by (Some perms) own has =
@@ -110,7 +112,7 @@ module _ (t : Tree) (h : ProcessState) where
   module _ (well : WellFormed t) (table : CallTable) (c : Call) where
     -- a directory that can be removed now is empty now
     abbrev empties : ℕ → Way → Bool
-    empties dir way = is_named_way way && (can_empty t h dir && (may_edit table h || (not (list_any (λ row. row.0.0 == dir) t.rows) && not (is_mount t dir))))
+    empties dir way = is_named_way way && (not (is_mount t dir) && (can_empty t h dir && (may_edit table h || has_no_row t dir)))
 
     removed : (dir : ℕ) (way : Way) → rmdir_fault table.whose t dir way ≡ None → empties dir way ≡ true
     removed dir Dot e = cc
@@ -119,8 +121,8 @@ module _ (t : Tree) (h : ProcessState) where
     removed dir (Named over name) e =
         let bare = emptied (is_mount t dir) (is_empty t dir) e in
         let none : has_no_row t dir ≡ true = (and_parts (is_dir t dir) (has_no_row t dir) bare.1).1 in
-        and_from (can_empty t h dir) _ (empty_can t h dir none)
-        (or_right (may_edit table h) _ (and_from (has_no_row t dir) _ none (ap not bare.0)))
+        and_from (not (is_mount t dir)) _ (ap not bare.0)
+        (and_from (can_empty t h dir) _ (empty_can t h dir none) (or_right (may_edit table h) _ none))
 
     -- what is allowed now is allowed under them
     allowed_still : (subject : Subject) → StandsNow subject → is_allowed (subject_verdict t table h c subject) ≡ true →

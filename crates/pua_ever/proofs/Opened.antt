@@ -3,7 +3,8 @@ use Rattle.pua_ever.proofs.Common.{◌≡◌, ◌≢◌, ℕ, List, [], ◌∷�
 use Rattle.pua_ever.proofs.Common.{None, is_some, not, ◌&&◌, ◌||◌, ◌==◌, filter_map, list_any, list_all, false≢true, eq-eqb, eqb-true}
 use Rattle.pua_ever.proofs.Common.{and_parts, and_from, not-true, Tree, WellFormed, Spot, is_dir, look, empty_tree, same_Some, None≢Some}
 use Rattle.pua_ever.proofs.Common.{sound_from, row_says, row_of, ProcessState, has_veil, perms_kept, veils, Cover, Only, Place, has_c, own_or}
-use Rattle.pua_ever.proofs.Common.{cover_in, Among, among_map, among_filter_map, row_cover, can_empty, is_below, has_c_outside, directories}
+use Rattle.pua_ever.proofs.Common.{cover_in, Among, among_map, among_filter_map, row_cover, can_empty, can_leave, is_below, has_c_outside, directories}
+use Rattle.pua_ever.proofs.Common.{is_mount, option_eq, or_left, or_right}
 use Rattle.pua_ever.proofs.Common.{opened_dir, held_dir}
 use Rattle.std.proofs.lemmas.Bool.{true≢false, or_cases}
 use Rattle.pua_policy.specs.States.{EachOnce}
@@ -11,7 +12,7 @@ use Rattle.pua_policy.specs.declared.place.Place.TheVariants as place
 use Rattle.pua_objects.proofs.ForCallers.{found_among, filter_map_among}
 use Rattle.pua_ever.specs.Ever.{opens_outside}
 use Rattle.pua_ever.specs.Laws.{dir_of_place}
-use Rattle.pua_ever.specs.Destinations.{if_c, is_without_c, is_barred, is_no_dir, is_outside}
+use Rattle.pua_ever.specs.Destinations.{has_mount, holds_dir, if_c, is_barred, is_mounted_in, is_no_dir, is_outside, is_without_c}
 use Rattle.pua_ever.proofs.Covers.{dir_row, slot_row, own_dir, under_dir}
 use Rattle.pua_ever.proofs.KeptVeils.{among_kept_at}
 use Rattle.pua_ever.proofs.Origin.{below_both, own_cover, origin}
@@ -72,27 +73,43 @@ pub place_among : (h : ProcessState) (at : Place) (perms : ℕ) → perms_kept h
 place_among h at perms e = among_map (λ (veil : Place × ℕ). veil.0) (veils h) (at, perms) (kept_among empty_tree h at perms e)
 
 module _ (t : Tree) (h : ProcessState) (well : WellFormed t) where
-  -- the directories that something holds
-  abbrev pub held : List ℕ
-  held = filter_map (held_dir t h) (places_of h)
+  -- something stays in a directory, and holds it
+  abbrev pub is_held : ℕ → Bool
+  is_held y = has_mount t y || list_any (holds_dir t h y) (places_of h)
 
   -- those with `c` by a veil, or a name in which has
   abbrev pub opened : List ℕ
   opened = filter_map (opened_dir h) (places_of h)
 
-  -- what a veil without `c` is on stays, so its directory never is empty
-  barred_row : (s : Spot) (x y : ℕ) → look t s.0 s.1 ≡ Some x → s.0 ≡ y → has_c (row_cover t h s x) ≡ false → can_empty t h y ≡ false
-  barred_row s x y row at lacks = by (can_empty t h y) refl
+  -- the directory of what can't leave it never is empty
+  staying_row : (s : Spot) (x y : ℕ) → look t s.0 s.1 ≡ Some x → s.0 ≡ y → can_leave t h s x ≡ false → can_empty t h y ≡ false
+  staying_row s x y row at stays = by (can_empty t h y) refl
     where
       by : (b : Bool) → can_empty t h y ≡ b → can_empty t h y ≡ false
       by false e = e
       by true all =
-          let one = all_among (λ row. not (row.0.0 == y) || has_c (row_cover t h row.0 row.1)) t.rows (
+          let one = all_among (λ row. not (row.0.0 == y) || can_leave t h row.0 row.1) t.rows (
             s,
             x,
           ) all (found_among s x t.rows row) in
-          let differs : (not (s.0 == y) || has_c (row_cover t h s x)) ≡ false = (λ i. not (eq-eqb s.0 y at i) || lacks i) in
+          let differs : (not (s.0 == y) || can_leave t h s x) ≡ false = (λ i. not (eq-eqb s.0 y at i) || stays i) in
           absurd (false≢true (sym differs ∙ one))
+
+  -- as that of what a veil without `c` is on
+  barred_row : (s : Spot) (x y : ℕ) → look t s.0 s.1 ≡ Some x → s.0 ≡ y → has_c (row_cover t h s x) ≡ false → can_empty t h y ≡ false
+  barred_row s x y row at lacks = staying_row s x y row at (ap (λ b. b && not (is_mount t x)) lacks)
+
+  -- and that of a mount point
+  mount_bars : (y : ℕ) → has_mount t y ≡ true → can_empty t h y ≡ false
+  mount_bars y some =
+      let found = any_found (is_mounted_in t y) t.rows some in
+      let both = and_parts (found.0.0.0 == y) (is_mount t found.0.1) found.2 in
+      staying_row found.0.0 found.0.1 y (among_rows t well found.0 found.1) (eqb-true found.0.0.0 y both.0)
+      (mounted (has_c (row_cover t h found.0.0 found.0.1)) (is_mount t found.0.1) both.1)
+    where
+      mounted : (b m : Bool) → m ≡ true → (b && not m) ≡ false
+      mounted true m e = ap not e
+      mounted false m e = refl
 
   held_bars : (at : Place) (y : ℕ) → held_dir t h at ≡ Some y → can_empty t h y ≡ false
   held_bars (place.Dir x) y e =
@@ -119,7 +136,12 @@ module _ (t : Tree) (h : ProcessState) (well : WellFormed t) where
 
   -- and in a directory with `c` nothing else stays
   module _ (y : ℕ) (is : is_dir t y ≡ true) (has : has_c (cover_in t h y) ≡ true) where
-    bars_held : (s : Spot) (x : ℕ) → look t s.0 s.1 ≡ Some x → s.0 ≡ y → has_c (row_cover t h s x) ≡ false → Among held y
+    held_at : (at : Place) (perms : ℕ) → perms_kept h at ≡ Some perms → held_dir t h at ≡ Some y → is_held y ≡ true
+    held_at at perms e held =
+        or_right (has_mount t y) _ (any_among (holds_dir t h y) (places_of h) at (place_among h at perms e)
+        (ap (λ o. option_eq ◌==◌ o (Some y)) held ∙ eq-eqb y y refl))
+
+    bars_held : (s : Spot) (x : ℕ) → look t s.0 s.1 ≡ Some x → s.0 ≡ y → has_c (row_cover t h s x) ≡ false → is_held y ≡ true
     bars_held s x row at lacks = by (is_dir t x) refl
       where
         over : has_c (cover_in t h s.0) ≡ true
@@ -128,7 +150,7 @@ module _ (t : Tree) (h : ProcessState) (well : WellFormed t) where
         n : x ≢ 0
         n = (row_says t (sound_from t well) s x row).3
 
-        dir_held : is_dir t x ≡ true → (o : Option ℕ) → perms_kept h (place.Dir x) ≡ o → Among held y
+        dir_held : is_dir t x ≡ true → (o : Option ℕ) → perms_kept h (place.Dir x) ≡ o → is_held y ≡ true
         dir_held dir None e = absurd (false≢true (sym lacks ∙ ap has_c (dir_row t h well s x dir ∙ under_dir t h well s x dir row e) ∙
             over))
         dir_held dir (Some perms) e =
@@ -137,39 +159,53 @@ module _ (t : Tree) (h : ProcessState) (well : WellFormed t) where
               | true ↦ λ z. absurd (n (eqb-true x 0 z))
               | false ↦ λ z. refl
             ] refl in
-            among_filter_map (held_dir t h) (places_of h) (place.Dir x) y (place_among h (place.Dir x) perms e)
+            held_at (place.Dir x) perms e
             (when _ _ (and_from (is_dir t x) _ dir (and_from (not (x == 0)) _ zero_no (ap is_without_c e ∙ ap not bad))) ∙
             ap Some (above_row t well y s x row dir ∙ at))
 
-        slot_held : is_dir t x ≡ false → (o : Option ℕ) → perms_kept h (place.Slot s.0 s.1) ≡ o → Among held y
+        slot_held : is_dir t x ≡ false → (o : Option ℕ) → perms_kept h (place.Slot s.0 s.1) ≡ o → is_held y ≡ true
         slot_held plain None e =
             absurd (false≢true (sym lacks ∙ ap has_c (slot_row t h well s x plain ∙ ap (λ o. own_or o (cover_in t h s.0)) e) ∙ over))
         slot_held plain (Some perms) e =
             let bad : has_c (Only perms) ≡ false = ap has_c (sym (slot_row t h well s x plain ∙ ap (λ o. own_or o (cover_in t h s.0)) e)) ∙
             lacks in
-            among_filter_map (held_dir t h) (places_of h) (place.Slot s.0 s.1) y (place_among h (place.Slot s.0 s.1) perms e)
+            held_at (place.Slot s.0 s.1) perms e
             (when _ _ (and_from (is_no_dir t (look t s.0 s.1)) _ (ap (is_no_dir t) row ∙ ap not plain) (ap is_without_c e ∙ ap not bad)) ∙
             ap Some at)
 
-        by : (b : Bool) → is_dir t x ≡ b → Among held y
+        by : (b : Bool) → is_dir t x ≡ b → is_held y ≡ true
         by true dir = dir_held dir (perms_kept h (place.Dir x)) refl
         by false plain = slot_held plain (perms_kept h (place.Slot s.0 s.1)) refl
 
-    pub empties : can_empty t h y ≡ not (list_any (λ other. other == y) held)
-    empties = by (list_any (λ other. other == y) held) (can_empty t h y) refl refl
+    -- whatever stays holds it
+    stays_held : (s : Spot) (x : ℕ) → look t s.0 s.1 ≡ Some x → s.0 ≡ y → can_leave t h s x ≡ false → is_held y ≡ true
+    stays_held s x row at = by (has_c (row_cover t h s x)) (is_mount t x) refl refl
       where
-        by : (l c : Bool) → list_any (λ other. other == y) held ≡ l → can_empty t h y ≡ c → c ≡ not l
-        by true c any e =
-            let found = any_found (λ other. other == y) held any in
-            let from = filter_map_among (held_dir t h) (places_of h) found.0 found.1 in
-            sym e ∙ held_bars from.0 y (from.2 ∙ ap Some (eqb-true found.0 y found.2))
+        by : (c m : Bool) → has_c (row_cover t h s x) ≡ c → is_mount t x ≡ m → (c && not m) ≡ false → is_held y ≡ true
+        by false m lacks mount stays = bars_held s x row at lacks
+        by true true some mount stays =
+            or_left (has_mount t y) _ (any_among (is_mounted_in t y) t.rows (s, x) (found_among s x t.rows row)
+            (and_from (s.0 == y) _ (eq-eqb s.0 y at) mount))
+        by true false some mount stays = absurd (false≢true (sym stays))
+
+    pub empties : can_empty t h y ≡ not (is_held y)
+    empties = by (is_held y) (can_empty t h y) refl refl
+      where
+        same : (o : Option ℕ) → option_eq ◌==◌ o (Some y) ≡ true → o ≡ Some y
+        same None e = absurd (false≢true e)
+        same (Some z) e = ap Some (eqb-true z y e)
+
+        by : (l c : Bool) → is_held y ≡ l → can_empty t h y ≡ c → c ≡ not l
+        by true c any e = sym e ∙ elim (or_cases (has_mount t y) (list_any (holds_dir t h y) (places_of h)) any) [
+          | inl mount ↦ mount_bars y mount
+          | inr some ↦ (let found = any_found (holds_dir t h y) (places_of h) some in held_bars found.0 y (same (held_dir t h found.0) found.2))
+        ]
         by false true any e = refl
         by false false any e =
-            let row = fails (λ row. not (row.0.0 == y) || has_c (row_cover t h row.0 row.1)) t.rows e in
+            let row = fails (λ row. not (row.0.0 == y) || can_leave t h row.0 row.1) t.rows e in
             let two = neither (row.0.0.0 == y) _ row.2 in
             absurd (false≢true (sym any ∙
-            any_among (λ other. other == y) held y (bars_held row.0.0 row.0.1 (among_rows t well row.0 row.1) (eqb-true _ _ two.0)
-            two.1) (eq-eqb y y refl)))
+            stays_held row.0.0 row.0.1 (among_rows t well row.0 row.1) (eqb-true _ _ two.0) two.1))
 
   -- something has `c` outside of a directory
   module _ (once : EachOnce h.veils) (veiled : has_veil h.veils ≡ true) (y : ℕ) where

@@ -5,7 +5,7 @@ use Rattle.pua_ever.proofs.Common.{arith, Option, Some, None, not, ◌||◌, ◌
 use Rattle.pua_ever.proofs.Common.{WellFormed, Spot, spot_cmp, is_dir, is_living, look, node_at, kind_at, above, is_empty, has_no_row}
 use Rattle.pua_ever.proofs.Common.{Reaches, sound_from, row_says, row_of, same_Some, Some≢None, spots_total, exact_spots, same_dir}
 use Rattle.pua_ever.proofs.Common.{CallTable, ProcessState, perms_kept, Only, has_c, UncoveredStay, cover_in, own_or, Among, among_left}
-use Rattle.pua_ever.proofs.Common.{among_right, covers_descend, row_cover, is_free, can_link, can_empty, has_c_outside, dir_covers}
+use Rattle.pua_ever.proofs.Common.{among_right, covers_descend, row_cover, is_free, can_leave, can_link, can_empty, can_yield, has_c_outside, dir_covers}
 use Rattle.pua_ever.proofs.Common.{name_covers, open_covers, some_dir_moves, file_covers, New, can_make, can_move, VeilsStand, Cover}
 use Rattle.pua_tree.proofs.ForCallers.{Sound, above_dir}
 use Rattle.pua_tree.proofs.ForCallers.{none_found, all_from_found}
@@ -15,8 +15,9 @@ use Rattle.pua_ever.proofs.Covers.{given_or_new, dir_row, slot_row, own_dir, und
 use Rattle.pua_ever.proofs.Quiet.{Quiet}
 use Rattle.pua_tree.specs.Tree.{device}
 use Rattle.pua_ever.specs.Ever.{is_on, kept_on}
-use Rattle.pua_ever.proofs.Common.{and_from, is_mount, is_none}
+use Rattle.pua_ever.proofs.Common.{◌&&◌, and_from, is_mount, is_none}
 use Rattle.pua_ever.proofs.Devices.{device_at, device_over_row}
+use Rattle.pua_ever.proofs.Mounts.{mount_lives}
 use Rattle.pua_ever.proofs.Ways.{all_within, anywhere, on_same}
 use Rattle.pua_ever.proofs.Ways.{way_by_c, way_by_name, way_by_turn, name_by_veil, open_by, open_among, moves_by, file_by_name}
 use Rattle.pua_ever.proofs.Ways.{file_by_open, file_by_dir, quiet_dir, quiet_name}
@@ -48,8 +49,8 @@ module _ (table : CallTable) (t0 : Tree) (h : ProcessState) (well0 : WellFormed 
   -- how a directory can stand in a directory without `c`
   pub data Entrance (s : Spot) (x : ℕ) : Type 0 where
     by_veil : (perms : ℕ) → perms_kept h (place.Slot s.0 s.1) ≡ Some perms → has_c (Only perms) ≡ true → Entrance s x
-    turned : (y : ℕ) → look t0 s.0 s.1 ≡ Some y → is_dir t0 y ≡ true → has_c (cover_in t0 h y) ≡ true → can_empty t0 h y ≡ true →
-        has_c_outside t0 h y ≡ true → Entrance s x
+    turned : (y : ℕ) → look t0 s.0 s.1 ≡ Some y → is_dir t0 y ≡ true → has_c (cover_in t0 h y) ≡ true → can_yield t0 h y ≡ true →
+        Entrance s x
     still : look t0 s.0 s.1 ≡ Some x → is_dir t0 x ≡ true → has_c (cover_in t0 h x) ≡ true → Entrance s x
 
   pub record Came (u : Tree) (s : Spot) (x : ℕ) : Type 0 where
@@ -73,6 +74,7 @@ module _ (table : CallTable) (t0 : Tree) (h : ProcessState) (well0 : WellFormed 
     pub next : t0.next ≤ u.next
     pub devices : (d : ℕ) → is_dir t0 d ≡ true → is_dir u d ≡ true → device u d ≡ device t0 d
     pub quiet : (y : ℕ) → y ≢ 0 → has_c_outside t0 h y ≡ false → Quiet h y u
+    pub mounts : (s : Spot) (x : ℕ) → look t0 s.0 s.1 ≡ Some x → is_mount t0 x ≡ true → look u s.0 s.1 ≡ Some x
 
   -- it is so at the beginning
   pub at_first : Stays t0
@@ -88,6 +90,7 @@ module _ (table : CallTable) (t0 : Tree) (h : ProcessState) (well0 : WellFormed 
       dirs = λ d is outside. quiet_dir t0 h y d none is outside;
       names = λ d name perms is outside e. quiet_name t0 h y d name perms none is outside e;
     };
+    mounts = λ s x e mount. e;
   }
     where
       has : (s : Spot) (x : ℕ) → can_move table h (row_cover t0 h s x) ≡ true → has_c (row_cover t0 h s x) ≡ true
@@ -132,20 +135,37 @@ module _ (table : CallTable) (t0 : Tree) (h : ProcessState) (well0 : WellFormed 
         by false e = e
         by true e = absurd (false≢true (sym lacks ∙ moved_has_c table h left e))
 
-    -- a name at which something else stands could come to be free
-    pub free_or_fixed : (s : Spot) (x : ℕ) → look u s.0 s.1 ≡ Some x → (is_free t0 h s ≡ true) ⊎ Fixed s x
+    -- what can't leave its row stays there
+    pub stays_there : (s : Spot) (y : ℕ) → look t0 s.0 s.1 ≡ Some y → can_leave t0 h s y ≡ false → look u s.0 s.1 ≡ Some y
+    stays_there s y at = by (has_c (row_cover t0 h s y)) (is_mount t0 y) refl refl
+      where
+        by : (c m : Bool) → has_c (row_cover t0 h s y) ≡ c → is_mount t0 y ≡ m → (c && not m) ≡ false → look u s.0 s.1 ≡ Some y
+        by false m lacks is none = (k.uncovered s y at lacks).row
+        by true true has is none = k.mounts s y at is
+        by true false has is none = absurd (false≢true (sym none))
+
+    -- a name at which something stands could come to be free, or what stands there can't be moved: it lacks `c`, or is a mount point
+    abbrev Mounted : Spot → ℕ → Type 0
+    Mounted s x = (look t0 s.0 s.1 ≡ Some x) × (is_mount t0 x ≡ true)
+
+    pub free_or_fixed : (s : Spot) (x : ℕ) → look u s.0 s.1 ≡ Some x → (is_free t0 h s ≡ true) ⊎ (Fixed s x ⊎ Mounted s x)
     free_or_fixed s x e = by (look t0 s.0 s.1) refl
       where
-        at : (y : ℕ) → look t0 s.0 s.1 ≡ Some y → (b : Bool) → has_c (row_cover t0 h s y) ≡ b →
-            (has_c (row_cover t0 h s y) ≡ true) ⊎ Fixed s x
-        at y is true has = inl has
-        at y is false lacks =
-            let same : y ≡ x = same_Some y x (sym (k.uncovered s y is lacks).row ∙ e) in
-            inr (subst (Fixed s) same (is, unmoved (row_cover t0 h s y) lacks))
+        held : (y : ℕ) → look t0 s.0 s.1 ≡ Some y → (c m : Bool) → has_c (row_cover t0 h s y) ≡ c → is_mount t0 y ≡ m →
+            (c && not m) ≡ false → Fixed s y ⊎ Mounted s y
+        held y is false m lacks mount none = inl (is, unmoved (row_cover t0 h s y) lacks)
+        held y is true true has mount none = inr (is, mount)
+        held y is true false has mount none = absurd (false≢true (sym none))
 
-        by : (o : Option ℕ) → look t0 s.0 s.1 ≡ o → (is_free t0 h s ≡ true) ⊎ Fixed s x
+        at : (y : ℕ) → look t0 s.0 s.1 ≡ Some y → (b : Bool) → can_leave t0 h s y ≡ b → (is_free t0 h s ≡ true) ⊎ (Fixed s x ⊎ Mounted s x)
+        at y is true leaves = inl (rw is leaves)
+        at y is false stays =
+            let same : y ≡ x = same_Some y x (sym (stays_there s y is stays) ∙ e) in
+            inr (subst (λ z. Fixed s z ⊎ Mounted s z) same (held y is (has_c (row_cover t0 h s y)) (is_mount t0 y) refl refl stays))
+
+        by : (o : Option ℕ) → look t0 s.0 s.1 ≡ o → (is_free t0 h s ≡ true) ⊎ (Fixed s x ⊎ Mounted s x)
         by None is = inl (rw is refl)
-        by (Some y) is = elim (at y is (has_c (row_cover t0 h s y)) refl) [ inl has ↦ inl (rw (is, has) refl) | inr fixed ↦ inr fixed ]
+        by (Some y) is = at y is (can_leave t0 h s y) refl
 
     -- a directory of the beginning is on its device
     on_it : (d : ℕ) → is_dir t0 d ≡ true → is_dir u d ≡ true → is_on t0 (kept_in u d) d ≡ true
@@ -191,9 +211,15 @@ module _ (table : CallTable) (t0 : Tree) (h : ProcessState) (well0 : WellFormed 
             Among (dir_covers t0 h (kept_in u s.0)) (cover_in t0 h s.0)
         entered lives lacks (by_veil perms is_kept has) = elim (free_or_fixed s d e) [
           | inl free ↦ way_by_name t0 h (kept_in u s.0) s.0 s.1 perms lives (on_it s.0 lives over_lives) is_kept has free
-          | inr fixed ↦ absurd (fixed_never fixed)
+          | inr other ↦ absurd (fixed_never (elim other [ inl fixed ↦ fixed | inr mount ↦ lacks_too mount ]))
         ]
           where
+            -- a mount point is covered as what it stands in
+            lacks_too : Mounted s d → Fixed s d
+            lacks_too mount =
+                let was : is_dir t0 d ≡ true = dir_then s s d mount.0 e is in
+                (mount.0, unmoved (row_cover t0 h s d) (ap has_c (dir_row t0 h well0 s d was ∙ under_dir t0 h well0 s d was mount.0 none) ∙ lacks))
+
             fixed_never : Fixed s d → ⊥
             fixed_never fixed = never fixed came.origin
               where
@@ -204,7 +230,7 @@ module _ (table : CallTable) (t0 : Tree) (h : ProcessState) (well0 : WellFormed 
                 never fixed (linked r at plain can near) = false≢true (sym plain ∙ dir_then s s d fixed.0 e is)
                 never fixed (since from) =
                     let below = below_next t0 h well0 d (row_says t0 (sound_from t0 well0) s d fixed.0).2 in absurd (omega arith)
-        entered lives lacks (turned y at dir has empty more) = way_by_turn t0 h (kept_in u s.0) s.0 s.1 y lives (on_it s.0 lives over_lives) at dir has empty more
+        entered lives lacks (turned y at dir has yields) = way_by_turn t0 h (kept_in u s.0) s.0 s.1 y lives (on_it s.0 lives over_lives) at dir has yields
         entered lives lacks (still at dir has) =
             absurd (false≢true (sym lacks ∙ ap has_c (sym (under_dir t0 h well0 s d dir at none)) ∙ has))
 
@@ -304,7 +330,10 @@ module _ (table : CallTable) (t0 : Tree) (h : ProcessState) (well0 : WellFormed 
     file_under s x e other = elim (k.rows s x e) [
       | inl fixed ↦ inl fixed
       | inr came ↦ elim (free_or_fixed s x e) [
-        | inr fixed ↦ inl fixed
+        | inr held ↦ elim held [
+          | inl fixed ↦ inl fixed
+          | inr mount ↦ absurd (false≢true (sym other ∙ same_dir t0 u x (same_then s s x mount.0 e) ∙ mount_lives t0 well0 x mount.1))
+        ]
         | inl free ↦ inr (
           came,
           subst (Among (file_covers t0 table h (kept_in u s.0))) (sym (slot_row u h k.well s x other)) (by came free (perms_kept h (place.Slot s.0 s.1)) refl),
@@ -346,29 +375,29 @@ module _ (table : CallTable) (t0 : Tree) (h : ProcessState) (well0 : WellFormed 
     -- a directory in which nothing stands could come to be empty at the beginning
     pub could_empty : (y : ℕ) → is_empty u y ≡ true → can_empty t0 h y ≡ true
     could_empty y empty =
-        all_from_found spot_cmp spots_total exact_spots (λ row. not (row.0.0 == y) || has_c (row_cover t0 h row.0 row.1)) t0.rows
+        all_from_found spot_cmp spots_total exact_spots (λ row. not (row.0.0 == y) || can_leave t0 h row.0 row.1) t0.rows
         (sound_from t0 well0).rows_sorted
-        (λ s z e. by s z e (s.0 == y) (has_c (row_cover t0 h s z)) refl refl)
+        (λ s z e. by s z e (s.0 == y) (can_leave t0 h s z) refl refl)
       where
         none : list_any (λ (row : Spot × ℕ). row.0.0 == y) u.rows ≡ false
         none = not-true _ (and_parts (is_dir u y) (has_no_row u y) empty).1
 
-        by : (s : Spot) (z : ℕ) → look t0 s.0 s.1 ≡ Some z → (a b : Bool) → (s.0 == y) ≡ a → has_c (row_cover t0 h s z) ≡ b →
-            (not (s.0 == y) || has_c (row_cover t0 h s z)) ≡ true
-        by s z e false b other has = ap (λ a. not a || has_c (row_cover t0 h s z)) other
-        by s z e a true other has = or_right (not (s.0 == y)) _ has
-        by s z e true false here lacks =
+        by : (s : Spot) (z : ℕ) → look t0 s.0 s.1 ≡ Some z → (a b : Bool) → (s.0 == y) ≡ a → can_leave t0 h s z ≡ b →
+            (not (s.0 == y) || can_leave t0 h s z) ≡ true
+        by s z e false b other leaves = ap (λ a. not a || can_leave t0 h s z) other
+        by s z e a true other leaves = or_right (not (s.0 == y)) _ leaves
+        by s z e true false here stays =
             absurd (false≢true (sym (none_found spot_cmp spots_total exact_spots (λ (row : Spot × ℕ). row.0.0 == y) u.rows none s z
-            (k.uncovered s z e lacks).row) ∙ here))
+            (stays_there s z e stays)) ∙ here))
 
     -- a name at which nothing stands could come to be free at the beginning
     pub free_then : (s : Spot) → look u s.0 s.1 ≡ None → is_free t0 h s ≡ true
     free_then s none = by (look t0 s.0 s.1) refl
       where
-        at : (y : ℕ) → look t0 s.0 s.1 ≡ Some y → (b : Bool) → has_c (row_cover t0 h s y) ≡ b → has_c (row_cover t0 h s y) ≡ true
-        at y is true has = has
-        at y is false lacks = absurd (Some≢None y (sym (k.uncovered s y is lacks).row ∙ none))
+        at : (y : ℕ) → look t0 s.0 s.1 ≡ Some y → (b : Bool) → can_leave t0 h s y ≡ b → can_leave t0 h s y ≡ true
+        at y is true leaves = leaves
+        at y is false stays = absurd (Some≢None y (sym (stays_there s y is stays) ∙ none))
 
         by : (o : Option ℕ) → look t0 s.0 s.1 ≡ o → is_free t0 h s ≡ true
         by None is = rw is refl
-        by (Some y) is = rw (is, at y is (has_c (row_cover t0 h s y)) refl) refl
+        by (Some y) is = rw is (at y is (can_leave t0 h s y) refl)

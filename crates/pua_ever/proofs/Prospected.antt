@@ -4,9 +4,11 @@ use Rattle.pua_ever.proofs.Common.{option_map, not, ◌&&◌, ◌||◌, ◌==◌
 use Rattle.pua_ever.proofs.Common.{Spot, is_dir, is_empty, has_no_row, empty_tree, Way, Named, Top, Dot, DotDot}
 use Rattle.pua_ever.proofs.Common.{Whole, CallTable, rule_of, has, keeps_link, ProcessState, perms_kept, may_any, object_seen, Object, IsDir}
 use Rattle.pua_ever.proofs.Common.{object_fault, cover_fault, or_fault, allowed_unless, if_promised, covered_verdict, is_allowed, Call}
-use Rattle.pua_ever.proofs.Common.{Cover, May, has_c, At, cover_in, row_cover, can_empty, dir_covers, may_edit, removable_dir, lasting_dir}
+use Rattle.pua_ever.proofs.Common.{Cover, May, has_c, At, cover_in, can_empty, can_leave, dir_covers, may_edit, removable_dir, lasting_dir}
 use Rattle.pua_ever.proofs.Common.{is_named_way, is_allowed_under, is_ever_allowed, EditsNeedC, can_move, may_rename, is_yes, or_left, is_mount}
 use Rattle.pua_policy.specs.Misfits.{misfit_errno, named_misfit}
+use Rattle.std.specs.BTreeSet.{contains}
+use Rattle.std.specs.Ordering.{nat_cmp}
 use Rattle.pua_ever.proofs.Grown.{moved_has_c}
 use Rattle.pua_path.specs.declared.errno.Errno.{Errno}
 use Rattle.pua_calls.specs.declared.call.Call.TheVariants as call
@@ -79,7 +81,7 @@ module _ (table : CallTable) (needs : EditsNeedC table) (h : ProcessState) where
 module _ (t : Tree) (h : ProcessState) where
   -- a directory in which nothing stands can come to be empty
   abbrev passes_in : ℕ → Spot × ℕ → Bool
-  passes_in dir row = not (row.0.0 == dir) || has_c (row_cover t h row.0 row.1)
+  passes_in dir row = not (row.0.0 == dir) || can_leave t h row.0 row.1
 
   empty_rows : (dir : ℕ) (rows : List (Spot × ℕ)) → not (list_any (λ row. row.0.0 == dir) rows) ≡ true →
       list_all (passes_in dir) rows ≡ true
@@ -89,16 +91,10 @@ module _ (t : Tree) (h : ProcessState) where
       by : (b : Bool) → (row.0.0 == dir) ≡ b → (not (list_any (λ row. row.0.0 == dir) rows) ≡ true → list_all (passes_in dir) rows ≡ true)
           → not (b || list_any (λ row. row.0.0 == dir) rows) ≡ true → (passes_in dir row && list_all (passes_in dir) rows) ≡ true
       by true here more none = absurd (false≢true none)
-      by false other more none = and_from (passes_in dir row) _ (ap (λ b. not b || has_c (row_cover t h row.0 row.1)) other) (more none)
+      by false other more none = and_from (passes_in dir row) _ (ap (λ b. not b || can_leave t h row.0 row.1) other) (more none)
 
   pub empty_can : (dir : ℕ) → not (list_any (λ row. row.0.0 == dir) t.rows) ≡ true → can_empty t h dir ≡ true
   empty_can dir none = empty_rows dir t.rows none
-
--- a directory that can be removed by its name is empty, and nothing is mounted there
-pub emptied : (mount empty : Bool) → option_map misfit_errno (named_misfit mount empty) ≡ None → (mount ≡ false) × (empty ≡ true)
-emptied false true e = (refl, refl)
-emptied true empty e = cc
-emptied false false e = cc
 
 -- who may rename may edit the tree
 rename_edits : (table : CallTable) (h : ProcessState) → may_rename table h ≡ true → may_edit table h ≡ true
@@ -112,12 +108,15 @@ module _ (t : Tree) (table : CallTable) (h : ProcessState) (p : Prospects) (is :
     moves = is_none (perms_kept h (place.Dir dir)) && can_move table h (cover_in t h dir)
 
     abbrev stays : Bool
-    stays = list_any (λ other. other == dir) p.destinations.held.items
+    stays = contains nat_cmp p.destinations.held dir
+
+    -- it may leave its name
+    abbrev leaves : Bool
+    leaves = is_named_way way && not (is_mount t dir)
 
     -- whether rmdir is asked of it
     abbrev empties : Bool
-    empties = is_named_way way && (can_empty t h dir && (may_edit table h || (not (list_any (λ row. row.0.0 == dir) t.rows)
-        && not (is_mount t dir))))
+    empties = is_named_way way && (not (is_mount t dir) && (can_empty t h dir && (may_edit table h || has_no_row t dir)))
 
     -- a directory is no file
     dir_allows : (covers : List Cover) (b : Bool) (call : Call) →
@@ -134,7 +133,7 @@ module _ (t : Tree) (table : CallTable) (h : ProcessState) (p : Prospects) (is :
         (sym (or-true (keeps_link call)))
 
     -- one that can be moved
-    pub moved_calls : moves ≡ true → (emptied : Bool) → emptied ≡ (is_named_way way && not stays)
+    pub moved_calls : moves ≡ true → (emptied : Bool) → emptied ≡ (leaves && not stays)
         → (call : Call) → has (cond emptied m.emptied m.dir) call ≡ is_ever_allowed t table h (At (Whole dir way)) call
     moved_calls can emptied same call =
         found emptied
@@ -155,14 +154,19 @@ module _ (t : Tree) (table : CallTable) (h : ProcessState) (p : Prospects) (is :
         right true = refl
         right false = refl
 
-        test : (is_named_way way && not stays) ≡ empties
-        test = ap (λ b. is_named_way way && b)
+        both : (a b c : Bool) → ((a && b) && c) ≡ (a && (b && c))
+        both true b c = refl
+        both false b c = refl
+
+        test : (leaves && not stays) ≡ empties
+        test = ap (λ b. leaves && b)
             (sym (is.held dir living (moved_has_c table h (cover_in t h dir) can_be)) ∙ sym (right (can_empty t h dir)) ∙
-            ap (λ b. can_empty t h dir && (b || (not (list_any (λ row. row.0.0 == dir) t.rows) && not (is_mount t dir)))) (sym edits))
+            ap (λ b. can_empty t h dir && (b || has_no_row t dir)) (sym edits))
+            ∙ both (is_named_way way) (not (is_mount t dir)) (can_empty t h dir && (may_edit table h || has_no_row t dir))
 
     -- one that can't
     pub still_calls : EditsNeedC table → moves ≡ false → (object : seen.Object) →
-        object ≡ cond ((is_named_way way && not stays) && may_edit table h) see.Removable (object_seen t (IsDir dir way))
+        object ≡ cond ((leaves && not stays) && may_edit table h) see.Removable (object_seen t (IsDir dir way))
         → (set : ℕ) → ((o : Object) → object ≡ object_seen empty_tree o → (call : Call) →
         has set call ≡ is_allowed (covered_verdict empty_tree table h call (cover_in t h dir) o))
         → (call : Call) → has set call ≡ is_ever_allowed t table h (At (Whole dir way)) call
@@ -176,7 +180,7 @@ module _ (t : Tree) (table : CallTable) (h : ProcessState) (p : Prospects) (is :
         empty_now way = is_named_way way && (is_empty t dir && not (is_mount t dir))
 
         removed : Bool
-        removed = ((is_named_way way && not stays) && may_edit table h) || empty_now way
+        removed = ((leaves && not stays) && may_edit table h) || empty_now way
 
         seen_as : (b : Bool) → cond b see.Removable (see.Node kind.Dir) ≡ object_seen empty_tree (dir_as b)
         seen_as true = refl
@@ -195,10 +199,10 @@ module _ (t : Tree) (table : CallTable) (h : ProcessState) (p : Prospects) (is :
         own Dot = refl
         own DotDot = refl
 
-        sees : cond ((is_named_way way && not stays) && may_edit table h) see.Removable (object_seen t (IsDir dir way))
+        sees : cond ((leaves && not stays) && may_edit table h) see.Removable (object_seen t (IsDir dir way))
             ≡ object_seen empty_tree (dir_as removed)
-        sees = ap (cond ((is_named_way way && not stays) && may_edit table h) see.Removable) (own way) ∙
-            by ((is_named_way way && not stays) && may_edit table h) ∙ seen_as removed
+        sees = ap (cond ((leaves && not stays) && may_edit table h) see.Removable) (own way) ∙
+            by ((leaves && not stays) && may_edit table h) ∙ seen_as removed
           where
             by : (b : Bool) → cond b see.Removable (cond (empty_now way) see.Removable (see.Node kind.Dir)) ≡ cond (b || empty_now way)
                 see.Removable (see.Node kind.Dir)
@@ -207,14 +211,16 @@ module _ (t : Tree) (table : CallTable) (h : ProcessState) (p : Prospects) (is :
 
         agree : has_c (cover_in t h dir) ≡ true → removed ≡ empties
         agree has =
-            (λ i. ((is_named_way way && sym (is.held dir living has) i) && may_edit table h)
+            (λ i. ((leaves && sym (is.held dir living has) i) && may_edit table h)
             || (is_named_way way && ((living i && has_no_row t dir) && not (is_mount t dir))))
-            ∙ tidy (is_named_way way) (can_empty t h dir) (may_edit table h) (has_no_row t dir && not (is_mount t dir))
-            (λ bare. empty_can t h dir (and_parts (has_no_row t dir) _ bare).0)
+            ∙ tidy (is_named_way way) (not (is_mount t dir)) (can_empty t h dir) (may_edit table h) (has_no_row t dir) (empty_can t h dir)
           where
-            tidy : (n c e r : Bool) → (r ≡ true → c ≡ true) → (((n && c) && e) || (n && r)) ≡ (n && (c && (e || r)))
-            tidy false c e r some = refl
-            tidy true true true r some = refl
-            tidy true true false r some = refl
-            tidy true false e false some = refl
-            tidy true false e true some = absurd (false≢true (some refl))
+            tidy : (n m c e r : Bool) → (r ≡ true → c ≡ true) → ((((n && m) && c) && e) || (n && (r && m))) ≡ (n && (m && (c && (e || r))))
+            tidy false m c e r some = refl
+            tidy true true true true r some = refl
+            tidy true true true false true some = refl
+            tidy true true true false false some = refl
+            tidy true true false e false some = refl
+            tidy true true false e true some = absurd (false≢true (some refl))
+            tidy true false c e true some = refl
+            tidy true false c e false some = refl

@@ -9,7 +9,7 @@ use Rattle.pua_script.proofs.ForCallers.{spared_twice}
 use Rattle.pua_ever.proofs.Grown.{Grown, Written, by_name, by_turn, From, IsNear, is_new, is_moved, is_linked, Makes, name_cover, moved_has_c}
 use Rattle.pua_tree.specs.Tree.{device}
 use Rattle.std.specs.Prelude.{cond, unwrap_or}
-use Rattle.pua_ever.proofs.Common.{Node}
+use Rattle.pua_ever.proofs.Common.{Node, and_from, can_empty, can_yield, eq-eqb, is_mount, not, same_Some}
 use Rattle.pua_ever.specs.Ever.{kept_on}
 use Rattle.pua_ever.proofs.Devices.{devices_keep}
 use Rattle.pua_ever.proofs.Ways.{any_among, on_same, open_by, open_among, moves_by}
@@ -133,11 +133,18 @@ module _ (table : CallTable) (t0 : Tree) (h : ProcessState) (well0 : WellFormed 
             let up = way_up u well 0 d is in
             inl (ap has_c (cover_stays_in up.0 d up.1 is dir stays) ∙ has)
 
+    -- a mount point of the beginning stands where it stood
+    mounts_then : (s : Spot) (x : ℕ) → look t0 s.0 s.1 ≡ Some x → is_mount t0 x ≡ true → look u s.0 s.1 ≡ Some x
+    mounts_then s x at mount =
+        let there = k.mounts s x at mount in
+        let same = same_then table t0 h well0 stand t k s s x at there in
+        grown.mounts s x there (ap (λ o. unwrap_or (option_map (λ (n : Node). n.mount) o) false) same ∙ mount)
+
     -- what stood in a directory without `c` and had `c` gave way
-    gave_way : (s : Spot) (y x : ℕ) → look t s.0 s.1 ≡ Some y → is_dir t y ≡ true → is_empty t y ≡ true → has_c (cover_in t h y) ≡ true →
-        is_dir t x ≡ true → From table t h x
+    gave_way : (s : Spot) (y x : ℕ) → look t s.0 s.1 ≡ Some y → look u s.0 s.1 ≡ Some x → is_dir t y ≡ true → is_empty t y ≡ true →
+        has_c (cover_in t h y) ≡ true → is_dir t x ≡ true → From table t h x
         → is_dir t0 s.0 ≡ true → has_c (cover_in t0 h s.0) ≡ false → Entrance0 s x
-    gave_way s y x e dir empty has is from over lacks = elim (x == y) as (λ b. (x == y) ≡ b → Entrance0 s x) [
+    gave_way s y x e after dir empty has is from over lacks = elim (x == y) as (λ b. (x == y) ≡ b → Entrance0 s x) [
       | true ↦ λ same. subst (Entrance0 s) (sym (eqb-true x y same)) stood_so
       | false ↦ λ differs. by differs stood_so
     ] refl
@@ -160,10 +167,23 @@ module _ (table : CallTable) (t0 : Tree) (h : ProcessState) (well0 : WellFormed 
               empty)
         ] refl
 
+        -- a mount point would stand there still
+        plain : (x == y) ≡ false → look t0 s.0 s.1 ≡ Some y → not (is_mount t0 y) ≡ true
+        plain differs at = elim (is_mount t0 y) as (λ b. is_mount t0 y ≡ b → not b ≡ true) [
+          | true ↦ λ mount. absurd (false≢true (sym differs ∙
+              eq-eqb x y (same_Some x y (sym after ∙ mounts_then s y at mount))))
+          | false ↦ λ none. refl
+        ] refl
+
+        yields : (x == y) ≡ false → look t0 s.0 s.1 ≡ Some y → can_yield t0 h y ≡ true
+        yields differs at =
+            and_from (not (is_mount t0 y)) _ (plain differs at)
+            (and_from (can_empty t0 h y) _ (could_empty table t0 h well0 stand t k y empty) (more differs))
+
         by : (x == y) ≡ false → Entrance0 s y → Entrance0 s x
         by differs (by_veil perms e c) = by_veil perms e c
-        by differs (turned z at is c can some) = turned z at is c can some
-        by differs (still at is c) = turned y at is c (could_empty table t0 h well0 stand t k y empty) (more differs)
+        by differs (turned z at is c can) = turned z at is c can
+        by differs (still at is c) = turned y at is c (yields differs at)
 
     named_c : (s : Spot) → has_c (name_cover table t h s) ≡ true →
         has_c (own_or (perms_kept h (place.Slot s.0 s.1)) (cover_in t h s.0)) ≡ true
@@ -180,15 +200,15 @@ module _ (table : CallTable) (t0 : Tree) (h : ProcessState) (well0 : WellFormed 
     put_file s x e over (by_turn y at empty has is) other dir =
         absurd (false≢true (sym other ∙ same_dir t u x (same_node x (living_dir t h k.well x is) (lives s x e)) ∙ is))
 
-    put_dir : (s : Spot) (x : ℕ) → is_dir t s.0 ≡ true → From table t h x → Written table t h s x → is_dir t0 s.0 ≡ true →
-        has_c (cover_in t0 h s.0) ≡ false → Entrance0 s x
-    put_dir s x over from (by_name has) dir lacks = by (perms_kept h (place.Slot s.0 s.1)) refl (named_c s has)
+    put_dir : (s : Spot) (x : ℕ) → look u s.0 s.1 ≡ Some x → is_dir t s.0 ≡ true → From table t h x → Written table t h s x →
+        is_dir t0 s.0 ≡ true → has_c (cover_in t0 h s.0) ≡ false → Entrance0 s x
+    put_dir s x after over from (by_name has) dir lacks = by (perms_kept h (place.Slot s.0 s.1)) refl (named_c s has)
       where
         by : (o : Option ℕ) → perms_kept h (place.Slot s.0 s.1) ≡ o → has_c (own_or o (cover_in t h s.0)) ≡ true → Entrance0 s x
         by (Some perms) e has = by_veil perms e has
         by None e has = absurd (false≢true (sym lacks ∙ had_c s.0 dir (dir_under table t0 h well0 stand t k s.0 over) has))
-    put_dir s x over from (by_turn y at empty has is) dir lacks =
-        gave_way s y x at (and_parts (is_dir t y) (has_no_row t y) empty).0 empty has is from dir lacks
+    put_dir s x after over from (by_turn y at empty has is) dir lacks =
+        gave_way s y x at after (and_parts (is_dir t y) (has_no_row t y) empty).0 empty has is from dir lacks
 
     put_inner : (s : Spot) (x : ℕ) → look u s.0 s.1 ≡ Some x → is_dir t s.0 ≡ true → Written table t h s x → is_dir u x ≡ false →
         t0.next ≤ s.0 → (has_c (cover_in u h s.0) ≡ true) ⊎ (some_dir_moves t0 table h (kept_on t0 h (device u s.0)) ≡ true)
@@ -220,7 +240,7 @@ module _ (table : CallTable) (t0 : Tree) (h : ProcessState) (well0 : WellFormed 
       | inr put ↦ inr (record {
         origin = subst (λ n. Origin0 n x) (sym (on_device s.0 put.lives (row_says u (sound_from u well) s x e).0)) (origin_of s.0 x put.from put.near);
         file = λ other dir. put_file s x e put.lives put.written other dir;
-        dir = λ is dir lacks. put_dir s x put.lives put.from put.written dir lacks;
+        dir = λ is dir lacks. put_dir s x e put.lives put.from put.written dir lacks;
         inner = λ other from. put_inner s x e put.lives put.written other from;
       })
     ]
@@ -273,4 +293,5 @@ module _ (table : CallTable) (t0 : Tree) (h : ProcessState) (well0 : WellFormed 
       next = let more = grown.next in let from = k.next in omega arith;
       devices = devices_then;
       quiet = λ y n none. quiet_then table h t u k.well well grown spared y n (k.quiet y n none);
+      mounts = mounts_then;
     }

@@ -3,7 +3,7 @@ use Rattle.pua_ever.proofs.Common.{◌≡◌, ℕ, suc, ◌<◌, ◌≤◌, List
 use Rattle.pua_ever.proofs.Common.{Some, None, ◌&&◌, filter, flat_map, Tree, Spot, CallTable, has, ProcessState}
 use Rattle.pua_ever.proofs.Common.{Call, Word, subject_given, Subject, Item, Stands, Comes, may_edit, can_make, own_spot}
 use Rattle.pua_ever.proofs.Common.{has_ever_calls, ever_lines_of, AreOnFreed, both_of, made_left, EverLine, At, Slot, Whole, Named, look}
-use Rattle.pua_ever.proofs.Common.{SubjectFits, is_some, same_Some, None≢Some, true}
+use Rattle.pua_ever.proofs.Common.{Others, SubjectFits, Top, is_some, same_Some, None≢Some, true}
 use Rattle.std.specs.Prelude.{IfSome, option_map}
 use Rattle.std.specs.List.{AllByRecursion}
 use Rattle.std.proofs.Common.{get_or, zero}
@@ -16,14 +16,16 @@ use Rattle.pua_policy.specs.declared.object.Object as seen
 use Rattle.pua_policy.specs.declared.object.Object.TheVariants as see
 use Rattle.pua_objects.specs.declared.item.Subject as given
 use Rattle.pua_objects.specs.declared.item.Subject.TheVariants as own_subject
-use Rattle.pua_ever.specs.Prospects.{own_given}
+use Rattle.pua_ever.specs.Prospects.{dir_of_subject, own_given}
 use Rattle.pua_ever.specs.Ever.{Thing, ever_line, freed_at, is_new_allowed}
 use Rattle.pua_ever.specs.EverLines.{Left, Now, Freed, Coming, IsThing, line_with, lines_about, new_of}
 use Rattle.pua_ever.specs.EverList.{AreEverTold, AreRowsBut, AreRowsSoFar, IsAboutOn, IsFreedRow, IsRowAt, IsRowOn, IsStandingOn, IsStandsRow}
-use Rattle.pua_ever.specs.EverList.{last_row_word, own_name, thing_by, thing_of, word_of_row}
+use Rattle.pua_ever.specs.EverList.{dir_at, last_row_word, own_name, subject_at, thing_by, thing_of, word_of_row}
 use Rattle.pua_ever.specs.declared.line.EverThing.TheVariants as told
 use Rattle.pua_ever.specs.declared.list.EverAbout.{EverAbout}
 use Rattle.pua_ever.specs.declared.list.EverAbout.TheVariants as ever_about
+use Rattle.pua_ever.specs.declared.list.EverPlace.{EverPlace}
+use Rattle.pua_ever.specs.declared.list.EverPlace.TheVariants as place
 use Rattle.pua_ever.specs.declared.list.EverRow.{EverRow}
 use Rattle.pua_ever.specs.declared.made.Made.{Made}
 use Rattle.pua_ever.specs.declared.made.Made.TheVariants as made
@@ -175,6 +177,15 @@ near_at before (x ∷ xs) (suc n) d near less = near_at (word_after before x) xs
 pub all_more : {A : Type 0} (P : A → Type 0) (xs : List A) (x : A) → AllByRecursion P xs → P x → AllByRecursion P (xs ++ x ∷ [])
 all_more P [] x each is = (is, tt)
 all_more P (y ∷ ys) x each is = (each.0, all_more P ys x each.1 is)
+
+-- the directory of what stands at a place
+pub dir_there : (t : Tree) (name : Option (List ℕ)) (at : EverPlace) (about : Subject) → subject_at t name at ≡ Some about → dir_at at ≡ dir_of_subject about
+dir_there t name place.Root about is = ap dir_of_subject (same_Some (At (Whole 0 Top)) about is)
+dir_there t None (place.Dir id dir) about is = absurd (None≢Some about is)
+dir_there t (Some own) (place.Dir id dir) about is = ap dir_of_subject (same_Some (At (Whole id (Named dir own))) about is)
+dir_there t name (place.Others dir) about is = ap dir_of_subject (same_Some (Others dir) about is)
+dir_there t None (place.Name dir) about is = absurd (None≢Some about is)
+dir_there t (Some own) (place.Name dir) about is = ap dir_of_subject (same_Some (At (Slot dir own (look t dir own))) about is)
 
 module _ (t : Tree) (h : ProcessState) where
   -- the name at which something stands

@@ -5,7 +5,7 @@ use Rattle.pua_ever.proofs.Common.{nat_cmp-IsAntisymmetric, false≢true, eq-eqb
 use Rattle.pua_ever.proofs.Common.{Node, WellFormed, Spot, spot_cmp, is_dir, is_dir_kind, look, node_at, sound_from, spots_total}
 use Rattle.pua_ever.proofs.Common.{exact_spots, ProcessState, perms_kept, veils, same_place, Place, Cover, Only, same_place_is, has_c, cover_in}
 use Rattle.pua_ever.proofs.Common.{Among, among_left, among_right, among_map, map_among, among_filter, filter_among, among_filter_map}
-use Rattle.pua_ever.proofs.Common.{is_free, can_empty, is_below, has_c_outside, directories, dir_covers, name_covers, some_dir_moves}
+use Rattle.pua_ever.proofs.Common.{is_free, can_yield, is_below, has_c_outside, directories, dir_covers, name_covers, some_dir_moves}
 use Rattle.pua_ever.proofs.Common.{file_covers, open_covers, can_move, CallTable, map, subst}
 use Rattle.std.specs.Ordering.{is_eq}
 use Rattle.std.specs.Cmp.{Equal-is}
@@ -119,14 +119,14 @@ module _ (t : Tree) (h : ProcessState) where
 
     -- by a directory that gives way
     pub way_by_turn : (d : ℕ) (name : List ℕ) (y : ℕ) → is_dir t d ≡ true → is_on t on d ≡ true → look t d name ≡ Some y →
-        is_dir t y ≡ true → has_c (cover_in t h y) ≡ true → can_empty t h y ≡ true → has_c_outside t h y ≡ true
+        is_dir t y ≡ true → has_c (cover_in t h y) ≡ true → can_yield t h y ≡ true
         → Among (dir_covers t h on) (cover_in t h d)
-    way_by_turn d name y is here e dir has empty more =
+    way_by_turn d name y is here e dir has yields =
         way_covers d is here
         (or_right (has_c (cover_in t h d)) _ (or_right (list_any (λ veil. opens_at t h d veil.0 veil.1) (veils h)) _
         (any_among (gives_way t h d) t.rows ((d, name), y) (found_among (d, name) y t.rows e)
         (and_from (d == d) _ (eq-eqb d d refl)
-        (and_from (is_dir t y) _ dir (and_from (has_c (cover_in t h y)) _ has (and_from (can_empty t h y) _ empty more)))))))
+        (and_from (is_dir t y) _ dir (and_from (has_c (cover_in t h y)) _ has yields))))))
 
     -- those on a device are among those on any
     pub all_within : (c : Cover) → Among (dir_covers t h on) c → Among (dir_covers t h None) c

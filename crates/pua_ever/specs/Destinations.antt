@@ -1,8 +1,11 @@
 -- What each veil of a process lets come to be in a tree, one veil after another. All covers under which
 -- something can come that is moved or made are found by the veils alone: what has `c` has it by a veil.
-use Rattle.std.specs.Prelude.{◌≡◌, ℕ, Bool, false, not, ◌&&◌, if◌then◌else◌, List, ◌++◌, filter_map, ◌==◌, Option, Some, None, is_some, option_map, min, length, IsFalse}
+use Rattle.std.specs.Prelude.{◌≡◌, ℕ, Bool, false, not, ◌&&◌, ◌||◌, if◌then◌else◌, List, ◌++◌, filter_map, ◌==◌, Option, Some, None, is_some, option_map, min, length, IsFalse}
+use Rattle.std.specs.BTreeSet.{BTreeSet, contains}
 use Rattle.std.specs.List.{list_any, Contains}
-use Rattle.pua_tree.specs.Tree.{Tree, is_dir, look, above, climb, device}
+use Rattle.std.specs.Option.{option_eq}
+use Rattle.std.specs.Ordering.{nat_cmp}
+use Rattle.pua_tree.specs.Tree.{Tree, Spot, is_dir, is_mount, look, above, climb, device}
 use Rattle.pua_policy.specs.States.{ProcessState, perms_kept}
 use Rattle.pua_policy.specs.declared.answer.Cover.{Cover}
 use Rattle.pua_policy.specs.declared.answer.Cover.TheVariants.{Only}
@@ -72,16 +75,30 @@ held_dir t h (place.Dir dir) =
 held_dir t h (place.Slot dir name) =
     if is_no_dir t (look t dir name) && is_barred h (place.Slot dir name) then Some dir else None
 
+abbrev pub holds_dir : Tree → ProcessState → ℕ → Place → Bool
+holds_dir t h dir at = option_eq ◌==◌ (held_dir t h at) (Some dir)
+
+-- nor can one in which a mount point stands
+abbrev pub is_mounted_in : Tree → ℕ → (Spot × ℕ) → Bool
+is_mounted_in t dir row = row.0.0 == dir && is_mount t row.1
+
+abbrev pub has_mount : Tree → ℕ → Bool
+has_mount t dir = list_any (is_mounted_in t dir) t.rows
+
+-- those directories are in a set
+abbrev pub AreHeld : Tree → ProcessState → List Place → BTreeSet ℕ → Type 0
+AreHeld t h places held = (dir : ℕ) → contains nat_cmp held dir ≡ (has_mount t dir || list_any (holds_dir t h dir) places)
+
 -- the cover under which a directory can come by this veil: at a name that can come to be free, or in the
--- place of a directory that can come to be empty, if something has `c` that isn't in that
+-- place of a directory that is no mount point and can come to be empty, if something has `c` that isn't in that
 abbrev pub is_outside : Tree → ℕ → ℕ → Bool
 is_outside t dir other = is_dir t other && not (is_below t dir other)
 
-abbrev pub can_give_way : Tree → List ℕ → List ℕ → ℕ → Bool
+abbrev pub can_give_way : Tree → BTreeSet ℕ → List ℕ → ℕ → Bool
 can_give_way t held opened dir =
-    not (list_any (λ other. other == dir) held) && list_any (is_outside t dir) opened
+    not (is_mount t dir) && (not (contains nat_cmp held dir) && list_any (is_outside t dir) opened)
 
-abbrev pub entrance_cover : Tree → ProcessState → List ℕ → List ℕ → Place → Option (ℕ × Cover)
+abbrev pub entrance_cover : Tree → ProcessState → BTreeSet ℕ → List ℕ → Place → Option (ℕ × Cover)
 entrance_cover t h held opened (place.Slot dir name) =
     if is_dir t dir && (is_free t h (dir, name) && is_some (destination h (place.Slot dir name)))
     then with_device t dir (Some (cover_in t h dir)) else None

@@ -1,12 +1,13 @@
 -- What a process and all that it forks can ever touch by their own doing, once they can put no veil any
 -- more: each thing that stands or could stand in the tree now, or can be made, with the calls that can
 -- ever be allowed on it. A thing **has c** where what covers it has the letter `c`; where there is no veil
--- at all, everything has. What has no `c` is never moved, replaced or removed; but where link needs less of
--- its old name, it can be given a further one. What has `c` is moved where rename's old name needs no more.
+-- at all, everything has. What has no `c` is never moved, replaced or removed, nor is a mount point; but where
+-- link needs less of its old name, a thing can be given a further one. What has `c` is moved where rename's old
+-- name needs no more.
 use Rattle.std.specs.Prelude.{ℕ, Bool, true, false, not, ◌&&◌, ◌||◌, if◌then◌else◌, List, [], ◌∷◌, ◌++◌, map, filter, filter_map, flat_map}
 use Rattle.std.specs.Prelude.{◌==◌, Option, Some, None, is_some, is_none, nat_lt, length, codes}
 use Rattle.std.specs.List.{list_any, list_all}
-use Rattle.pua_tree.specs.Tree.{Tree, Node, Spot, is_dir_kind, is_dir, is_mount, look, kind_at, climb, device, empty_tree}
+use Rattle.pua_tree.specs.Tree.{Tree, Node, Spot, has_no_row, is_dir_kind, is_dir, is_mount, look, kind_at, climb, device, empty_tree}
 use Rattle.pua_tree.specs.declared.node.Kind.{Kind}
 use Rattle.pua_tree.specs.declared.node.Kind.TheVariants as kind
 use Rattle.pua_tree.specs.declared.node.FileType.TheVariants as file_type
@@ -38,17 +39,21 @@ use Rattle.pua_objects.specs.Objects.{Subject, At, Others, Item, items, cover_in
 abbrev pub row_cover : Tree → ProcessState → Spot → ℕ → Cover
 row_cover t h spot node = cover t h (object_in t spot node)
 
--- a name can come to be free: nothing stands there, or what does has `c`
+-- what stands in a row can come to leave it: it has `c`, and no file system is mounted there
+abbrev pub can_leave : Tree → ProcessState → Spot → ℕ → Bool
+can_leave t h spot node = has_c (row_cover t h spot node) && not (is_mount t node)
+
+-- a name can come to be free: nothing stands there, or what does can leave it
 abbrev pub is_free : Tree → ProcessState → Spot → Bool
 is_free t h spot = by (look t spot.0 spot.1)
   where
     by : Option ℕ → Bool
     by None = true
-    by (Some node) = has_c (row_cover t h spot node)
+    by (Some node) = can_leave t h spot node
 
--- a directory can come to be empty: each thing in it has `c`
+-- a directory can come to be empty: each thing in it can leave it
 abbrev pub can_empty : Tree → ProcessState → ℕ → Bool
-can_empty t h dir = list_all (λ row. not (row.0.0 == dir) || has_c (row_cover t h row.0 row.1)) t.rows
+can_empty t h dir = list_all (λ row. not (row.0.0 == dir) || can_leave t h row.0 row.1) t.rows
 
 -- a veil with `c` at a name of this directory that can come to be free
 abbrev pub opens_at : Tree → ProcessState → ℕ → Place → ℕ → Bool
@@ -79,13 +84,14 @@ has_c_outside t h inner =
     list_any (λ dir. not (is_below t inner dir) && has_c (cover_in t h dir)) (directories t)
     || list_any (λ veil. opens_outside t inner veil.0 veil.1) (veils h)
 
--- a directory that stands in this one gives way to another that is moved onto it: it has `c` and can come
--- to be empty, and something outside of it has `c`, from where the other can come
+-- a directory that has `c` can yield its name to another that is moved onto it: no file system is mounted
+-- there, it can come to be empty, and something outside of it has `c`, from where the other can come
+abbrev pub can_yield : Tree → ProcessState → ℕ → Bool
+can_yield t h dir = not (is_mount t dir) && (can_empty t h dir && has_c_outside t h dir)
+
+-- a directory that stands in this one gives way to another: it has `c` and can yield
 abbrev pub gives_way : Tree → ProcessState → ℕ → (Spot × ℕ) → Bool
-gives_way t h dir row =
-    row.0.0 == dir
-    && (is_dir t row.1 && (has_c (cover_in t h row.1)
-    && (can_empty t h row.1 && has_c_outside t h row.1)))
+gives_way t h dir row = row.0.0 == dir && (is_dir t row.1 && (has_c (cover_in t h row.1) && can_yield t h row.1))
 
 -- a directory can come to stand in this one: by a further name, by a name with a veil of its own, or in
 -- the place of another directory
@@ -204,8 +210,8 @@ covers_of t table h (At (Slot dir name (Some node))) =
 covers_of t table h (At (Slot dir name None)) = cover t h (Slot dir name None) ∷ []
 
 -- a thing as the last check of a call sees it, which asks for its kind; rmdir asks more of a directory: one
--- that has a name can be removed where it can come to be empty, a mount point too; by who edits no names, where it
--- is empty now and no mount point. No tree is asked any more
+-- that has a name and is no mount point can be removed where it can come to be empty; by who edits no names, where
+-- it is empty now. No tree is asked any more
 abbrev pub removable_dir : Object
 removable_dir = IsDir 0 (Named 0 [])
 
@@ -218,11 +224,8 @@ is_named_way _ = false
 
 abbrev pub ever_object : Tree → CallTable → ProcessState → Subject → Object
 ever_object t table h (At (Whole dir way)) =
-    if is_named_way way && (can_empty t h dir && (may_edit table h || is_bare dir))
+    if is_named_way way && (not (is_mount t dir) && (can_empty t h dir && (may_edit table h || has_no_row t dir)))
     then removable_dir else lasting_dir
-  where
-    is_bare : ℕ → Bool
-    is_bare dir = not (list_any (λ row. row.0.0 == dir) t.rows) && not (is_mount t dir)
 ever_object t table h (Others dir) = IsMissing
 ever_object t table h (At (Slot dir name node)) = object_of t (Slot dir name node)
 

@@ -42,6 +42,13 @@ subject_at t name (place.Dir id dir) = option_map (λ own. At (Whole id (Named d
 subject_at t name (place.Others dir) = Some (Others dir)
 subject_at t name (place.Name dir) = option_map (λ own. At (Slot dir own (look t dir own))) name
 
+-- the directory in which that stands, or which it is
+abbrev pub dir_at : EverPlace → ℕ
+dir_at place.Root = 0
+dir_at (place.Dir id dir) = id
+dir_at (place.Others dir) = dir
+dir_at (place.Name dir) = dir
+
 -- what a row is about
 abbrev pub thing_by : Tree → Option (List ℕ) → EverAbout → Option Thing
 thing_by t name (ever_about.Stands at object cover) = option_map Stands (subject_at t name at)

@@ -41,7 +41,7 @@ abbrev locked_by : ℕ → List (Place × ℕ) → ProcessState
 locked_by promises veils = record new_process { promises = Some promises; veils = veils; locked = true }
 
 -- the same with promises for every call of the table
-abbrev locked_with : List (Place × ℕ) → ProcessState
+abbrev pub locked_with : List (Place × ℕ) → ProcessState
 locked_with veils = locked_by (rpath + wpath + cpath + fattr + exec) veils
 
 -- `/a` has rwc and `/b` has c: what stands in `/b` can be moved into `/a`, and be read there
@@ -553,6 +553,31 @@ other_name_process =
     ∷ (place.Dir 2, creating)
     ∷ [])
 
+-- here the name `/m` has rwc, at which the file system is mounted
+abbrev pub kept_name_process : ProcessState
+kept_name_process =
+    locked_with (
+    (place.Slot 0 (codes "m"), reading + writing + creating)
+    ∷ (place.Dir 1, creating)
+    ∷ (place.Dir 2, creating)
+    ∷ [])
+
+-- `/p` has r, and `/x` and the mount point in `/p` have c: no directory comes into `/p`
+abbrev pub kept_place_tree : Tree
+kept_place_tree = record empty_tree {
+  rows = ((0, codes "p"), 1) ∷ ((0, codes "x"), 3) ∷ ((1, codes "m"), 2) ∷ ((3, codes "y"), 4) ∷ [];
+  nodes = (0, directory) ∷ (1, directory) ∷ (2, mount) ∷ (3, directory) ∷ (4, directory) ∷ [];
+  next = 5;
+}
+
+abbrev pub kept_place_process : ProcessState
+kept_place_process =
+    locked_with (
+    (place.Dir 1, reading)
+    ∷ (place.Dir 2, creating)
+    ∷ (place.Dir 3, creating)
+    ∷ [])
+
 -- what can be moved, by rules by which rename asks more of the old name than `c`: by these nothing is carried out of `/a`
 -- in a directory either, so the program in it is not run
 pub record MovedRows : Type 0 where
@@ -594,7 +619,6 @@ pub record MovedRows : Type 0 where
   pub mounted_on : lines mounted_on_tree moved_on_process ≡
       codes "dir /a stat,lstat,open-r,rmdir,chmod,chdir"
       ∷ codes "other /a create,mkdir,symlink"
-      ∷ codes "dir /b rmdir"
       ∷ codes "other /b mkdir,symlink"
       ∷ codes "dir /b/x rmdir"
       ∷ codes "other /b/x mkdir,symlink"
@@ -632,9 +656,9 @@ pub record MovedRows : Type 0 where
   pub carried_mount : lines carried_mount_tree carried_mount_process ≡
       codes "dir /a rmdir"
       ∷ codes "other /a mkdir,symlink"
-      ∷ codes "dir /a/d stat,lstat,open-r,rmdir,chmod,chdir"
+      ∷ codes "dir /a/d stat,lstat,open-r,chmod,chdir"
       ∷ codes "other /a/d create,mkdir,symlink"
-      ∷ codes "dir /a/d/m stat,lstat,open-r,rmdir,chmod,chdir"
+      ∷ codes "dir /a/d/m stat,lstat,open-r,chmod,chdir"
       ∷ codes "other /a/d/m create,mkdir,symlink"
       ∷ codes "file /a/d/m/f stat,lstat,open-r,open-w,open-rw,create,unlink,chmod"
       ∷ codes "dir /b stat,lstat,open-r,rmdir,chmod,chdir"
@@ -645,10 +669,9 @@ pub record MovedRows : Type 0 where
       ∷ codes "link new lstat,readlink,unlink"
       ∷ []
   pub nested_mount : lines nested_mount_tree nested_mount_process ≡
-      codes "dir /a rmdir"
-      ∷ codes "other /a mkdir,symlink"
+      codes "other /a mkdir,symlink"
       ∷ codes "file /a/f unlink"
-      ∷ codes "dir /a/n stat,lstat,open-r,rmdir,chmod,chdir"
+      ∷ codes "dir /a/n stat,lstat,open-r,chmod,chdir"
       ∷ codes "other /a/n create,mkdir,symlink"
       ∷ codes "file /a/n/g stat,lstat,open-r,open-w,open-rw,create,unlink,chmod"
       ∷ codes "dir new stat,lstat,open-r,rmdir,chmod,chdir"
@@ -657,8 +680,7 @@ pub record MovedRows : Type 0 where
       ∷ codes "link new lstat,readlink,unlink"
       ∷ []
   pub other_name : lines other_name_tree other_name_process ≡
-      codes "dir /m rmdir"
-      ∷ codes "other /m mkdir,symlink"
+      codes "other /m mkdir,symlink"
       ∷ codes "file /m/f unlink"
       ∷ codes "missing /n create,mkdir,symlink"
       ∷ codes "dir /r rmdir"
@@ -668,6 +690,28 @@ pub record MovedRows : Type 0 where
       ∷ codes "other new mkdir,symlink"
       ∷ codes "file new stat,lstat,open-r,open-w,open-rw,create,unlink,chmod"
       ∷ codes "link new lstat,readlink,unlink"
+      ∷ []
+  -- a mount point doesn't leave its name, and no directory comes in its place
+  pub kept_name : lines other_name_tree kept_name_process ≡
+      codes "other /m mkdir,symlink"
+      ∷ codes "file /m/f unlink"
+      ∷ codes "dir /r rmdir"
+      ∷ codes "other /r mkdir,symlink"
+      ∷ codes "file /r/g unlink"
+      ∷ codes "dir new rmdir"
+      ∷ codes "other new mkdir,symlink"
+      ∷ codes "link new unlink"
+      ∷ []
+  pub kept_place : lines kept_place_tree kept_place_process ≡
+      codes "dir /p stat,lstat,open-r,chdir"
+      ∷ codes "other /p/m mkdir,symlink"
+      ∷ codes "dir /x rmdir"
+      ∷ codes "other /x mkdir,symlink"
+      ∷ codes "dir /x/y rmdir"
+      ∷ codes "other /x/y mkdir,symlink"
+      ∷ codes "dir new rmdir"
+      ∷ codes "other new mkdir,symlink"
+      ∷ codes "link new unlink"
       ∷ []
 
 pub moved_rows : MovedRows
@@ -681,6 +725,8 @@ moved_rows = record {
   carried_mount = refl;
   nested_mount = refl;
   other_name = refl;
+  kept_name = refl;
+  kept_place = refl;
 }
 
 -- `/tmp` has rwxc: what is made there, and the file that stands there, can be made programs

@@ -1,16 +1,16 @@
 -- What is found before the first line, and the calls that it decides.
 use Rattle.std.specs.Prelude.{◌≡◌, ℕ, Bool, true, false, not, ◌&&◌, ◌||◌, if◌then◌else◌, is_some, List, [], ◌∷◌}
-use Rattle.std.specs.Prelude.{◌==◌, Option, Some, None}
-use Rattle.std.specs.List.{list_any}
+use Rattle.std.specs.Prelude.{Option, Some, None}
 use Rattle.std.specs.BTreeSet.{BTreeSet, contains}
 use Rattle.std.specs.Ordering.{nat_cmp}
-use Rattle.pua_tree.specs.Tree.{Tree, Spot, is_dir}
+use Rattle.pua_tree.specs.Tree.{Tree, Spot, is_dir, is_mount}
 use Rattle.pua_tree.specs.declared.node.Kind.{Kind}
 use Rattle.pua_path.specs.Fits.{is_link_kind}
 use Rattle.pua_path.specs.declared.found.Found.TheVariants.{Slot, Whole}
 use Rattle.pua_calls.specs.Calls.{CallTable}
 use Rattle.pua_calls.specs.CallSets.{has, keeps_link}
 use Rattle.pua_policy.specs.States.{ProcessState}
+use Rattle.pua_policy.specs.AllowedCalls.{AreWorkedOut}
 use Rattle.pua_policy.specs.Verdict.{object_of_kind}
 use Rattle.pua_policy.specs.declared.answer.Cover.{Cover}
 use Rattle.pua_calls.specs.declared.call.Call.{Call}
@@ -35,11 +35,12 @@ IsTurnedSet h nodes = (node : ℕ) → contains nat_cmp nodes node ≡ is_turned
 pub record IsProspects (t : Tree) (table : CallTable) (h : ProcessState) (found : Prospects) : Type 0 where
   pub edits : found.may_edit ≡ may_edit table h
   pub links : found.may_link ≡ may_link table h
+  pub allowed : AreWorkedOut h table found.allowed
   pub movable : IsMovable t table h None found.movable
   pub destinations : AreDestinations t h found.destinations
   pub turned : IsTurnedSet h found.turned
   pub held : (dir : ℕ) → is_dir t dir ≡ true → has_c (cover_in t h dir) ≡ true →
-      can_empty t h dir ≡ not (list_any (λ other. other == dir) found.destinations.held.items)
+      can_empty t h dir ≡ not (contains nat_cmp found.destinations.held dir)
 
 -- the calls on what is moved from where a thing stands
 abbrev pub dir_of_subject : Subject → ℕ
@@ -66,6 +67,11 @@ own_given (subject.Name dir name) object = by object
     by see.Missing = None
     by _ = Some (dir, name.now)
 own_given _ object = None
+
+-- what it is about is a mount point
+abbrev pub is_mount_given : Tree → about.Subject → Bool
+is_mount_given t (subject.Dir id dir name) = is_mount t id
+is_mount_given t _ = false
 
 -- an object is a file that is a plain one or may be
 abbrev pub is_startable : seen.Object → Bool

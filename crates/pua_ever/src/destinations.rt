@@ -1,9 +1,12 @@
 //! Where things can come that are moved or made, by the veils of a process.
 
-ghost use Rattle.std.specs.Prelude.{◌≡◌, ◌<◌, ◌≤◌, ◌++◌, ◌∷◌, [], ℕ, Some, None, true, not, ◌==◌};
+ghost use Rattle.std.specs.Prelude.{◌≡◌, ◌<◌, ◌≤◌, ◌++◌, ◌∷◌, [], ℕ, Some, None, true, not};
 ghost use Rattle.std.specs.Prelude.{IfOk, filter_map, map, get_or, length};
 ghost use Rattle.std.specs.Prelude.{if◌then◌else◌, ◌&&◌, is_none};
 ghost use Rattle.std.specs.List.{list_any};
+ghost use Rattle.std.specs.BTreeSet.{contains};
+ghost use Rattle.std.specs.Ordering.{nat_cmp};
+ghost use Rattle.pua_tree.specs.LentRows.{lent_entry};
 ghost use Rattle.pua_tree.specs.Tree.{above, is_dir as lives_as_dir, look as node_at_name};
 ghost use Rattle.pua_policy.specs.States.{has_veil, perms_kept};
 ghost use Rattle.pua_script.specs.Confinement.{has_c as cover_has_c, object_in};
@@ -19,26 +22,28 @@ ghost use Rattle.pua_ever.specs.Destinations.{entrance_cover as entrance_of};
 ghost use Rattle.pua_ever.specs.Destinations.{can_give_way as gives_way_to};
 ghost use Rattle.pua_ever.specs.Destinations.{is_outside as stands_outside, depth as depth_of};
 ghost use Rattle.pua_ever.specs.Destinations.{AreDestinations, IsOnDevice, cover_on, covers_on};
-ghost use Rattle.pua_ever.specs.Destinations.{with_device};
+ghost use Rattle.pua_ever.specs.Destinations.{AreHeld, has_mount, is_mounted_in, with_device};
 
 use pua_calls::Perms;
 use pua_path::{Counted, Found, Way};
 use pua_policy::{Cover, Place, Process};
-use pua_tree::{FileTree, Kind, Name, NodeId, OutOfMemory};
+use pua_tree::{FileTree, Kind, LentRow, Name, NodeId, OutOfMemory};
 use std::alloc::{AllocError, Global};
+use std::collections::BTreeSet;
 
 /// Where things can come that are moved or made: each cover with the device of its directory.
 #[derive(Drop)]
 pub(crate) struct Destinations {
     /// The covers of directories that have `c`.
-    dirs: Vec<(NodeId, Cover)>,
+    pub(crate) dirs: Vec<(NodeId, Cover)>,
     /// The covers under which a directory can come beside: at names with veils of their own, and in
     /// the place of others.
     entrances: Vec<(NodeId, Cover)>,
     /// The covers of names that have `c` by a veil of their own and can come to be free.
     names: Vec<(NodeId, Cover)>,
-    /// The directories in which something stands that has a veil of its own without `c`.
-    pub(crate) held: Vec<NodeId>,
+    /// The numbers of the directories in which something stands that stays there: a mount point, or
+    /// what has a veil of its own without `c`.
+    pub(crate) held: BTreeSet<u32>,
 }
 
 /// Those covers on one device, or on any.
@@ -96,7 +101,7 @@ fn cover_on(on: Option<NodeId>, found: &(NodeId, Cover)) -> Option<Cover>
 }
 
 /// Whether a device is this one, or any.
-fn is_device(on: Option<NodeId>, device: NodeId) -> bool
+pub(crate) fn is_device(on: Option<NodeId>, device: NodeId) -> bool
     ensures { result ≡ is_device on device }
 {
     match on {
@@ -109,7 +114,8 @@ fn is_device(on: Option<NodeId>, device: NodeId) -> bool
 /// the covers of `dirs` and `entrances`, anything else at a name under those of `names` and in a
 /// directory under those of `dirs`. A directory that has `c` can be emptied where it is not one of
 /// `held`. The only error is that a growth was refused. For each veil it is climbed from
-/// a directory to the root a few times, however many other veils there are.
+/// a directory to the root a few times, however many other veils there are, and each row is asked
+/// once.
 pub(crate) fn find_destinations<T: FileTree>(
     alloc: Global,
     tree: &T,
@@ -118,8 +124,7 @@ pub(crate) fn find_destinations<T: FileTree>(
     ensures covers { IfOk result (AreDestinations (T.content tree.now) process.now) }
     ensures held { IfOk result (λ found. (dir : ℕ) → lives_as_dir (T.content tree.now) dir ≡ true →
         cover_has_c (cover_of_others (T.content tree.now) process.now dir) ≡ true →
-        can_empty (T.content tree.now) process.now dir
-        ≡ not (list_any (λ other. other == dir) found.held.items)) }
+        can_empty (T.content tree.now) process.now dir ≡ not (contains nat_cmp found.held dir)) }
 {
     tree.known();
     process.known();
@@ -150,15 +155,14 @@ fn gathered<T: FileTree>(
         (λ place. place.now) places.now)
         ++ (if has_veil process.now.veils then [] else (0, Cover.All) ∷ [])) }
     ensures entrances { IfOk result (λ found. found.entrances.items
-        ≡ filter_map (entrance_of (T.content tree.now) process.now found.held.items (filter_map
+        ≡ filter_map (entrance_of (T.content tree.now) process.now found.held (filter_map
         (opened_dir_of process.now) (map (λ place. place.now) places.now))) (map
         (λ place. place.now) places.now)) }
     ensures names { IfOk result (λ found. found.names.items
         ≡ filter_map (name_destination_of (T.content tree.now) process.now) (map
         (λ place. place.now) places.now)) }
-    ensures held { IfOk result (λ found. found.held.items
-        ≡ filter_map (held_dir_of (T.content tree.now) process.now) (map
-        (λ place. place.now) places.now)) }
+    ensures held { IfOk result (λ found. AreHeld (T.content tree.now) process.now
+        (map (λ place. place.now) places.now) found.held) }
 {
     let mut dirs = dir_destinations(alloc, tree, process, places)?;
     if !process.is_veiled() {
@@ -241,21 +245,52 @@ fn opened_dirs(
         .collect(alloc)
 }
 
-/// The directories in which something stands that has no `c` by a veil of its own.
+/// The numbers of the directories in which something stands that stays there.
 fn held_dirs<T: FileTree>(
     alloc: Global,
     tree: &T,
     process: &Process,
     places: &[&Place],
-) -> Result<Vec<NodeId>, AllocError>
-    ensures { IfOk result (λ found. found.items
-        ≡ filter_map (held_dir_of (T.content tree.now) process.now) (map
+) -> Result<BTreeSet<u32>, AllocError>
+    ensures { IfOk result (AreHeld (T.content tree.now) process.now (map
         (λ place. place.now) places.now)) }
 {
-    places
-        .iter()
-        .filter_map(|place| held_dir(tree, process, place))
-        .collect(alloc)
+    let mut held = mounted_dirs(alloc, tree)?;
+    for place in places {
+        if let Some(dir) = held_dir(tree, process, place) {
+            held.insert(dir.number())?;
+        }
+    }
+    Ok(held)
+}
+
+/// The numbers of the directories in which mount points stand.
+fn mounted_dirs<T: FileTree>(alloc: Global, tree: &T) -> Result<BTreeSet<u32>, AllocError>
+    ensures { IfOk result (λ dirs. (dir : ℕ) →
+        contains nat_cmp dirs dir ≡ has_mount (T.content tree.now) dir) }
+{
+    let Ok(rows) = tree.rows(alloc) else {
+        return Err(AllocError);
+    };
+    mounted_among(alloc, tree, &rows)
+}
+
+/// The same, of these rows.
+fn mounted_among<T: FileTree>(
+    alloc: Global,
+    tree: &T,
+    rows: &[LentRow<'_>],
+) -> Result<BTreeSet<u32>, AllocError>
+    ensures { IfOk result (λ dirs. (dir : ℕ) → contains nat_cmp dirs dir
+        ≡ list_any (λ row. is_mounted_in (T.content tree.now) dir (lent_entry row)) rows.now) }
+{
+    let mut dirs = BTreeSet::new(alloc);
+    for row in rows {
+        if tree.is_mount(row.node) {
+            dirs.insert(row.dir.number())?;
+        }
+    }
+    Ok(dirs)
 }
 
 /// The covers under which a directory can come by a veil.
@@ -263,7 +298,7 @@ fn entrances<T: FileTree>(
     alloc: Global,
     tree: &T,
     process: &Process,
-    held: &[NodeId],
+    held: &BTreeSet<u32>,
     opened: &Opened,
     places: &[&Place],
 ) -> Result<Vec<(NodeId, Cover)>, AllocError>
@@ -362,7 +397,7 @@ fn held_dir<T: FileTree>(tree: &T, process: &Process, place: &Place) -> Option<N
 fn entrance<T: FileTree>(
     tree: &T,
     process: &Process,
-    held: &[NodeId],
+    held: &BTreeSet<u32>,
     opened: &Opened,
     place: &Place,
 ) -> Option<(NodeId, Cover)>
@@ -383,17 +418,17 @@ fn entrance<T: FileTree>(
     }
 }
 
-/// Whether another directory can come in the place of one that has `c`: nothing in it stays for
-/// ever, and something has `c` that isn't in it.
+/// Whether another directory can come in the place of one that has `c`: no file system is mounted
+/// there, nothing in it stays for ever, and something has `c` that isn't in it.
 pub(crate) fn can_give_way<T: FileTree>(
     tree: &T,
-    held: &[NodeId],
+    held: &BTreeSet<u32>,
     opened: &Opened,
     dir: NodeId,
 ) -> bool
     ensures { result ≡ gives_way_to (T.content tree.now) held.now opened.now.dirs.items dir }
 {
-    !held.contains(&dir) && is_any_outside(tree, opened, dir)
+    !tree.is_mount(dir) && !held.contains(&dir.number()) && is_any_outside(tree, opened, dir)
 }
 
 /// Whether one of these directories is neither another one nor below it. The one that stands least
@@ -443,12 +478,13 @@ fn depth<T: FileTree>(tree: &T, dir: NodeId) -> usize
     count
 }
 
-/// Whether a name in a directory can come to be free: nothing stands there, or what does has `c`.
+/// Whether a name in a directory can come to be free: nothing stands there, or what does has `c`
+/// and is no mount point.
 pub(crate) fn is_free<T: FileTree>(tree: &T, process: &Process, dir: NodeId, name: &Name) -> bool
     ensures { result ≡ can_be_free (T.content tree.now) process.now (dir, name.now) }
 {
     match tree.look(dir, name) {
-        Some(node) => has_c(row_cover(tree, process, dir, name, node)),
+        Some(node) => has_c(row_cover(tree, process, dir, name, node)) && !tree.is_mount(node),
         None => true,
     }
 }
@@ -534,7 +570,7 @@ fn cover_of_dir<T: FileTree>(tree: &T, process: &Process, dir: NodeId) -> Cover
 /// A directory, the one at which its file system is mounted, and whether that goes along with the
 /// directory in which it stands.
 #[derive(Clone, Copy)]
-pub(crate) struct OnDevice {
+pub struct OnDevice {
     pub(crate) dir: NodeId,
     pub(crate) device: NodeId,
     pub(crate) along: bool,
@@ -556,7 +592,7 @@ pub(crate) fn on_device<T: FileTree>(tree: &T, process: &Process, dir: NodeId) -
 }
 
 /// Whether a mount point goes along with the directory in which it stands, by what covers it.
-pub(crate) fn goes_along(process: &Process, mount: NodeId, cover: Cover) -> bool
+fn goes_along(process: &Process, mount: NodeId, cover: Cover) -> bool
     ensures { result ≡ (is_none (perms_kept process.now (Place.Dir mount)) && cover_has_c cover) }
 {
     process.kept(&Place::Dir(mount)).is_none() && has_c(cover)

@@ -3,7 +3,7 @@
 ghost use Rattle.std.specs.Prelude.{◌≡◌, ◌≤◌, ◌⊎◌, ◌&&◌, ◌∷◌, ◌++◌, [], List, true, None, Some};
 ghost use Rattle.std.specs.Prelude.{IfOk, IfSome, MatchOption, MatchResult, OnOk, length};
 ghost use Rattle.std.specs.List.{AllByRecursion};
-ghost use Rattle.pua_tree.specs.Tree.{Tree, WellFormed};
+ghost use Rattle.pua_tree.specs.Tree.{Tree, WellFormed, device};
 ghost use Rattle.pua_calls.specs.Calls.{CallTable as Table};
 ghost use Rattle.pua_calls.specs.CallSets.{has};
 ghost use Rattle.pua_calls.specs.declared.call.Call.{Call as AnyCall};
@@ -21,14 +21,14 @@ ghost use Rattle.pua_ever.specs.EverLines.{IsThing, new_of};
 ghost use Rattle.pua_ever.specs.EverList.{AreEverTold, AreRowsBut, AreRowsSoFar, IsFreedRow};
 ghost use Rattle.pua_ever.specs.Destinations.{IsOnDevice};
 ghost use Rattle.pua_ever.specs.EverList.{IsOwnInside, IsRowAt, IsRowOn, IsStandsRow, subject_at};
-ghost use Rattle.pua_ever.specs.EverList.{thing_of};
+ghost use Rattle.pua_ever.specs.EverList.{dir_at, thing_of};
 ghost use Rattle.pua_ever.specs.Laws.{EditsNeedC};
 ghost use Rattle.pua_ever.specs.Movable.{IsMovable};
-ghost use Rattle.pua_ever.specs.Prospects.{AreOnFreed, IsMovableAt, IsProspects, dir_of_subject};
+ghost use Rattle.pua_ever.specs.Prospects.{AreOnFreed, IsMovableAt, IsProspects};
 ghost use Rattle.pua_ever.specs.Prospects.{own_given};
 ghost use Rattle.pua_ever.specs.Refusals.{refusal as refusal_of, refusal_in};
 
-use crate::destinations::{OnDevice, goes_along, on_device};
+use crate::destinations::{OnDevice, on_device};
 use crate::fault::EverFault;
 use crate::line::{EverLine, EverThing};
 use crate::made::Made;
@@ -150,7 +150,7 @@ fn rows_of<'t, T: FileTree>(
     let mut device = root.device;
     let mut movable = movable_by(alloc, prospects, process, table, &root)?;
     for item in items {
-        let own = device_at(tree, process, item, &mut above)?;
+        let own = device_at(tree, process, &place_of(&item.item), item.depth, &mut above)?;
         if own.device != device {
             device = own.device;
             movable = movable_by(alloc, prospects, process, table, &own)?;
@@ -178,49 +178,38 @@ fn movable_by(
     prospects.movable_on(alloc, process, table, Some(own.device))
 }
 
-/// The device of what an item is about, of items in their order. Behind are kept the directories
-/// that lead to the item before, each at its depth, and then those that lead to this one; whatever
-/// they are, answers are the same. The only error is that a growth was refused.
-fn device_at<T: FileTree>(
+/// The device of where something stands or could stand, of rows in their order. Behind are kept the
+/// directories that lead to the row before, each at its depth, and then those that lead to this
+/// one; whatever they are, answers are the same.
+#[inline(always)]
+pub(crate) fn device_at<T: FileTree>(
     tree: &T,
     process: &Process,
-    item: &ListItem<'_>,
+    place: &EverPlace,
+    depth: usize,
     above: &mut Vec<OnDevice>,
 ) -> Result<OnDevice, AllocError>
-    ensures { IfOk result (λ own. let t = T.content tree.now in IsToldIn t process.now item.now →
+    ensures { IfOk result (λ own. let t = T.content tree.now in
         AllByRecursion (IsOnDevice t process.now) above.old.items →
-        IsOnDevice t process.now own
-        × (own.dir ≡ dir_of_subject (subject_given t item.now.item.subject))
+        IsOnDevice t process.now own × (own.dir ≡ dir_at place.now)
         × AllByRecursion (IsOnDevice t process.now) above.new.items) }
 {
-    tree.known();
-    let cover = item.item.cover;
-    let (dir, device, along, depth) = match item.item.subject {
-        Subject::Root => (
-            NodeId::ROOT,
-            NodeId::ROOT,
-            goes_along(process, NodeId::ROOT, cover),
-            0,
-        ),
-        Subject::Dir(id, dir, _) => {
-            let over = device_in(tree, process, above, item.depth, dir);
-            let below = item.depth.saturating_add(1);
-            if tree.is_mount(id) {
-                (id, id, goes_along(process, id, cover), below)
-            } else {
-                (id, over.device, over.along, below)
-            }
-        }
-        Subject::Others(dir) | Subject::Name(dir, _) => {
-            return Ok(device_in(tree, process, above, item.depth, dir));
+    let (dir, below) = match place {
+        EverPlace::Root => (NodeId::ROOT, 0),
+        EverPlace::Dir(id, _) => (*id, depth.saturating_add(1)),
+        EverPlace::Others(dir) | EverPlace::Name(dir) => {
+            return Ok(device_in(tree, process, above, depth, *dir));
         }
     };
-    above.truncate(depth);
+    let own = device_in(tree, process, above, depth, dir);
+    let (device, along) = (own.device, own.along);
+    above.truncate(below);
     above.push(OnDevice { dir, device, along })?;
     Ok(OnDevice { dir, device, along })
 }
 
-/// The device of a directory, which may be kept at a depth.
+/// The device of a directory, which may be kept at a depth, or stand in the one that is kept there.
+#[inline(always)]
 fn device_in<T: FileTree>(
     tree: &T,
     process: &Process,
@@ -233,7 +222,23 @@ fn device_in<T: FileTree>(
 {
     match above.get(depth) {
         Some(kept) if kept.dir == dir => *kept,
+        Some(kept) if stands_in(tree, dir, kept.dir) => OnDevice {
+            dir,
+            device: kept.device,
+            along: kept.along,
+        },
         _ => on_device(tree, process, dir),
+    }
+}
+
+/// Whether a directory stands in another one, on the same file system.
+fn stands_in<T: FileTree>(tree: &T, dir: NodeId, over: NodeId) -> bool
+    ensures { result ≡ true → device (T.content tree.now) dir ≡ device (T.content tree.now) over }
+{
+    tree.known();
+    match tree.parent(dir) {
+        Some(above) if above == over => dir != NodeId::ROOT && !tree.is_mount(dir),
+        _ => false,
     }
 }
 
@@ -265,7 +270,7 @@ fn add_rows<'t, T: FileTree>(
     let Ok(()) = rows.push(stands) else {
         return Err(AllocError);
     };
-    let Some(freed) = freed_row(prospects, process, table, item) else {
+    let Some(freed) = freed_row(tree, prospects, process, table, item) else {
         return Ok(());
     };
     let Ok(()) = rows.push(freed) else {
@@ -341,7 +346,8 @@ pub fn place_of(item: &Item<'_>) -> EverPlace
 
 /// The row of the name at which an item stands, once that can be taken away; None where it has
 /// none.
-fn freed_row<'t>(
+fn freed_row<'t, T: FileTree>(
+    tree: &T,
     prospects: &Prospects,
     process: &Process,
     table: &CallTable,
@@ -349,17 +355,18 @@ fn freed_row<'t>(
 ) -> Option<EverRow<'t>>
     ensures own { MatchOption result (own_given item.now.item.subject item.now.item.object ≡ None)
         (IsFreedRow item.now (own_given item.now.item.subject item.now.item.object)) }
-    ensures calls { IfSome result (λ row. (t : Tree) → WellFormed t →
-        IsProspects t table.now process.now prospects.now → IsToldIn t process.now item.now →
-        AreOnFreed t table.now process.now (own_spot
-        (subject_given t item.now.item.subject)) row.line.calls) }
+    ensures calls { IfSome result (λ row. WellFormed (T.content tree.now) →
+        IsProspects (T.content tree.now) table.now process.now prospects.now →
+        IsToldIn (T.content tree.now) process.now item.now →
+        AreOnFreed (T.content tree.now) table.now process.now (own_spot
+        (subject_given (T.content tree.now) item.now.item.subject)) row.line.calls) }
     ensures inside { IfSome result (λ row. (t : Tree) → WellFormed t →
         IsToldIn t process.now item.now → IsOwnInside t process.now item.now row.inside) }
 {
     let Some(own) = own_name(&item.item) else {
         return None;
     };
-    let calls = prospects.calls_on_freed(process, table, &item.item);
+    let calls = prospects.calls_on_freed(tree, process, table, &item.item);
     Some(EverRow {
         depth: item.depth,
         name: Some(own.1),

@@ -1,9 +1,12 @@
 //! What decides the calls of the lines.
 
 ghost use Rattle.std.specs.Prelude.{◌≡◌, ◌&&◌, ℕ, Option, Some, option_map, true, not, is_none};
-ghost use Rattle.std.specs.Prelude.{if◌then◌else◌, ◌==◌, IfOk};
+ghost use Rattle.std.specs.Prelude.{if◌then◌else◌, IfOk};
+ghost use Rattle.std.specs.BTreeSet.{contains};
 ghost use Rattle.std.specs.List.{list_any};
+ghost use Rattle.std.specs.Ordering.{nat_cmp};
 ghost use Rattle.pua_tree.specs.Tree.{Tree, WellFormed, empty_tree, is_dir as lives_as_dir};
+ghost use Rattle.pua_tree.specs.Tree.{is_mount};
 ghost use Rattle.pua_tree.specs.Tree.{look as node_at_name};
 ghost use Rattle.pua_tree.specs.declared.node.Kind.{Kind as AnyKind};
 ghost use Rattle.pua_path.specs.declared.found.Way.{Way};
@@ -29,7 +32,8 @@ ghost use Rattle.pua_ever.specs.Movable.{IsMovable};
 ghost use Rattle.pua_ever.specs.EverLines.{new_of};
 ghost use Rattle.pua_ever.specs.Laws.{EditsNeedC};
 ghost use Rattle.pua_ever.specs.Prospects.{IsProspects, AreOnFreed, IsMovableAt, IsTurnedSet};
-ghost use Rattle.pua_ever.specs.Prospects.{own_given};
+ghost use Rattle.pua_ever.specs.Prospects.{is_mount_given, own_given};
+ghost use Rattle.pua_script.specs.Confinement.{has_c as cover_has_c};
 ghost use Rattle.pua_ever.specs.Prospects.{is_startable, kind_allowed, kind_covers};
 
 use crate::destinations::{Destinations, find_destinations, has_c};
@@ -41,7 +45,7 @@ use crate::turned::turned_nodes;
 use pua_calls::{Call, CallTable, Calls};
 use pua_objects::{Item, Subject};
 use pua_path::Last;
-use pua_policy::{Cover, Object, Place, Process, judge};
+use pua_policy::{AllowedCalls, Cover, Object, Place, Process, judge};
 use pua_tree::{FileTree, FileType, Kind, Name, NodeId, OutOfMemory};
 use std::alloc::{AllocError, Global};
 use std::collections::BTreeSet;
@@ -60,6 +64,8 @@ pub struct Prospects {
     turned: BTreeSet<u32>,
     /// The calls on what is moved or made, on any device.
     movable: Movable,
+    /// What the process is allowed by the table.
+    allowed: AllowedCalls,
 }
 
 /// Finds what decides the calls of the lines of a process's list for ever, by a table of what calls
@@ -77,12 +83,14 @@ pub fn find_prospects<T: FileTree>(
     let covers = found.covers(alloc, None)?;
     let movable = calls_by_object(process, table, &covers);
     let turned = turned_nodes(alloc, process)?;
+    let allowed = AllowedCalls::new(process, table);
     Ok(Prospects {
         may_edit: may_edit(process, table),
         may_link: may_link(process, table),
         destinations: found,
         turned,
         movable,
+        allowed,
     })
 }
 
@@ -160,7 +168,9 @@ impl Prospects {
     {
         match item.subject {
             Subject::Root => self.on_dir(process, table, movable, NodeId::ROOT, false, item),
-            Subject::Dir(dir, _, _) => self.on_dir(process, table, movable, dir, true, item),
+            Subject::Dir(dir, _, _) => {
+                self.on_dir(process, table, movable, dir, !tree.is_mount(dir), item)
+            }
             Subject::Others(dir) => on_others(process, table, movable, dir, &item.cover),
             Subject::Name(dir, name) => {
                 let turned = self.is_turned_at(tree, dir, name);
@@ -169,30 +179,31 @@ impl Prospects {
         }
     }
 
-    /// The calls on a directory.
+    /// The calls on a directory, which may leave its name if it has one and is no mount point.
     fn on_dir(
         &self,
         process: &Process,
         table: &CallTable,
         movable: &Movable,
         dir: NodeId,
-        is_named: bool,
+        leaves: bool,
         item: &Item<'_>,
     ) -> Calls
         ensures { (t : Tree) (way : Way) → EditsNeedC table.now →
             IsProspects t table.now process.now self.now →
             IsMovable t table.now process.now (stays_on t process.now dir) movable.now →
-            lives_as_dir t dir ≡ true → is_named
-            ≡ is_named_way way → item.now.cover ≡ cover_of_others t process.now dir →
+            lives_as_dir t dir ≡ true → leaves
+            ≡ (is_named_way way && not (is_mount t dir)) →
+            item.now.cover ≡ cover_of_others t process.now dir →
             item.now.object ≡ object_seen t (IsDir dir way) → (call : AnyCall) → has result call
             ≡ is_ever_allowed t table.now process.now (At (Whole dir way)) call }
     {
-        let emptied = self.can_empty(dir, is_named);
+        let emptied = self.can_empty(dir, leaves);
         if moves_dir(process, table, dir, &item.cover) {
             return movable.on_dir(emptied);
         }
         let object = self.seen_as(emptied, item.object);
-        judge::allowed(process, table, item.cover, object)
+        self.allowed.on(item.cover, object)
     }
 
     /// The calls on a name at which no directory stands, by what does.
@@ -236,7 +247,7 @@ impl Prospects {
             (kind_covers t table.now process.now on item.now.cover kind) (object_of_kind kind) call }
     {
         if item.object == Object::Missing {
-            return judge::allowed(process, table, item.cover, item.object);
+            return self.allowed.on(item.cover, item.object);
         }
         self.on_thing(process, table, movable, turned, item)
     }
@@ -287,7 +298,7 @@ impl Prospects {
         if can_move(process, table, cover) {
             return movable.on(object);
         }
-        let calls = judge::allowed(process, table, *cover, object);
+        let calls = self.allowed.on(*cover, object);
         if self.can_link(table, *cover, object) {
             return calls.union(movable.on(object));
         }
@@ -308,13 +319,20 @@ impl Prospects {
         object != Object::Node(Kind::Link) || old_name.last() == Last::Kept
     }
 
-    /// The calls on the name at which an item stands, if it has a veil of its own and the item can
-    /// be taken away; else none.
-    pub fn calls_on_freed(&self, process: &Process, table: &CallTable, item: &Item<'_>) -> Calls
-        ensures { (t : Tree) (about : About) → WellFormed t →
-            IsProspects t table.now process.now self.now → SubjectFits t about →
-            IsItemOn t process.now about item.now →
-            AreOnFreed t table.now process.now (own_spot about) result }
+    /// The calls on the name at which an item of a tree stands, if it has a veil of its own and the
+    /// item can be taken away; else none.
+    pub fn calls_on_freed<T: FileTree>(
+        &self,
+        tree: &T,
+        process: &Process,
+        table: &CallTable,
+        item: &Item<'_>,
+    ) -> Calls
+        ensures { (about : About) → WellFormed (T.content tree.now) →
+            IsProspects (T.content tree.now) table.now process.now self.now →
+            SubjectFits (T.content tree.now) about →
+            IsItemOn (T.content tree.now) process.now about item.now →
+            AreOnFreed (T.content tree.now) table.now process.now (own_spot about) result }
     {
         let Some(own) = own_name(item) else {
             return Calls::NONE;
@@ -322,7 +340,7 @@ impl Prospects {
         let Some(perms) = process.kept(&Place::Slot(own.0, *own.1)) else {
             return Calls::NONE;
         };
-        if !self.may_edit || !has_c(item.cover) {
+        if !self.may_edit || !can_leave(tree, item) {
             return Calls::NONE;
         }
         judge::allowed(process, table, Cover::Only(perms), Object::Missing)
@@ -363,13 +381,12 @@ impl Prospects {
         self.turned.contains(&node.number())
     }
 
-    /// Whether a directory, by a name if it has one, can be removed once it is empty, and can come
-    /// to be so if it has `c`.
-    fn can_empty(&self, dir: NodeId, is_named: bool) -> bool
-        ensures { result
-            ≡ (is_named && not (list_any (λ other. other == dir) self.now.destinations.held.items)) }
+    /// Whether a directory that may leave its name can be removed once it is empty, and can come to
+    /// be so if it has `c`.
+    fn can_empty(&self, dir: NodeId, leaves: bool) -> bool
+        ensures { result ≡ (leaves && not (contains nat_cmp self.now.destinations.held dir)) }
     {
-        is_named && !self.destinations.held.contains(&dir)
+        leaves && !self.destinations.held.contains(&dir.number())
     }
 
     /// What rmdir is on, of a directory that is seen so now.
@@ -381,6 +398,24 @@ impl Prospects {
         } else {
             object
         }
+    }
+}
+
+/// Whether an item of a tree can leave its name: it has `c`, and is no mount point.
+fn can_leave<T: FileTree>(tree: &T, item: &Item<'_>) -> bool
+    ensures { result ≡ (cover_has_c item.now.cover
+        && not (is_mount_given (T.content tree.now) item.now.subject)) }
+{
+    has_c(item.cover) && !is_mount_point(tree, &item.subject)
+}
+
+/// Whether what an item of a tree is about is a mount point.
+fn is_mount_point<T: FileTree>(tree: &T, subject: &Subject<'_>) -> bool
+    ensures { result ≡ is_mount_given (T.content tree.now) subject.now }
+{
+    match subject {
+        Subject::Dir(dir, _, _) => tree.is_mount(*dir),
+        _ => false,
     }
 }
 
@@ -419,7 +454,7 @@ pub(crate) fn moves_dir(process: &Process, table: &CallTable, dir: NodeId, cover
     ensures { result ≡ (is_none (perms_kept process.now (Place.Dir dir))
         && moves table.now process.now cover.now) }
 {
-    process.kept(&Place::Dir(dir)).is_none() && can_move(process, table, cover)
+    can_move(process, table, cover) && process.kept(&Place::Dir(dir)).is_none()
 }
 
 /// The name at which what an item is about stands; None for the root, for further names, and where

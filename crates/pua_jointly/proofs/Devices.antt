@@ -1,6 +1,8 @@
 -- Where directories keep their nodes, and move on their own device, they keep their devices.
 use Rattle.pua_jointly.proofs.Common.{◌≡◌, ◌≢◌, ◌≤◌, ◌<◌, ℕ, zero, suc, Bool, true, false, cond, refl, sym, ap, ◌∙◌, arith, Some}
-use Rattle.pua_jointly.proofs.Common.{◌==◌, option_map, false≢true, eqb-true, eq-eqb}
+use Rattle.pua_jointly.proofs.Common.{◌==◌, ◌∷◌, [], List, option_map, false≢true, eqb-true, eq-eqb}
+use Rattle.pua_jointly.specs.JointSetting.{AreDevices}
+use Rattle.pua_jointly.specs.JointSides.{is_there, is_top}
 use Rattle.pua_jointly.proofs.Common.{Tree, WellFormed, Spot, is_dir, look, above, Reaches, row_of, row_says, None, None≢Some, same_Some, sound_from}
 use Rattle.pua_tree.specs.Tree.{parent}
 use Rattle.std.specs.Prelude.{length, unwrap_or}
@@ -108,6 +110,55 @@ module _ (t : Tree) (f : Sound t) where
         λ none.
             ap (device t) (sym (above_is t d s says.3 (f.once d dir says.3) row)) ∙ sym (device_up t f d dir says.3 none),
       )
+
+-- who keeps its node keeps its mount
+pub same_mount : (t u : Tree) (d : ℕ) → node_at u d ≡ node_at t d → is_mount u d ≡ is_mount t d
+same_mount t u d same = ap (λ o. unwrap_or (option_map (λ (n : Node). n.mount) o) false) same
+
+-- what is its own device is the root or a mount point
+top_mounts : (t : Tree) (d : ℕ) → d ≢ 0 → device t d ≡ d → is_mount t d ≡ true
+top_mounts t d other = by (is_dir t d)
+  where
+    first : (ds : List ℕ) → first_mount t ds ≡ d → is_mount t d ≡ true
+    first [] e = absurd (other (sym e))
+    first (x ∷ xs) e = here (is_mount t x) refl e (first xs)
+      where
+        here : (b : Bool) → is_mount t x ≡ b → cond b x (first_mount t xs) ≡ d → (first_mount t xs ≡ d → is_mount t d ≡ true) →
+            is_mount t d ≡ true
+        here true mount same more = ap (is_mount t) (sym same) ∙ mount
+        here false none same more = more same
+
+    by : (b : Bool) → cond b (first_mount t (climb t d)) 0 ≡ d → is_mount t d ≡ true
+    by true e = first (climb t d) e
+    by false e = absurd (other (sym e))
+
+-- by the devices that are kept: what is the first of its device is the root or a mount point
+module _ (t : Tree) (well : WellFormed t) (count : ℕ) (devices : List ℕ) (are : AreDevices t count devices) (d : ℕ) (low : d < count) where
+  top_is : is_top devices d ≡ (device t d == d)
+  top_is = ap (is_there d) (are.each d low)
+
+  pub not_top : d ≢ 0 → (device t d ≡ d → ⊥) → is_top devices d ≡ false
+  not_top other apart = by (device t d == d) refl
+    where
+      by : (b : Bool) → (device t d == d) ≡ b → is_top devices d ≡ false
+      by true same = absurd (apart (eqb-true (device t d) d same))
+      by false differs = top_is ∙ differs
+
+  pub plain_below : d ≢ 0 → is_mount t d ≡ false → is_top devices d ≡ false
+  plain_below other none = not_top other (λ same. false≢true (sym none ∙ top_mounts t d other same))
+
+  pub file_below : d ≢ 0 → is_dir t d ≡ false → is_top devices d ≡ false
+  file_below other plain = not_top other (λ same. other (sym same ∙ ap (λ b. cond b (first_mount t (climb t d)) 0) plain))
+
+  pub below_plain : is_dir t d ≡ true → is_top devices d ≡ false → (d ≢ 0) × (is_mount t d ≡ false)
+  below_plain dir below = (λ root. apart (ap (device t) root ∙ device_root t (sound_from t well) ∙ sym root), by (is_mount t d) refl)
+    where
+      apart : device t d ≡ d → ⊥
+      apart same = false≢true (sym (sym top_is ∙ below) ∙ eq-eqb (device t d) d same)
+
+      by : (b : Bool) → is_mount t d ≡ b → is_mount t d ≡ false
+      by true mount = absurd (apart (device_here t (sound_from t well) d dir mount))
+      by false none = none
 
 -- the device of a directory is that of its parent, if no file system is mounted there
 module _ (t : Tree) (well : WellFormed t) (d p : ℕ) (is : parent t d ≡ Some p) where

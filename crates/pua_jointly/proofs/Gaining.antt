@@ -30,10 +30,6 @@ either : (x y : Bool) → (x || y) ≡ true → (x ≡ true) ⊎ (y ≡ true)
 either true y e = inl refl
 either false y e = inr e
 
-added : (x y : Bool) → y ≡ true → (x || y) ≡ true
-added true y e = refl
-added false y e = e
-
 module _ (follows : Step) (told : List ℕ) (at word : ℕ) (low : at < length told) where
   abbrev pub gained : List ℕ
   gained = set told at (bit_or (get_or told at 0) word)
@@ -67,10 +63,9 @@ module _ (follows : Step) (told : List ℕ) (at word : ℕ) (low : at < length t
   reached_set only all = subst (λ n. (a bit : ℕ) → knows gained a bit → Reached follows n a bit) (sym same_length) (by_step only all)
 
   -- where it gains nothing, it has what follows
-  pub closed_at : ((bit : ℕ) → follows told at bit → has_bit word bit) → bit_or (get_or told at 0) word ≡ get_or told at 0 → (bit : ℕ) →
+  pub closed_at : ((bit : ℕ) → follows told at bit → has_bit (bit_or (get_or told at 0) word) bit) → bit_or (get_or told at 0) word ≡ get_or told at 0 → (bit : ℕ) →
       follows told at bit → knows told at bit
-  closed_at every same bit new = ap (λ w. bit_at w bit == 1) (sym same) ∙ has_or (get_or told at 0) word bit
-      ∙ added (bit_at (get_or told at 0) bit == 1) (bit_at word bit == 1) (every bit new)
+  closed_at every same bit new = ap (λ w. bit_at w bit == 1) (sym same) ∙ every bit new
 
   -- else less can be added than before
   pub room_set : bit_or (get_or told at 0) word ≢ get_or told at 0 → bit_or (get_or told at 0) word < 2 ^ 32 → room gained < room told

@@ -4,6 +4,7 @@ use Rattle.pua_jointly.proofs.Common.{Option, Some, None, ProcessState, Cover, O
 use Rattle.pua_jointly.proofs.Common.{Stands, Comes, NewDir, NewOthers, NewFile, NewLink, NewSock, NewFifo, Kind, covered_verdict, is_allowed, empty_tree, false≢true, has}
 use Rattle.pua_jointly.proofs.Common.{IsMissing, is_dir, kind_at, keeps_link, list_any, look, object_of_kind, perms_kept, or_left, or_right, and_from, and_parts}
 use Rattle.pua_jointly.proofs.Common.{lasting_dir, removable_dir}
+use Rattle.pua_tree.specs.Tree.{is_mount}
 use Rattle.pua_calls.specs.declared.call.Call.TheVariants as call
 use Rattle.pua_policy.specs.Verdict.{Is, IsLink, IsProg}
 use Rattle.pua_policy.specs.declared.place.Place.TheVariants as place
@@ -33,7 +34,7 @@ module _ (t : Tree) (table : CallTable) (crew : List ProcessState) (a : ProcessS
   -- how a thing shows itself
   abbrev pub ShownAs : Thing → Cover → Object → Type 0
   ShownAs (Stands (At (Whole d way))) k o =
-      Can t table crew (DirCover a (Old d) k) × ((o ≡ lasting_dir) ⊎ ((o ≡ removable_dir) × (d ≢ 0) × IsEmptied d))
+      Can t table crew (DirCover a (Old d) k) × ((o ≡ lasting_dir) ⊎ ((o ≡ removable_dir) × (d ≢ 0) × (is_mount t d ≡ false) × IsEmptied d))
   ShownAs (Stands (At (Slot dir name (Some x)))) k o =
       (look t dir name ≡ Some x) × Comes_as (Row (dir, name)) k × (o ≡ object_of_kind (kind_at t x))
   ShownAs (Stands (At (Slot dir name None))) k o =
@@ -49,7 +50,7 @@ module _ (t : Tree) (table : CallTable) (crew : List ProcessState) (a : ProcessS
 
   pub shown : {thing : Thing} {k : Cover} {o : Object} → Shows t table crew a thing k o → ShownAs thing k o
   shown (shows_dir can) = (can, inl refl)
-  shown (shows_emptied other can free) = (can, inr (refl, other, free))
+  shown (shows_emptied other none can free) = (can, inr (refl, other, none, free))
   shown (shows_others can) = (can, refl)
   shown (shows_row d other at stands over) = (at, record { dir = d; name = other; stands = stands; over = over }, refl)
   shown (shows_name {perms = perms} is own free) = (perms, is, own, free, refl, refl)
@@ -166,14 +167,14 @@ module _ (t : Tree) (table : CallTable) (crew : List ProcessState) (a : ProcessS
   }
 
   -- of a directory, where it can't come to be empty and be removed, and where it can
-  pub dir_lasts : (d : ℕ) (way : Way) (calls : ℕ) → (d ≢ 0 → IsEmptied d → ⊥) → TellsUnder (Stands (At (Whole d way))) lasting_dir calls →
+  pub dir_lasts : (d : ℕ) (way : Way) (calls : ℕ) → (d ≢ 0 → is_mount t d ≡ false → IsEmptied d → ⊥) → TellsUnder (Stands (At (Whole d way))) lasting_dir calls →
       AreAllowedOf t table crew a (Stands (At (Whole d way))) calls
   dir_lasts d way calls never tells =
       one_object (Stands (At (Whole d way))) lasting_dir calls refl (λ k o shows. by o (shown shows).1) tells
     where
-      by : (o : Object) → (o ≡ lasting_dir) ⊎ ((o ≡ removable_dir) × (d ≢ 0) × IsEmptied d) → o ≡ lasting_dir
+      by : (o : Object) → (o ≡ lasting_dir) ⊎ ((o ≡ removable_dir) × (d ≢ 0) × (is_mount t d ≡ false) × IsEmptied d) → o ≡ lasting_dir
       by o (inl e) = e
-      by o (inr r) = absurd (never r.1 r.2)
+      by o (inr r) = absurd (never r.1 r.2 r.3)
 
   pub dir_emptied : (d : ℕ) (way : Way) (first second calls : ℕ) → TellsUnder (Stands (At (Whole d way))) lasting_dir first →
       TellsUnder (Stands (At (Whole d way))) removable_dir second → ((call : Call) → has calls call ≡ (has first call || has second call)) →
@@ -181,7 +182,7 @@ module _ (t : Tree) (table : CallTable) (crew : List ProcessState) (a : ProcessS
   dir_emptied d way first second calls tells_one tells_two both =
       two_objects (Stands (At (Whole d way))) lasting_dir removable_dir first second calls refl (λ k o shows. by o (shown shows).1) tells_one tells_two both
     where
-      by : (o : Object) → (o ≡ lasting_dir) ⊎ ((o ≡ removable_dir) × (d ≢ 0) × IsEmptied d) → (o ≡ lasting_dir) ⊎ (o ≡ removable_dir)
+      by : (o : Object) → (o ≡ lasting_dir) ⊎ ((o ≡ removable_dir) × (d ≢ 0) × (is_mount t d ≡ false) × IsEmptied d) → (o ≡ lasting_dir) ⊎ (o ≡ removable_dir)
       by o (inl e) = inl e
       by o (inr r) = inr r.0
 

@@ -104,3 +104,13 @@ pub any_more : (p : ℕ → Bool) (bit : ℕ) → list_any p (numbered (bit + 1)
 any_more p bit =
     ap (λ n. list_any p (numbered n)) (add-one bit) ∙ list_any-append p (numbered bit) (bit ∷ [])
     ∙ ap (λ b. list_any p (numbered bit) || b) (or_none (p bit))
+
+-- bits of which none passes change nothing
+pub any_still : (p : ℕ → Bool) (from more : ℕ) → ((i : ℕ) → from ≤ i → i < from + more → p i ≡ false) →
+    list_any p (numbered (from + more)) ≡ list_any p (numbered from)
+any_still p from zero none = let same : from + 0 ≡ from = omega arith in ap (λ n. list_any p (numbered n)) same
+any_still p from (suc more) none =
+    let same : from + suc more ≡ from + more + 1 = omega arith in
+    ap (λ n. list_any p (numbered n)) same ∙ any_more p (from + more)
+    ∙ ap (λ b. list_any p (numbered (from + more)) || b) (none (from + more) (omega arith) (omega arith))
+    ∙ or_none (list_any p (numbered (from + more))) ∙ any_still p from more (λ i least most. none i least (omega (arith, most)))

@@ -163,7 +163,7 @@ module _ (t : Tree) (well : WellFormed t) (table : CallTable) (crew : List Proce
     sound (Turns a y) (turns_by perms other k own has empty cov can differs clear near) = λ d here sits.
         way_in_by_turn y perms other k sits own has (λ name x at. freed (Old y) name (empty name x at)) (means _ cov) can differs
         (means _ clear) here near
-    sound (Taken dir name) (taken_dir a d k among may at is cov has) = free_dir a d k among may at is (means _ cov) has
+    sound (Taken dir name) (taken_dir a d k among may at is none cov has) = free_dir a d k among may at is none (means _ cov) has
     sound (Taken dir name) (taken_other a x k among may at is covers has) =
         free_other a x k among may at is (over a (Old dir) name k covers) has
     sound (Creates by new) (creates_within d k near cov made) =
@@ -317,7 +317,7 @@ module _ (t : Tree) (well : WellFormed t) (table : CallTable) (crew : List Proce
       name_within = λ none cov among. over_within none (cov among);
       free_none = λ none. inl none;
       free_made = tt;
-      free_dir = λ a d k among may at is cov has. inr (closed _ tt (taken_dir a d k among may at is (cov among) has));
+      free_dir = λ a d k among may at is none cov has. inr (closed _ tt (taken_dir a d k among may at is none (cov among) has));
       free_other = λ a x k among may at is covers has. inr (closed _ tt (taken_other a x k among may at is (covers among) has));
       way_in_by_c = λ k cov has among. closed _ among (enters_by_c k (cov among) has);
       way_in_by_name = λ name perms stands own has free among. enters_name _ _ name perms among stands own has free;

@@ -368,7 +368,7 @@ module _ (t : Tree) (table : CallTable) (crew : List ProcessState) (devices : Li
     follows_range (Enters a d) among (enters_by_moved b is turns m enters clear near) = (among_contained crew a among, (in_range _ enters).1)
     follows_range (Turns a y) among (turns_by perms other k own has empty cov can differs clear near) =
         (among_contained crew a among, fits.veiled a y perms among own)
-    follows_range (Taken dir name) of (taken_dir a d k among may at is cov has) = among_contained spots (dir, name) (fits.rows dir name d at)
+    follows_range (Taken dir name) of (taken_dir a d k among may at is none cov has) = among_contained spots (dir, name) (fits.rows dir name d at)
     follows_range (Taken dir name) of (taken_other a x k among may at is covers has) =
         among_contained spots (dir, name) (fits.rows dir name x at)
     follows_range (Creates by new) among (creates_within d k near cov made) =

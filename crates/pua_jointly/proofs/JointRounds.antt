@@ -8,7 +8,8 @@ use Rattle.std.specs.Prelude.{slice_get, get_or, ◌+◌, ◌-◌, ◌*◌, ◌/
 use Rattle.std.specs.List.{Contains, fold}
 use Rattle.std.specs.Int.{bit_at}
 use Rattle.std.specs.Int.Bits.{bit_or}
-use Rattle.pua_tree.specs.Tree.{device, parent}
+use Rattle.std.proofs.lemmas.Bool.{not-true}
+use Rattle.pua_tree.specs.Tree.{device, is_mount, parent}
 use Rattle.pua_policy.specs.declared.place.Place.TheVariants as place
 use Rattle.pua_jointly.specs.Closing.{has_bit}
 use Rattle.pua_ever.specs.Ever.{new_kind, can_link}
@@ -39,7 +40,8 @@ use Rattle.pua_jointly.specs.JointWords.{word_at, meets, moves_at, with_c, AreCo
 use Rattle.pua_jointly.specs.JointWords.{dropped_word, landing_word, moved_word, apart_word, made_word, born_at, covers_in}
 use Rattle.pua_jointly.specs.JointOld.{asked_word, over_word, above_word, old_word}
 use Rattle.pua_jointly.specs.JointRounds as code
-use Rattle.pua_jointly.specs.JointSetting.{AreColumns}
+use Rattle.pua_jointly.specs.JointSetting.{AreColumns, AreDevices}
+use Rattle.pua_jointly.specs.JointSides.{is_top}
 use Rattle.pua_jointly.specs.JointGround.{Ground, ground_of}
 use Rattle.pua_jointly.specs.JointSetup.{name_row, AreEntries, IsEntry, IsMark, IsRowOf, AreWatches, IsWatch, IsSeatOn, old_on, made_on, IsSide, IsOn}
 use Rattle.pua_jointly.specs.declared.agent.Agent.{Agent}
@@ -50,6 +52,7 @@ use Rattle.pua_jointly.specs.declared.crew.Side.{Side}
 use Rattle.pua_jointly.specs.declared.mover.Mover.{Mover}
 use Rattle.pua_jointly.specs.declared.crew.Watch.{Watch}
 use Rattle.pua_jointly.proofs.CoverBits.{c_covers}
+use Rattle.pua_jointly.proofs.Devices.{below_plain, file_below, plain_below}
 use Rattle.pua_jointly.proofs.Gaining.{has_or}
 use Rattle.pua_jointly.proofs.JointPlaced.{got_among, among_got, entity_fits, hand_parts}
 use Rattle.pua_jointly.proofs.JointRead.{SeatAt, old_at, made_at, says, turns_said, taken_said, clear_said, drops_said}
@@ -190,7 +193,8 @@ module _ (t : Tree) (well : WellFormed t) (table : CallTable) (crew : List Proce
       (are : AreAgents table crew c₀.agents.items) (entries : AreEntries t dirs h spots c₀.entries.items)
       (guards : AreWatches dirs (length crew) guarded c₀.watches.items)
       (only_watched : (y : ℕ) → Contains guarded y → IsTrue (watched y))
-      (columns_are : AreColumns c₀.watches.items c₀.watch_columns.items) where
+      (columns_are : AreColumns c₀.watches.items c₀.watch_columns.items)
+      (low_nodes : (entry : Entry) → Contains c₀.entries.items entry → entry.node < dirs) (on_devices : AreDevices t dirs c₀.devices.items) where
     abbrev pub c : Ground
     c = record (ground_of c₀ side) { columns = many; common = n }
 
@@ -877,24 +881,25 @@ module _ (t : Tree) (well : WellFormed t) (table : CallTable) (crew : List Proce
           ≡ asked_word agent.named agent.process.now told many s.0 s.1 agent.place
       word_is agent = λ z. asked_word agent.named agent.process.now told many (is_entry.dir z) (is_entry.name z) agent.place
 
-      take_means : (i : ℕ) (a : ProcessState) (agent : Agent) → slice_get crew i ≡ Some a → IsAgent table crew i a agent →
-          agent.may_take ≡ true → (folder : Bool) → is_dir t entry.node ≡ folder → meets (covers_by agent folder) with_c ≡ true →
+      take_means : (is_dir t entry.node ≡ true → is_mount t entry.node ≡ false) → (i : ℕ) (a : ProcessState) (agent : Agent) →
+          slice_get crew i ≡ Some a → IsAgent table crew i a agent → agent.may_take ≡ true → (folder : Bool) → is_dir t entry.node ≡ folder → meets (covers_by agent folder) with_c ≡ true →
           Now (Taken s.0 s.1)
-      take_means i a agent by is may true lives e =
+      take_means none i a agent by is may true lives e =
           let k = cover_means i a agent by is with_c has_c c_covers entry.node (Old entry.node)
           (old_at (fits.below s.0 s.1 entry.node is_entry.at lives)) e in
-          taken_dir a entry.node k.0 (among i a agent by is) (sym is.takes ∙ may) is_entry.at lives k.1 k.2
-      take_means i a agent by is may false other e =
+          taken_dir a entry.node k.0 (among i a agent by is) (sym is.takes ∙ may) is_entry.at lives (none lives) k.1 k.2
+      take_means none i a agent by is may false other e =
           let k = covered_means i a agent by is with_c has_c c_covers s.0 s.1 dir_low dir_stands (sym (ap (λ w. meets w with_c) (word_is agent)) ∙ e) in
           taken_other a entry.node k.0 (among i a agent by is) (sym is.takes ∙ may) is_entry.at other k.1 k.2
 
-      takes_means : list_any (code.takes_at c told entry) c₀.agents.items ≡ true → Now (Taken s.0 s.1)
-      takes_means e =
+      takes_means : (is_dir t entry.node ≡ true → is_mount t entry.node ≡ false) →
+          list_any (code.takes_at c told entry) c₀.agents.items ≡ true → Now (Taken s.0 s.1)
+      takes_means none e =
           let found = any_found (code.takes_at c told entry) c₀.agents.items e in
           let g = among_got c₀.agents.items found.0 found.1 in
           let one = are.only g.at found.0 g.is in
           let both = and_parts found.0.may_take _ found.2 in
-          take_means g.at one.0 found.0 one.1 one.2 both.0 (is_dir_kind (Some entry.kind)) (sym kind_is) both.1
+          take_means none g.at one.0 found.0 one.1 one.2 both.0 (is_dir_kind (Some entry.kind)) (sym kind_is) both.1
 
       take_has : (b : ProcessState) → Contains crew b → IsTrue (may_take table b) →
           ((i : ℕ) (agent : Agent) → slice_get crew i ≡ Some b → IsAgent table crew i b agent →
@@ -906,7 +911,7 @@ module _ (t : Tree) (well : WellFormed t) (table : CallTable) (crew : List Proce
           (and_from one.0.may_take _ (one.2.takes ∙ may) (each g.at one.0 g.is one.2))
 
       takes_has : Now (Taken s.0 s.1) → list_any (code.takes_at c told entry) c₀.agents.items ≡ true
-      takes_has (taken_dir b d k from may at lives cov held) =
+      takes_has (taken_dir b d k from may at lives none cov held) =
           let same : d ≡ entry.node = same_Some d entry.node (sym at ∙ is_entry.at) in
           let folder : is_dir t entry.node ≡ true = ap (is_dir t) (sym same) ∙ lives in
           take_has b from may (λ i agent by is. ap (λ f. meets (covers_by agent f) with_c) (kind_is ∙ folder)
@@ -916,6 +921,27 @@ module _ (t : Tree) (well : WellFormed t) (table : CallTable) (crew : List Proce
           let same : x ≡ entry.node = same_Some x entry.node (sym at ∙ is_entry.at) in
           take_has b from may (λ i agent by is. ap (λ f. meets (covers_by agent f) with_c) (kind_is ∙ ap (is_dir t) (sym same) ∙ other)
           ∙ ap (λ w. meets w with_c) (word_is agent) ∙ covered_has i b agent by is with_c has_c c_covers s.0 s.1 dir_low dir_stands k over held)
+
+      -- where no file system is mounted on it
+      module _ (low : entry.node < dirs) where
+        not_root : entry.node ≢ 0
+        not_root = (row_says t (sound_from t well) s entry.node is_entry.at).3
+
+        away_means : code.is_taken_away c told entry ≡ true → Now (Taken s.0 s.1)
+        away_means e =
+            let both = and_parts (not (is_top c₀.devices.items entry.node)) _ e in
+            takes_means (λ lives. (below_plain t well dirs c₀.devices.items on_devices entry.node low lives (not-true _ both.0)).1) both.1
+
+        below_top : Now (Taken s.0 s.1) → is_top c₀.devices.items entry.node ≡ false
+        below_top (taken_dir b d k from may at lives none cov held) =
+            plain_below t well dirs c₀.devices.items on_devices entry.node low not_root
+            (ap (is_mount t) (same_Some entry.node d (sym is_entry.at ∙ at)) ∙ none)
+        below_top (taken_other b x k from may at other over held) =
+            file_below t well dirs c₀.devices.items on_devices entry.node low not_root
+            (ap (is_dir t) (same_Some entry.node x (sym is_entry.at ∙ at)) ∙ other)
+
+        away_has : Now (Taken s.0 s.1) → code.is_taken_away c told entry ≡ true
+        away_has taken = and_from (not (is_top c₀.devices.items entry.node)) _ (ap not (below_top taken)) (takes_has taken)
 
     -- how a directory comes elsewhere
     module _ (j bit : ℕ) (F : Seat → Kept) (L : Hand → Kept) (fam : IsFamily j bit F L) (d : ℕ) (low : d < dirs)
@@ -1485,10 +1511,11 @@ module _ (t : Tree) (well : WellFormed t) (table : CallTable) (crew : List Proce
       by_taken j None got same = absurd (None≢Some e same)
       by_taken j (Some s) got same =
           let one = entries.each j s got in
+          let low = low_nodes one.0 (contained c₀.entries.items one.0 (got_among c₀.entries.items j one.0 one.1)) in
           subst (λ x. Says x Common (code.taken_word c told (slice_get c₀.entries.items j))) (same_Some (NameAt s) e same)
           (subst (λ (o : Option Entry). Says (NameAt s) Common (code.taken_word c told o)) (sym one.1)
-          (one_says (Taken s.0 s.1) Now (list_any (code.takes_at c told one.0) c₀.agents.items) (takes_means j s one.0 got one.2)
-          (takes_has j s one.0 got one.2)))
+          (one_says (Taken s.0 s.1) Now (code.is_taken_away c told one.0) (away_means j s one.0 got one.2 low)
+          (away_has j s one.0 got one.2 low)))
 
       makers_all_say : (k : ℕ) (m : Hand) → slice_get hands k ≡ Some m → DropsOf m ≡ e →
           Says e Common (code.made_by c told (slice_get c₀.agents.items (k - first)))

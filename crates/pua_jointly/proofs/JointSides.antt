@@ -29,7 +29,7 @@ use Rattle.pua_jointly.specs.declared.crew.Mark.{Mark}
 use Rattle.pua_jointly.specs.declared.crew.Side.{Side}
 use Rattle.pua_jointly.specs.declared.crew.Watch.{Watch}
 use Rattle.pua_jointly.specs.declared.mover.Mover.{Mover}
-use Rattle.pua_jointly.specs.declared.setup.Parts.{Parts}
+use Rattle.pua_jointly.specs.declared.parts.Parts.{Parts}
 use Rattle.pua_jointly.specs.declared.shape.Row.{Row}
 use Rattle.pua_jointly.specs.declared.shape.Row.TheVariants as rows
 use Rattle.pua_jointly.proofs.Common.{take}

@@ -76,7 +76,7 @@ pub record StandsPlain (t : Tree) (thing : Thing) : Type 0 where
 module _ (t : Tree) (table : CallTable) (crew : List ProcessState) (a : ProcessState) where
   on_plain : {thing : Thing} {k : Cover} {o : Object} → Shows t table crew a thing k o → plain o ≡ true → StandsPlain t thing ⊎ (thing ≡ Comes NewFile)
   on_plain (shows_dir can) e = absurd (false≢true e)
-  on_plain (shows_emptied other can free) e = absurd (false≢true e)
+  on_plain (shows_emptied other none can free) e = absurd (false≢true e)
   on_plain (shows_others can) e = absurd (false≢true e)
   on_plain (shows_name is own free) e = absurd (false≢true e)
   on_plain (shows_new_dir m can) e = absurd (false≢true e)

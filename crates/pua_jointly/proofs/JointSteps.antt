@@ -10,10 +10,13 @@ use Rattle.pua_jointly.specs.Jointly.{Hand}
 use Rattle.pua_jointly.specs.JointGround.{Ground, ground_of}
 use Rattle.pua_jointly.specs.JointTable.{Entity, bit_says, entities, columns, hands_of, table_says, FollowsAt}
 use Rattle.pua_jointly.specs.JointShape.{entity_of, column_of}
-use Rattle.pua_jointly.specs.JointRounds.{by_agent_at_once, by_agent_word, flag, part_at_once, part_word, side_at_once, side_word}
+use Rattle.pua_jointly.specs.JointRounds.{by_agent_at_once, by_agent_word, by_watch_word, flag, is_full, part_at_once, part_word, row_word, side_at_once, side_word}
+use Rattle.pua_jointly.specs.JointRounds.{taken_word}
 use Rattle.pua_jointly.specs.JointSetup.{HasSide, IsCrew, dirs_of, side_of}
 use Rattle.pua_jointly.specs.declared.crew.Crew.{Crew}
+use Rattle.pua_jointly.specs.declared.crew.Entry.{Entry}
 use Rattle.pua_jointly.specs.declared.crew.Side.{Side}
+use Rattle.pua_jointly.specs.declared.crew.Watch.{Watch}
 use Rattle.pua_jointly.proofs.Common.{None≢Some, refl}
 use Rattle.pua_jointly.specs.declared.shape.Row.{Row}
 use Rattle.pua_jointly.specs.declared.shape.Row.TheVariants as rows
@@ -21,6 +24,7 @@ use Rattle.pua_jointly.specs.declared.shape.Part.TheVariants as parts
 use Rattle.pua_jointly.specs.declared.agent.Agent.{Agent}
 use Rattle.pua_jointly.specs.declared.shape.Part.{Part}
 use Rattle.pua_jointly.proofs.Gaining.{has_or}
+use Rattle.pua_jointly.proofs.JointFlags.{flag_means}
 use Rattle.pua_jointly.proofs.JointRounds.{whole_only, whole_all}
 
 -- what follows by covers alone
@@ -54,6 +58,41 @@ pub side_of_once : (t : Tree) (c : Crew) (told : List ℕ) (at : ℕ) (about : R
     has_bit (side_at_once c told about p o) bit → has_bit (side_word t c told at about p o) bit
 side_of_once t c told at about p None bit held = held
 side_of_once t c told at about p (Some side) bit held = part_of_once t (ground_of c side) told at about p bit held
+
+-- a word of a name has one bit alone
+name_bit : (t : Tree) (c : Ground) (told : List ℕ) (at i : ℕ) (p : Part) (bit : ℕ) → has_bit (part_word t c told at (rows.Name i) p) bit → bit ≡ 0
+name_bit t c told at i (parts.Agent j) bit held = by (slice_get c.agents j) held
+  where
+    carried : (of : Agent) (o : Option Entry) → has_bit (row_word c told of o) bit → bit ≡ 0
+    carried of None held = absurd (no_bit bit held)
+    carried of (Some entry) held = (flag_means _ 0 bit held).1
+
+    by : (o : Option Agent) → has_bit (by_agent_word t c told at (rows.Name i) o) bit → bit ≡ 0
+    by None held = absurd (no_bit bit held)
+    by (Some of) held = carried of (slice_get c.entries i) held
+name_bit t c told at i parts.Common bit held = by (slice_get c.entries i) held
+  where
+    by : (o : Option Entry) → has_bit (taken_word c told o) bit → bit ≡ 0
+    by None held = absurd (no_bit bit held)
+    by (Some entry) held = (flag_means _ 0 bit held).1
+name_bit t c told at i (parts.Watched j) bit held = by (slice_get c.watches j) held
+  where
+    by : (o : Option Watch) → has_bit (by_watch_word t c told at (rows.Name i) o) bit → bit ≡ 0
+    by None held = absurd (no_bit bit held)
+    by (Some watch) held = absurd (no_bit bit held)
+
+-- so one that is full has what is said to follow
+pub full_has : (t : Tree) (c : Crew) (told : List ℕ) (at : ℕ) (about : Row) (p : Part) (o : Option Side) (word bit : ℕ) → is_full about p word ≡ true →
+    has_bit (side_word t c told at about p o) bit → has_bit word bit
+full_has t c told at about p None word bit full held = absurd (no_bit bit held)
+full_has t c told at (rows.Name i) p (Some side) word bit full held =
+    subst (has_bit word) (sym (name_bit t (ground_of c side) told at i p bit held)) full
+full_has t c told at (rows.Dir d) (parts.Agent i) (Some side) word bit full held = absurd (false≢true full)
+full_has t c told at (rows.Dir d) parts.Common (Some side) word bit full held = absurd (no_bit bit held)
+full_has t c told at (rows.Dir d) (parts.Watched i) (Some side) word bit full held = absurd (false≢true full)
+full_has t c told at (rows.Made i) p (Some side) word bit full held = absurd (false≢true full)
+full_has t c told at (rows.Landing i) p (Some side) word bit full held = absurd (false≢true full)
+full_has t c told at (rows.Drops i) p (Some side) word bit full held = absurd (false≢true full)
 
 module _ (t : Tree) (well : WellFormed t) (table : CallTable) (crew : List ProcessState) (devices : List ℕ) (watched : ℕ → Bool)
     (spots : List Spot) (guarded : List ℕ) (c : Crew) (is : IsCrew t table crew devices watched spots guarded c) (told : List ℕ) where
@@ -89,7 +128,7 @@ module _ (t : Tree) (well : WellFormed t) (table : CallTable) (crew : List Proce
         has_bit (found (side_of c about)) bit → Here bit
     side_only e is_about at bit held =
         whole_only t well table crew devices watched dirs spots guarded is.fits is.each_agent is.each_hand is.each_name is.each_watched told c
-        at.side at.on at.is is.agents is.entries is.watches is.only_watched is.watch_columns place about p e (rows_now ∙ is_about) is_about at.here
+        at.side at.on at.is is.agents is.entries is.watches is.only_watched is.watch_columns is.low_nodes is.on_devices place about p e (rows_now ∙ is_about) is_about at.here
         parts_now bit
         (subst (λ n. has_bit (part_word t (record (ground_of c at.side) { columns = many; common = length crew }) told (place / n) about p) bit)
         is.columns (subst (λ (k : Ground). has_bit (part_word t k told (place / c.columns) about p) bit) (same at.side)
@@ -103,7 +142,7 @@ module _ (t : Tree) (well : WellFormed t) (table : CallTable) (crew : List Proce
         (subst (λ n. has_bit (part_word t (record (ground_of c at.side) { columns = many; common = length crew }) told (place / n) about p) bit)
         (sym is.columns)
         (whole_all t well table crew devices watched dirs spots guarded is.fits is.each_agent is.each_hand is.each_name is.each_watched told c
-        at.side at.on at.is is.agents is.entries is.watches is.only_watched is.watch_columns place about p e (rows_now ∙ is_about) is_about at.here
+        at.side at.on at.is is.agents is.entries is.watches is.only_watched is.watch_columns is.low_nodes is.on_devices place about p e (rows_now ∙ is_about) is_about at.here
         parts_now bit new)))
 
     pub step_only : (bit : ℕ) → has_bit (found (side_of c about)) bit → Here bit

@@ -23,6 +23,7 @@ use Rattle.pua_jointly.specs.JointFound.{AreFacts, entry_word, made_words, new_c
 use Rattle.pua_jointly.specs.JointPrograms.{TellsOfOne}
 use Rattle.pua_jointly.specs.JointRounds.{is_taken, stays_in as held_in}
 use Rattle.pua_jointly.specs.JointSetup.{crew_told}
+use Rattle.pua_jointly.specs.JointSides.{is_top}
 use Rattle.pua_jointly.specs.Jointly.{Old, Made, Row, Maker, Fact, StandsIn, DirCover, StandsAt}
 use Rattle.pua_jointly.specs.Jointly.{Can, stays_in, moved_in, born_in, not_above_root, not_above_up, not_above_made, dir_own, dir_root}
 use Rattle.pua_jointly.specs.Jointly.{dir_within, name_own, name_within, free_none, free_made, free_dir, free_other, way_in_by_c, way_in_by_name}
@@ -101,7 +102,7 @@ module _ (t : Tree) (well : WellFormed t) (table : CallTable) (crew : List Proce
   lives (name_within none over) = tt
   lives (free_none none) = tt
   lives (free_made) = tt
-  lives (free_dir a d k among may at is over c) = tt
+  lives (free_dir a d k among may at is none over c) = tt
   lives (free_other a x k among may at is over c) = tt
   lives (way_in_by_c k over c) = tt
   lives (way_in_by_name name perms is own c free) = tt
@@ -173,30 +174,32 @@ module _ (t : Tree) (table : CallTable) (crew : List ProcessState) (facts : Fact
   on_dir : (d : ℕ) (way : Way) → Known (Stands (At (Whole d way)))
   on_dir d way = by (is_dir t d) refl
     where
-      standing : is_dir t d ≡ true → (zero_is stays : Bool) → (d == 0) ≡ zero_is → list_any (held_in c.columns c.shape.agents words d) c.entries.items ≡ stays →
+      standing : is_dir t d ≡ true → (first stays : Bool) → is_top c.devices.items d ≡ first → list_any (held_in c.columns c.shape.agents words d) c.entries.items ≡ stays →
           Known (Stands (At (Whole d way)))
-      standing lives true stays root held =
+      standing lives true stays first held =
           let one = under (told_by.dir_word t table crew facts a of is d) lasting_dir in (
             one.0,
-            told_by.lasting_calls t table crew facts a of is d way one.0 lives (λ other free. other (eqb-true d 0 root)) one.1,
+            told_by.lasting_calls t table crew facts a of is d way one.0 lives
+                (λ other none free. false≢true (sym (told_by.not_first t table crew facts a of is d lives other none) ∙ first)) one.1,
           )
-      standing lives false true root held =
+      standing lives false true first held =
           let one = under (told_by.dir_word t table crew facts a of is d) lasting_dir in (
             one.0,
-            told_by.lasting_calls t table crew facts a of is d way one.0 lives (λ other free. false≢true (ap not (sym held) ∙ free)) one.1,
+            told_by.lasting_calls t table crew facts a of is d way one.0 lives (λ other none free. false≢true (ap not (sym held) ∙ free)) one.1,
           )
-      standing lives false false root held =
+      standing lives false false first held =
           let one = under (told_by.dir_word t table crew facts a of is d) lasting_dir in
           let two = under (told_by.dir_word t table crew facts a of is d) removable_dir in
-          let both = set_of (λ call. has one.0 call || has two.0 call) in (
+          let both = set_of (λ call. has one.0 call || has two.0 call) in
+          let plain = told_by.first_not t table crew facts a of is d lives first in (
             both.0,
             told_by.emptied_calls t table crew facts a of is d way one.0 two.0 both.0 lives
-                (λ same. false≢true (sym root ∙ eq-eqb d 0 same)) (ap not held) one.1 two.1 both.1,
+                plain.0 plain.1 (ap not held) one.1 two.1 both.1,
           )
 
       by : (b : Bool) → is_dir t d ≡ b → Known (Stands (At (Whole d way)))
       by false none = (0, no_dir t well table crew a d way none)
-      by true lives = standing lives (d == 0) (list_any (held_in c.columns c.shape.agents words d) c.entries.items) refl refl
+      by true lives = standing lives (is_top c.devices.items d) (list_any (held_in c.columns c.shape.agents words d) c.entries.items) refl refl
 
   on_others : (d : ℕ) → Known (Stands (Others d))
   on_others d = by (is_dir t d) refl

@@ -27,12 +27,15 @@ use Rattle.pua_jointly.specs.Jointly.{shows_dir, shows_emptied, shows_others, sh
 use Rattle.pua_jointly.specs.Jointly.{shows_new_link, shows_new_sock, shows_new_fifo, free_none}
 use Rattle.pua_jointly.specs.JointRounds.{is_taken, stays_in}
 use Rattle.pua_jointly.specs.JointSetting.{entry_of}
-use Rattle.pua_jointly.specs.JointSetup.{crew_told}
+use Rattle.pua_jointly.specs.JointSetup.{crew_told, dirs_of}
 use Rattle.pua_jointly.specs.JointWords.{IsAgent, covers_in, has_named, meets, word_at}
 use Rattle.pua_jointly.specs.declared.agent.Agent.{Agent}
 use Rattle.pua_jointly.specs.declared.crew.Crew.{Crew}
 use Rattle.pua_jointly.specs.declared.crew.Entry.{Entry}
 use Rattle.pua_jointly.specs.declared.facts.Facts.{Facts}
+use Rattle.pua_tree.specs.Tree.{is_mount}
+use Rattle.pua_jointly.specs.JointSides.{is_top}
+use Rattle.pua_jointly.proofs.Devices.{below_plain, plain_below}
 use Rattle.pua_jointly.proofs.JointAllowed as allow
 use Rattle.pua_jointly.proofs.JointAllowed.{TellsUnder}
 use Rattle.pua_jointly.proofs.JointPlaced.{Got, among_got, got_among}
@@ -103,14 +106,25 @@ module _ (t : Tree) (table : CallTable) (crew : List ProcessState) (facts : Fact
       (λ k small held. shows_dir (show.dir_means t table c are.worked told are.full are.closed are.has is.at a of is.got is.process d low k small held))
       (λ k shows. show.dir_has t table c are.worked told are.full are.closed are.has is.at a of is.got is.process d k (allow.shown t table all a shows).0)
 
-  removed_under : (d : ℕ) (way : Way) (calls : ℕ) → is_dir t d ≡ true → d ≢ 0 → allow.IsEmptied t table all a d →
+  removed_under : (d : ℕ) (way : Way) (calls : ℕ) → is_dir t d ≡ true → d ≢ 0 → is_mount t d ≡ false → allow.IsEmptied t table all a d →
       AreUnder table a (dir_word d) removable_dir calls → TellsUnder t table all a (Stands (At (Whole d way))) removable_dir calls
-  removed_under d way calls lives other free under =
+  removed_under d way calls lives other none free under =
       let low = show.dir_low t table c are.worked told are.full are.closed are.has is.at a of is.got is.process d lives in
       allow.under_tells t table all a (Stands (At (Whole d way))) removable_dir (dir_word d) calls under
-      (λ k small held. shows_emptied other
+      (λ k small held. shows_emptied other none
       (show.dir_means t table c are.worked told are.full are.closed are.has is.at a of is.got is.process d low k small held) free)
       (λ k shows. show.dir_has t table c are.worked told are.full are.closed are.has is.at a of is.got is.process d k (allow.shown t table all a shows).0)
+
+  -- the first directory of its device is the root or a mount point
+  pub not_first : (d : ℕ) → is_dir t d ≡ true → d ≢ 0 → is_mount t d ≡ false → is_top c.devices.items d ≡ false
+  not_first d lives other none =
+      plain_below t are.worked.0 (dirs_of c) c.devices.items are.worked.1.on_devices d
+      (show.dir_low t table c are.worked told are.full are.closed are.has is.at a of is.got is.process d lives) other none
+
+  pub first_not : (d : ℕ) → is_dir t d ≡ true → is_top c.devices.items d ≡ false → (d ≢ 0) × (is_mount t d ≡ false)
+  first_not d lives below =
+      below_plain t are.worked.0 (dirs_of c) c.devices.items are.worked.1.on_devices d
+      (show.dir_low t table c are.worked told are.full are.closed are.has is.at a of is.got is.process d lives) lives below
 
   -- something stays in a directory
   pub held_is : (d : ℕ) → is_dir t d ≡ true → get_or facts.held.items d false ≡ list_any (stays_in c.columns c.shape.agents told d) c.entries.items
@@ -119,23 +133,23 @@ module _ (t : Tree) (table : CallTable) (crew : List ProcessState) (facts : Fact
 
   -- of a directory that stays
   pub lasting_calls : (d : ℕ) (way : Way) (calls : ℕ) → is_dir t d ≡ true →
-      (d ≢ 0 → not (list_any (stays_in c.columns c.shape.agents told d) c.entries.items) ≡ true → ⊥) → AreUnder table a (dir_word d) lasting_dir calls →
+      (d ≢ 0 → is_mount t d ≡ false → not (list_any (stays_in c.columns c.shape.agents told d) c.entries.items) ≡ true → ⊥) → AreUnder table a (dir_word d) lasting_dir calls →
       AreCallsOf t table crew a (Stands (At (Whole d way))) calls
   lasting_calls d way calls lives stays under =
       plain_crew (Stands (At (Whole d way))) calls (λ none. none)
       (allow.dir_lasts t table all a d way calls
-      (λ other free. stays other (show.emptied_has t table c are.worked told are.full are.closed are.has is.at a of is.got is.process d free))
+      (λ other none free. stays other none (show.emptied_has t table c are.worked told are.full are.closed are.has is.at a of is.got is.process d free))
       (dir_under d way calls lives under))
 
   -- of one that can be emptied
-  pub emptied_calls : (d : ℕ) (way : Way) (first second calls : ℕ) → is_dir t d ≡ true → d ≢ 0 →
+  pub emptied_calls : (d : ℕ) (way : Way) (first second calls : ℕ) → is_dir t d ≡ true → d ≢ 0 → is_mount t d ≡ false →
       not (list_any (stays_in c.columns c.shape.agents told d) c.entries.items) ≡ true → AreUnder table a (dir_word d) lasting_dir first →
       AreUnder table a (dir_word d) removable_dir second → ((call : Call) → has calls call ≡ (has first call || has second call)) →
       AreCallsOf t table crew a (Stands (At (Whole d way))) calls
-  emptied_calls d way first second calls lives other free under_first under_second both =
+  emptied_calls d way first second calls lives other none free under_first under_second both =
       plain_crew (Stands (At (Whole d way))) calls (λ none. none)
       (allow.dir_emptied t table all a d way first second calls (dir_under d way first lives under_first)
-      (removed_under d way second lives other
+      (removed_under d way second lives other none
       (show.emptied_means t table c are.worked told are.full are.closed are.has is.at a of is.got is.process d free) under_second) both)
 
   -- of further names
@@ -397,16 +411,6 @@ module _ (t : Tree) (table : CallTable) (crew : List ProcessState) (facts : Fact
   -- the place of an entry in the crew's list
   pub place_of_entry : (entry : Entry) → Contains c.entries.items entry → Got c.entries.items entry
   place_of_entry entry among = among_got c.entries.items entry (among_contained c.entries.items entry among)
-
-pub not_root : (d : ℕ) → d ≢ 0 → not (d == 0) ≡ true
-not_root d other = by (d == 0) refl
-  where
-    by : (b : Bool) → (d == 0) ≡ b → not (d == 0) ≡ true
-    by true e = absurd (other (eqb-true d 0 e))
-    by false e = ap not e
-
-pub other_than : (d : ℕ) → not (d == 0) ≡ true → d ≢ 0
-other_than d e same = false≢true (sym (ap not (eq-eqb d 0 same)) ∙ e)
 
 -- what was found at a name
 pub slot_lives : (t : Tree) (dir : ℕ) (name : List ℕ) (node : Option ℕ) → FoundFits t (Slot dir name node) → is_dir t dir ≡ true

@@ -26,7 +26,7 @@ use Rattle.pua_jointly.specs.JointPlace.{Once}
 use Rattle.pua_jointly.specs.JointSetting.{AreColumns, AreDevices, AreInOrder, AreMarksOf, AreWatched, IsEntryAt, IsMarkOf, IsRowIn, IsShape, IsSize, entry_of}
 use Rattle.pua_jointly.specs.JointSetting.{is_watched}
 use Rattle.pua_jointly.specs.JointSides.{IsPart}
-use Rattle.pua_jointly.specs.declared.setup.Parts.{Parts}
+use Rattle.pua_jointly.specs.declared.parts.Parts.{Parts}
 use Rattle.pua_jointly.proofs.JointSides.{hands_length, hands_once, no_rows, rows_have, side_among}
 use Rattle.std.proofs.Math.Nat.{mul_comm}
 use Rattle.pua_jointly.specs.JointSetup.{AreEntries, AreWatches, IsEntry, IsRowOf, IsWatch, IsWorkedOut, count_told, crew_told, devices_told, dirs_of, hands_told}
@@ -400,6 +400,7 @@ module _ (t : Tree) (well : WellFormed t) (table : CallTable) (c : Crew) (all : 
       low_nodes = low_nodes;
       watches = are_watches;
       watch_columns = watch_columns;
+      on_devices = devices;
       rows = rows_have t well table c parts all_marks once kinds_once kinds_all devices many is_agent hands_are shape_is agents_is devices_is
           all_seats marks_is watches_is sides each_mark only_marks low_watches are_entries
           (λ row d in_rows. entity_fits t table crew (devices_told c) (watches t crew) (dirs_of c) spots guarded fits (DirAt d)

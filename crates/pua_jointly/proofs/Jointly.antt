@@ -14,7 +14,7 @@ use Rattle.pua_objects.specs.Objects.{cover_in}
 use Rattle.pua_script.specs.Confinement.{UncoveredStay}
 use Rattle.pua_tree.specs.Tree.{device, is_living, is_mount, node_at, is_empty, has_no_row}
 use Rattle.pua_tree.specs.Laws.{KeepsDevices}
-use Rattle.pua_jointly.proofs.Devices.{device_up, keeps, was_near}
+use Rattle.pua_jointly.proofs.Devices.{device_up, keeps, same_mount, was_near}
 use Rattle.std.proofs.lemmas.Bool.{not-true}
 use Rattle.std.specs.List.{Contains}
 use Rattle.pua_tree.proofs.ForCallers.{Sound, above_dir, above_is, is_living_dir, none_found, same_dir}
@@ -385,10 +385,10 @@ module _ (table : CallTable) (t0 : Tree) (crew : List ProcessState) (well0 : Wel
         Can0 (NameCover a (k.seat s.0) s.1 (own_or (perms_kept a (place.Slot s.0 s.1)) (cover_in t a s.0)))
     name_cover_t = name_cover_all t k a stand
 
-    -- what stands still and has `c` can be taken away
-    row_c : may_take table a ≡ true → (s : Spot) (y : ℕ) → look t0 s.0 s.1 ≡ Some y → look t s.0 s.1 ≡ Some y → has_c (row_cover t a s y) ≡ true →
-        Can0 (Free (Old s.0) s.1)
-    row_c may s y then at has = by (is_dir t y) refl
+    -- what stands still, has `c` and is no mount point can be taken away
+    row_c : may_take table a ≡ true → (s : Spot) (y : ℕ) → look t0 s.0 s.1 ≡ Some y → look t s.0 s.1 ≡ Some y → is_mount t y ≡ false →
+        has_c (row_cover t a s y) ≡ true → Can0 (Free (Old s.0) s.1)
+    row_c may s y then at none has = by (is_dir t y) refl
       where
         told0 : (is_dir t0 s.0 ≡ true) × (is_living t0 y ≡ true)
         told0 = let told = row_says t0 (sound_from t0 well0) s y then in (told.0, told.2)
@@ -407,7 +407,7 @@ module _ (table : CallTable) (t0 : Tree) (crew : List ProcessState) (well0 : Wel
 
         by : (b : Bool) → is_dir t y ≡ b → Can0 (Free (Old s.0) s.1)
         by true is =
-            free_dir a y (cover_in t a y) among may then (sym kinds ∙ is)
+            free_dir a y (cover_in t a y) among may then (sym kinds ∙ is) (sym (same_mount t0 t y (k.old y below told.1)) ∙ none)
             (subst (λ q. Can0 (DirCover a q (cover_in t a y))) (k.seated.old y below) (dir_cover_t y is))
             (ap has_c (sym (dir_row t a k.well s y is)) ∙ has)
         by false other =
@@ -416,15 +416,18 @@ module _ (table : CallTable) (t0 : Tree) (crew : List ProcessState) (well0 : Wel
             (name_cover_t s told.0))
             (ap has_c (sym (slot_row t a k.well s y other)) ∙ has)
 
-    gone_then : (s : Spot) (y : ℕ) → look t0 s.0 s.1 ≡ Some y → (look u s.0 s.1 ≡ Some y) ⊎ Can0 (Free (Old s.0) s.1)
-    gone_then s y then = elim (k.gone s y then) [
-      | inr free ↦ inr free
-      | inl at ↦ by at (has_c (row_cover t a s y)) refl
-    ]
+    -- so it stays, or its name could come to be free
+    stays_or_free : (s : Spot) (y : ℕ) → look t0 s.0 s.1 ≡ Some y → look t s.0 s.1 ≡ Some y →
+        (look u s.0 s.1 ≡ Some y) ⊎ Can0 (Free (Old s.0) s.1)
+    stays_or_free s y then at = by (is_mount t y) (has_c (row_cover t a s y)) refl refl
       where
-        by : look t s.0 s.1 ≡ Some y → (b : Bool) → has_c (row_cover t a s y) ≡ b → (look u s.0 s.1 ≡ Some y) ⊎ Can0 (Free (Old s.0) s.1)
-        by at true has = elim takes [ inl may ↦ inr (row_c may s y then at has) | inr stays ↦ inl (stays s y at) ]
-        by at false lacks = inl (spared s y at lacks).row
+        by : (m b : Bool) → is_mount t y ≡ m → has_c (row_cover t a s y) ≡ b → (look u s.0 s.1 ≡ Some y) ⊎ Can0 (Free (Old s.0) s.1)
+        by true b mount has = inl (grown.mounts s y at mount)
+        by false true none has = elim takes [ inl may ↦ inr (row_c may s y then at none has) | inr stays ↦ inl (stays s y at) ]
+        by false false none lacks = inl (spared s y at lacks).row
+
+    gone_then : (s : Spot) (y : ℕ) → look t0 s.0 s.1 ≡ Some y → (look u s.0 s.1 ≡ Some y) ⊎ Can0 (Free (Old s.0) s.1)
+    gone_then s y then = elim (k.gone s y then) [ inr free ↦ inr free | inl at ↦ stays_or_free s y then at ]
 
     -- where something comes to stand, it stood, or the name could come to be free
     free_or_same : (s : Spot) (x : ℕ) → look u s.0 s.1 ≡ Some x → is_dir t s.0 ≡ true →
@@ -434,22 +437,15 @@ module _ (table : CallTable) (t0 : Tree) (crew : List ProcessState) (well0 : Wel
       | inl below ↦ by (λ free. subst (λ q. Can0 (Free q s.1)) (sym (k.seated.old s.0 below)) free) (look t0 s.0 s.1) refl
     ]
       where
-        stays : (y : ℕ) → look t s.0 s.1 ≡ Some y → has_c (row_cover t a s y) ≡ false → look t s.0 s.1 ≡ Some x
-        stays y at lacks = at ∙ ap Some (same_Some y x (sym (spared s y at lacks).row ∙ e))
-
         by : (Can0 (Free (Old s.0) s.1) → Can0 (Free (k.seat s.0) s.1)) → (o : Option ℕ) → look t0 s.0 s.1 ≡ o →
             (look t s.0 s.1 ≡ Some x) ⊎ Can0 (Free (k.seat s.0) s.1)
         by conv None then = inr (conv (free_none then))
         by conv (Some y) then = elim (k.gone s y then) [
           | inr free ↦ inr (conv free)
-          | inl at ↦ elim (has_c (row_cover t a s y)) as (λ b. has_c (row_cover t a s y) ≡ b →
-              (look t s.0 s.1 ≡ Some x) ⊎ Can0 (Free (k.seat s.0) s.1)) [
-                | true ↦ λ has. elim takes [
-                  | inl may ↦ inr (conv (row_c may s y then at has))
-                  | inr all ↦ inl (at ∙ ap Some (same_Some y x (sym (all s y at) ∙ e)))
-                ]
-                | false ↦ λ lacks. inl (stays y at lacks)
-              ] refl
+          | inl at ↦ elim (stays_or_free s y then at) [
+            | inl stays ↦ inl (at ∙ ap Some (same_Some y x (sym stays ∙ e)))
+            | inr free ↦ inr (conv free)
+          ]
         ]
 
     named_c : (s : Spot) → has_c (name_cover table t a s) ≡ true →

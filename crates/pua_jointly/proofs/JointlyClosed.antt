@@ -1,7 +1,7 @@
 -- What is closed under the rules of what can come has all of it: so facts that are gathered are all of them, once nothing more follows.
 use Rattle.std.specs.Prelude.{◌≡◌, ◌≢◌, ◌||◌, ℕ, if◌then◌else◌, List, Some, None, IsTrue, IsFalse}
 use Rattle.std.specs.List.{Contains}
-use Rattle.pua_tree.specs.Tree.{Tree, device, is_dir, look, empty_tree}
+use Rattle.pua_tree.specs.Tree.{Tree, device, is_dir, is_mount, look, empty_tree}
 use Rattle.pua_calls.specs.Calls.{CallTable}
 use Rattle.pua_policy.specs.States.{ProcessState, has_veil, perms_kept}
 use Rattle.pua_policy.specs.Verdict.{IsMissing, covered_verdict, is_allowed}
@@ -38,7 +38,7 @@ pub record Closed (t : Tree) (table : CallTable) (crew : List ProcessState) (P :
   pub free_none : {dir : ℕ} {name : List ℕ} → look t dir name ≡ None → P (Free (Old dir) name)
   pub free_made : {maker : Hand} {name : List ℕ} → P (Free (Made maker) name)
   pub free_dir : {dir : ℕ} {name : List ℕ} (a : ProcessState) (d : ℕ) (k : Cover) → Contains crew a → IsTrue (may_take table a) →
-      look t dir name ≡ Some d → IsTrue (is_dir t d) → P (DirCover a (Old d) k) → IsTrue (has_c k) →
+      look t dir name ≡ Some d → IsTrue (is_dir t d) → IsFalse (is_mount t d) → P (DirCover a (Old d) k) → IsTrue (has_c k) →
       P (Free (Old dir) name)
   pub free_other : {dir : ℕ} {name : List ℕ} (a : ProcessState) (x : ℕ) (k : Cover) → Contains crew a → IsTrue (may_take table a) →
       look t dir name ≡ Some x → IsFalse (is_dir t x) → P (NameCover a (Old dir) name k) → IsTrue (has_c k) →
@@ -81,7 +81,7 @@ module _ (t : Tree) (table : CallTable) (crew : List ProcessState) (P : Fact →
   least (name_within h1 h2) = closed.name_within h1 (least h2)
   least (free_none h1) = closed.free_none h1
   least (free_made) = closed.free_made
-  least (free_dir a d k h1 h2 h3 h4 h5 h6) = closed.free_dir a d k h1 h2 h3 h4 (least h5) h6
+  least (free_dir a d k h1 h2 h3 h4 none h5 h6) = closed.free_dir a d k h1 h2 h3 h4 none (least h5) h6
   least (free_other a x k h1 h2 h3 h4 h5 h6) = closed.free_other a x k h1 h2 h3 h4 (least h5) h6
   least (way_in_by_c k h1 h2) = closed.way_in_by_c k (least h1) h2
   least (way_in_by_name name perms h1 h2 h3 h4) = closed.way_in_by_name name perms h1 h2 h3 (least h4)

@@ -75,6 +75,7 @@ use Rattle.pua_ever.specs.Through.{is_bounded, AreWithin, GoesAlong, GoAlong}
 use Rattle.std.specs.Prelude.{flat_map, Result, Ok, Err, is_none, filter}
 use Rattle.pua_policy.specs.States.{held_set, may_any}
 use Rattle.pua_jointly.proofs.Jointly.{Known, of_then, of_maker, row_kind, Knows, knows_first, knows_then, dir_cover_all, name_cover_all}
+use Rattle.pua_jointly.proofs.Devices.{same_mount}
 use Rattle.pua_jointly.proofs.Jointly.{free_missing, free_emptied}
 use Rattle.pua_path.specs.declared.found.Start.{Start}
 
@@ -167,15 +168,17 @@ module _ (table : CallTable) (t0 : Tree) (crew : List ProcessState) (well0 : Wel
       subst (λ q. Can0 (DirCover a q (cover_in u a d))) (k.seated.old d below) (dir_cover_all table t0 crew well0 u k a stand d is)
 
   -- a directory that can be removed now can come to be empty
-  emptied : (d : ℕ) (w : Way) → StandsAsNamed u (Whole d w) → rmdir_fault table.whose u d w ≡ None → (d ≢ 0) × (is_empty u d ≡ true)
+  emptied : (d : ℕ) (w : Way) → StandsAsNamed u (Whole d w) → rmdir_fault table.whose u d w ≡ None →
+      (d ≢ 0) × (is_mount u d ≡ false) × (is_empty u d ≡ true)
   emptied d Dot named e = cc
   emptied d DotDot named e = cc
   emptied d Top named e = cc
-  emptied d (Named over name) named e = ((row_says u su (over, name) d named.1).3, by (is_mount u d) (is_empty u d) e)
+  emptied d (Named over name) named e =
+      let plain = by (is_mount u d) (is_empty u d) e in ((row_says u su (over, name) d named.1).3, plain.0, plain.1)
     where
-      by : (m b : Bool) → option_map misfit_errno (named_misfit m b) ≡ None → b ≡ true
-      by m true e = refl
-      by true false e = cc
+      by : (m b : Bool) → option_map misfit_errno (named_misfit m b) ≡ None → (m ≡ false) × (b ≡ true)
+      by false true e = (refl, refl)
+      by true b e = cc
       by false false e = cc
 
   hit_dir : (d : ℕ) (w : Way) → is_dir u d ≡ true → StandsAsNamed u (Whole d w) → verdict u table a c (Whole d w) ≡ Allowed → Hit (Whole d w)
@@ -222,7 +225,8 @@ module _ (table : CallTable) (t0 : Tree) (crew : List ProcessState) (well0 : Wel
           record {
             cover = cover_in u a d;
             object = removable_dir;
-            shows = shows_emptied empty.0 (dir_cover_old d is below) (free_emptied table t0 crew well0 u k d empty.1);
+            shows = shows_emptied empty.0 (sym (same_mount t0 u d (k.old d below (is_living_dir u d is))) ∙ empty.1) (dir_cover_old d is below)
+                (free_emptied table t0 crew well0 u k d empty.2);
             named = or-true (keeps_link c);
             allowed = allows (cover_in u a d) removable_dir granted covered (dir_alike table.whose u c d w true (λ _. refl) fine);
           }

@@ -36,7 +36,7 @@ module _ (t : Tree) (table : CallTable) (crew more : List ProcessState) (within 
   grows (name_within h1 h2) = name_within h1 (grows h2)
   grows (free_none h1) = free_none h1
   grows (free_made) = free_made
-  grows (free_dir a d k h1 h2 h3 h4 h5 h6) = free_dir a d k (within _ h1) h2 h3 h4 (grows h5) h6
+  grows (free_dir a d k h1 h2 h3 h4 none h5 h6) = free_dir a d k (within _ h1) h2 h3 h4 none (grows h5) h6
   grows (free_other a x k h1 h2 h3 h4 h5 h6) = free_other a x k (within _ h1) h2 h3 h4 (grows h5) h6
   grows (way_in_by_c k h1 h2) = way_in_by_c k (grows h1) h2
   grows (way_in_by_name name perms h1 h2 h3 h4) = way_in_by_name name perms h1 h2 h3 (grows h4)
@@ -51,7 +51,7 @@ module _ (t : Tree) (table : CallTable) (crew more : List ProcessState) (within 
   pub shows_more : {a : ProcessState} {thing : Thing} {cover : Cover} {object : Object} → Shows t table crew a thing cover object →
       Shows t table more a thing cover object
   shows_more (shows_dir can) = shows_dir (grows can)
-  shows_more (shows_emptied other can free) = shows_emptied other (grows can) (λ name x at. grows (free name x at))
+  shows_more (shows_emptied other none can free) = shows_emptied other none (grows can) (λ name x at. grows (free name x at))
   shows_more (shows_others can) = shows_others (grows can)
   shows_more (shows_row d other at lies over) = shows_row d other at (grows lies) (grows over)
   shows_more (shows_name is own free) = shows_name is own (grows free)

@@ -1,21 +1,24 @@
 -- The worked rows of processes with veils of their own.
 use Rattle.pua_jointly.proofs.Common.{◌≡◌, ◌⊎◌, ◌∷◌, ◌==◌, [], ap, Bool, CallTable, contained, false, false≢true, inl, inr, lasting_dir, List, look, None≢Some, Only, ProcessState, refl, Some}
-use Rattle.pua_jointly.proofs.Common.{sym, Tree, true, ℕ}
+use Rattle.pua_jointly.proofs.Common.{At, Cover, covered_verdict, empty_tree, is_allowed, is_dir, None, Object, Option, removable_dir, same_Some, Stands, sym}
+use Rattle.pua_jointly.proofs.Common.{Tree, true, Way, Whole, ◌∙◌, ℕ}
 use Rattle.std.specs.Prelude.{⊤, ◌+◌, codes}
-use Rattle.pua_tree.specs.Tree.{device}
+use Rattle.pua_path.specs.declared.errno.Errno.{Errno}
+use Rattle.pua_path.specs.declared.found.Way.TheVariants.{Named}
+use Rattle.pua_tree.specs.Tree.{device, is_mount}
 use Rattle.std.specs.List.{Contains}
-use Rattle.pua_policy.specs.Verdict.{IsFile, IsMissing}
-use Rattle.pua_calls.specs.Calls.{openbsd_table, standard_table}
+use Rattle.pua_policy.specs.Verdict.{IsFile, IsMissing, allowed_unless, cover_fault, object_fault, or_fault}
+use Rattle.pua_calls.specs.Calls.{openbsd_table, rule_of, standard_table}
 use Rattle.pua_calls.specs.Promises.{fattr, sendfd, reading, writing, executing, creating}
 use Rattle.pua_calls.specs.declared.call.Call.TheVariants as call
 use Rattle.pua_ever.specs.Ever.{NewLink, turning_calls}
 use Rattle.pua_tree.specs.declared.node.Kind.TheVariants as kind
-use Rattle.pua_jointly.specs.Jointly.{Can, Fact, Seat, Old, Made, Maker, Row, StandsIn, StandsAt, seat_device, source_device, stays_in, moved_in, born_in, not_above_root, not_above_up}
+use Rattle.pua_jointly.specs.Jointly.{Can, Fact, Free, IsJointlyAllowed, Shows, Seat, Old, Made, Maker, Row, StandsIn, StandsAt, seat_device, source_device, stays_in, moved_in, born_in, not_above_root, not_above_up}
 use Rattle.pua_jointly.specs.Jointly.{not_above_made, dir_own, dir_root, dir_within, name_own, name_within, free_none, free_made, free_dir, free_other, way_in_by_c, way_in_by_name}
 use Rattle.pua_jointly.specs.Jointly.{way_in_by_turn, writes_at, makes_at}
-use Rattle.pua_jointly.specs.Jointly.{stays_at, moved_at, born_at, shows_dir, shows_row, shows_name, IsJointlyStarted, turning_by}
+use Rattle.pua_jointly.specs.Jointly.{stays_at, moved_at, born_at, shows_dir, shows_emptied, shows_row, shows_name, IsJointlyStarted, turning_by}
 use Rattle.pua_jointly.specs.JointlyExamples.{mover, reader, writer, opener, remover, binder, placer, crew, three, opened, JointlyRows}
-use Rattle.pua_jointly.specs.JointlyExamples.{executer, file_in, mounted_tree, opening, sender, sending}
+use Rattle.pua_jointly.specs.JointlyExamples.{executer, file_in, mounted_in_tree, mounted_tree, opening, sender, sending}
 use Rattle.pua_ever.specs.ThroughExamples.{started_tree}
 
 -- the mover brings s from /in to /out
@@ -74,7 +77,7 @@ module _ (t : Tree) (table : CallTable) (all : List ProcessState) where
   on_device (name_within none over) = tt
   on_device (free_none none) = tt
   on_device (free_made) = tt
-  on_device (free_dir a d k among may at is over c) = tt
+  on_device (free_dir a d k among may at is none over c) = tt
   on_device (free_other a x k among may at is over c) = tt
   on_device (way_in_by_c k over c) = tt
   on_device (way_in_by_name name perms is own c free) = tt
@@ -91,6 +94,33 @@ made_there =
     born_at (contained crew mover (inl refl))
     (makes_at (Old 2) (codes "n") (Only creating) (name_within refl (dir_own refl refl)) (free_none refl) refl refl)
     (writes_at (Only creating) (name_within refl (dir_own refl refl)) refl (free_none refl)) refl
+
+-- the name of a mount point never comes to be free
+mount_stays : (t : Tree) (all : List ProcessState) (dir : ℕ) (name : List ℕ) (y : ℕ) → look t dir name ≡ Some y → is_dir t y ≡ true →
+    is_mount t y ≡ true → Can t standard_table all (Free (Old dir) name) → ⊥
+mount_stays t all dir name y there is mount (free_none none) = None≢Some y (sym none ∙ there)
+mount_stays t all dir name y there is mount (free_dir a d k among may at lives none over c) =
+    false≢true (sym none ∙ ap (is_mount t) (same_Some d y (sym at ∙ there)) ∙ mount)
+mount_stays t all dir name y there is mount (free_other a x k among may at other over c) =
+    false≢true (sym other ∙ ap (is_dir t) (same_Some x y (sym at ∙ there)) ∙ is)
+
+-- what stays is not removed
+never_removed : (t : Tree) (d : ℕ) (way : Way) (all : List ProcessState) →
+    (is_mount t d ≡ false → ((name : List ℕ) (x : ℕ) → look t d name ≡ Some x → Can t standard_table all (Free (Old d) name)) → ⊥) →
+    IsJointlyAllowed t standard_table all mover (Stands (At (Whole d way))) call.Rmdir → ⊥
+never_removed t d way all never can = by can.shows can.allowed
+  where
+    allowed : Cover → Object → Bool
+    allowed k object = is_allowed (covered_verdict empty_tree standard_table mover call.Rmdir k object)
+
+    lasts : (fault : Option Errno) →
+        is_allowed (allowed_unless (or_fault fault (object_fault standard_table.whose empty_tree call.Rmdir lasting_dir))) ≡ true → ⊥
+    lasts None e = false≢true e
+    lasts (Some errno) e = false≢true e
+
+    by : {k : Cover} {o : Object} → Shows t standard_table all mover (Stands (At (Whole d way))) k o → allowed k o ≡ true → ⊥
+    by {k = k} (shows_dir cover) e = lasts (cover_fault k (rule_of standard_table call.Rmdir).perms) e
+    by (shows_emptied other none cover free) e = never none free
 
 pub jointly_rows : JointlyRows
 jointly_rows = record {
@@ -226,4 +256,16 @@ jointly_rows = record {
     | inl at ↦ None≢Some 1 at.1
     | inr near ↦ false≢true (ap (λ n. n == 2) near)
   ];
+  kept = λ all free. mount_stays mounted_tree all 0 (codes "out") 2 refl refl refl free;
+  mounted = λ all can. never_removed mounted_tree 2 (Named 0 (codes "out")) all (λ none free. false≢true (sym none)) can;
+  above_it = λ all can.
+      never_removed mounted_in_tree 1 (Named 0 (codes "in")) all
+      (λ none free. mount_stays mounted_in_tree all 1 (codes "s") 3 refl refl refl (free (codes "s") 3 refl)) can;
+  removed = record {
+    cover = Only creating;
+    object = removable_dir;
+    shows = shows_emptied (λ root. false≢true (sym (ap (λ n. n == 2) root))) refl (dir_own refl refl) (λ name x at. absurd (None≢Some x at));
+    named = refl;
+    allowed = refl;
+  };
 }

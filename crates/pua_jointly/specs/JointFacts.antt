@@ -4,7 +4,7 @@
 -- Names at which no veil is are as one.
 use Rattle.std.specs.Prelude.{◌≡◌, ◌≢◌, ◌⊎◌, ⊤, ◌||◌, ◌==◌, false, ℕ, Bool, if◌then◌else◌, List, Some, None, IsTrue, IsFalse}
 use Rattle.std.specs.List.{Contains, list_any}
-use Rattle.pua_tree.specs.Tree.{Tree, device, is_dir, is_within, look, empty_tree}
+use Rattle.pua_tree.specs.Tree.{Tree, device, is_dir, is_mount, is_within, look, empty_tree}
 use Rattle.pua_calls.specs.Calls.{CallTable}
 use Rattle.pua_policy.specs.States.{ProcessState, has_veil, perms_kept, veils}
 use Rattle.pua_policy.specs.Verdict.{IsFile, IsMissing, covered_verdict, is_allowed}
@@ -195,7 +195,7 @@ module _ (t : Tree) (table : CallTable) (crew : List ProcessState) (watched : �
         IsTrue (can_move table a k) → other ≢ Old y → T (Clear y other) → seat_device t other ≡ device t y →
         Follows (Turns a y)
     taken_dir : {dir : ℕ} {name : List ℕ} (a : ProcessState) (d : ℕ) (k : Cover) → Contains crew a → IsTrue (may_take table a) →
-        look t dir name ≡ Some d → IsTrue (is_dir t d) → T (Covers a (Old d) k) → IsTrue (has_c k) → Follows (Taken dir name)
+        look t dir name ≡ Some d → IsTrue (is_dir t d) → IsFalse (is_mount t d) → T (Covers a (Old d) k) → IsTrue (has_c k) → Follows (Taken dir name)
     taken_other : {dir : ℕ} {name : List ℕ} (a : ProcessState) (x : ℕ) (k : Cover) → Contains crew a → IsTrue (may_take table a) →
         look t dir name ≡ Some x → IsFalse (is_dir t x) → IsOver a (Old dir) name k → IsTrue (has_c k) → Follows (Taken dir name)
     creates_within : {by : Hand} {new : New} (d : Seat) (k : Cover) → seat_device t d ≡ by.1 → T (Covers by.0 d k) →

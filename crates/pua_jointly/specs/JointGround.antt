@@ -23,6 +23,7 @@ pub record Ground : Type 0 where
   pub watches : List Watch
   pub here : List Watch
   pub watch_columns : List (Option ℕ)
+  pub devices : List ℕ
 
 abbrev pub ground_of : Crew → Side → Ground
 ground_of c side = record {
@@ -37,6 +38,7 @@ ground_of c side = record {
   watches = c.watches.items;
   here = side.watches.items;
   watch_columns = c.watch_columns.items;
+  devices = c.devices.items;
 }
 
 abbrev pub ground_at : code.Ground → Ground

@@ -15,6 +15,7 @@ use Rattle.pua_jointly.specs.JointPlace.{new_bit}
 use Rattle.pua_jointly.specs.JointWords.{word_at, covers_in, clear_by, landing_word, meets, moves_at, moved_word, apart_word, made_word, with_c}
 use Rattle.pua_jointly.specs.JointWords.{dropped_word, some_meets, making, carried_kind, carrying}
 use Rattle.pua_jointly.specs.JointOld.{above_word, asked_word, old_word}
+use Rattle.pua_jointly.specs.JointSides.{is_top}
 use Rattle.pua_jointly.specs.declared.agent.Agent.{Agent}
 use Rattle.pua_jointly.specs.JointGround.{Ground, ground_of}
 use Rattle.pua_jointly.specs.declared.crew.Crew.{Crew}
@@ -148,6 +149,10 @@ takes_at c told entry by =
     && meets (if is_dir_kind (Some entry.kind) then word_at told c.columns entry.node by.place
     else asked_word by.named by.process.now told c.columns entry.dir entry.name.now by.place) with_c
 
+-- and by some process, if it is no mount point
+abbrev pub is_taken_away : Ground → List ℕ → Entry → Bool
+is_taken_away c told entry = not (is_top c.devices entry.node) && list_any (takes_at c told entry) c.agents
+
 -- the bits in a column of where a directory comes when it is moved, by its own column if it is watched
 abbrev pub come_by : Ground → List ℕ → ℕ → ℕ → Option ℕ → ℕ
 come_by c told dir column None = moved_word told c.columns c.movers dir column
@@ -232,7 +237,7 @@ agent_word t c told at (rows.Name i) of = row_word c told of (slice_get c.entrie
 
 abbrev pub taken_word : Ground → List ℕ → Option Entry → ℕ
 taken_word c told None = 0
-taken_word c told (Some entry) = flag (list_any (takes_at c told entry) c.agents) 0
+taken_word c told (Some entry) = flag (is_taken_away c told entry) 0
 
 abbrev pub made_by : Ground → List ℕ → Option Agent → ℕ
 made_by c told None = 0
@@ -286,6 +291,12 @@ by_agent_at_once c told about (Some of) = agent_at_once c told about of
 abbrev pub part_at_once : Ground → List ℕ → Row → Part → ℕ
 part_at_once c told about (parts.Agent i) = by_agent_at_once c told about (slice_get c.agents i)
 part_at_once c told about _ = 0
+
+-- a word of a name has one bit alone, and that of all processes none on a directory
+abbrev pub is_full : Row → Part → ℕ → Bool
+is_full (rows.Name i) p word = has_one word 0
+is_full (rows.Dir dir) parts.Common word = true
+is_full _ p word = false
 
 -- the same on the device of the row, if it has one
 abbrev pub side_word : Tree → Crew → List ℕ → ℕ → Row → Part → Option Side → ℕ

@@ -56,6 +56,13 @@ pub record IsEntryAt (t : Tree) (first i : ℕ) (entry : Entry) : Type 0 where
   pub at : look t entry.dir entry.name.now ≡ Some entry.node
   pub kind : kind_at t entry.node ≡ Some entry.kind
 
+-- what is asked of a row of the tree
+pub record IsEntryOfRow (t : Tree) (at : LentRow) (number : ℕ) (entry : Entry) : Type 0 where
+  pub row : entry.row ≡ number
+  pub spot : entry_of entry ≡ (at.dir, at.name.now)
+  pub node : entry.node ≡ at.node
+  pub kind : kind_at t at.node ≡ Some entry.kind
+
 -- names in order, by directory and then by bytes: each name has its place among them
 abbrev pub AreInOrder : List Entry → Type 0
 AreInOrder entries = (spot : Spot) → IsNonDecreasingBy (λ entry. ordering_index (spot_cmp (entry_of entry) spot)) entries

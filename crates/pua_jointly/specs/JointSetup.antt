@@ -11,7 +11,7 @@ use Rattle.pua_jointly.specs.Jointly.{Hand}
 use Rattle.pua_jointly.specs.JointTable.{Layout, FollowsAt, TableFits, Entity, DirAt, MadeBy, LandingOf, DropsOf, NameAt, columns, entities}
 use Rattle.pua_jointly.specs.JointTable.{hands_of, table_says}
 use Rattle.pua_jointly.specs.JointPlace.{Once}
-use Rattle.pua_jointly.specs.JointSetting.{AreColumns, AreInOrder}
+use Rattle.pua_jointly.specs.JointSetting.{AreColumns, AreDevices, AreInOrder}
 use Rattle.pua_jointly.specs.JointShape.{entity_of}
 use Rattle.pua_jointly.specs.JointWords.{AreAgents, AreMovers}
 use Rattle.pua_jointly.specs.declared.crew.Crew.{Crew}
@@ -148,6 +148,7 @@ pub record IsCrew (t : Tree) (table : CallTable) (crew : List ProcessState) (dev
   pub low_nodes : (entry : Entry) → Contains c.entries.items entry → entry.node < dirs_of c
   pub watches : AreWatches (dirs_of c) (length crew) guarded c.watches.items
   pub watch_columns : AreColumns c.watches.items c.watch_columns.items
+  pub on_devices : AreDevices t (dirs_of c) c.devices.items
   pub rows : (row : ℕ) (about : Row) (e : Entity) → slice_get (entities (hands_of crew devices) (dirs_of c) spots) row ≡ Some e →
       entity_of (hands_of crew devices) spots about ≡ Some e → HasSide t table crew (hands_of crew devices) (dirs_of c) spots c about e
   pub only_rows : (about : Row) → entity_of (hands_of crew devices) spots about ≡ None → side_of c about ≡ None

@@ -7,7 +7,7 @@ use Rattle.pua_jointly.specs.declared.crew.Mark.{Mark}
 use Rattle.pua_jointly.specs.declared.crew.Side.{Side}
 use Rattle.pua_jointly.specs.declared.crew.Watch.{Watch}
 use Rattle.pua_jointly.specs.declared.mover.Mover.{Mover}
-use Rattle.pua_jointly.specs.declared.setup.Parts.{Parts}
+use Rattle.pua_jointly.specs.declared.parts.Parts.{Parts}
 
 -- a directory is on a device, by the devices of directories
 abbrev pub is_there : ℕ → Option ℕ → Bool
@@ -16,6 +16,10 @@ is_there device (Some on) = on == device
 
 abbrev pub is_on_device : List ℕ → ℕ → ℕ → Bool
 is_on_device devices device dir = is_there device (slice_get devices dir)
+
+-- it is the first one of its device: the root or a mount point, which nobody takes away
+abbrev pub is_top : List ℕ → ℕ → Bool
+is_top devices dir = is_on_device devices dir dir
 
 -- and so is what a row is of
 abbrev pub is_seat_on : ℕ → List ℕ → ℕ → ℕ → ℕ → ℕ → Bool

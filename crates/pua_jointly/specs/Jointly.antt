@@ -4,7 +4,7 @@
 use Rattle.std.specs.Prelude.{true, false, ◌≡◌, ◌≢◌, ◌⊎◌, ⊤, ◌&&◌, ◌||◌, not, ℕ, Bool, if◌then◌else◌, List, [], ◌∷◌, ◌++◌, map, filter, flat_map}
 use Rattle.std.specs.Prelude.{is_some, Option, Some, None, Result, Ok, IsTrue, IsFalse}
 use Rattle.std.specs.List.{AllByRecursion, Contains, list_any}
-use Rattle.pua_tree.specs.Tree.{Tree, Spot, device, is_dir, look, kind_at, empty_tree}
+use Rattle.pua_tree.specs.Tree.{Tree, Spot, device, is_dir, is_mount, look, kind_at, empty_tree}
 use Rattle.pua_tree.specs.declared.node.Kind.{Kind}
 use Rattle.pua_path.specs.Fits.{is_link_kind}
 use Rattle.pua_path.specs.Resolution.{resolution_of_text}
@@ -136,11 +136,11 @@ pub data Can (t : Tree) (table : CallTable) (crew : List ProcessState) : Fact �
       Can t table crew (NameCover a d name (Only perms))
   name_within : {a : ProcessState} {d : Seat} {name : List ℕ} {k : Cover} → name_veil a d name ≡ None → Can t table crew (DirCover a d k) →
       Can t table crew (NameCover a d name k)
-  -- nothing stood there, or some process that may take names away comes to have `c` on what did
+  -- nothing stood there, or some process that may take names away comes to have `c` on what did, and that is no mount point
   free_none : {dir : ℕ} {name : List ℕ} → look t dir name ≡ None → Can t table crew (Free (Old dir) name)
   free_made : {maker : Hand} {name : List ℕ} → Can t table crew (Free (Made maker) name)
   free_dir : {dir : ℕ} {name : List ℕ} (a : ProcessState) (d : ℕ) (k : Cover) → Contains crew a → IsTrue (may_take table a) →
-      look t dir name ≡ Some d → IsTrue (is_dir t d) → Can t table crew (DirCover a (Old d) k) → IsTrue (has_c k) →
+      look t dir name ≡ Some d → IsTrue (is_dir t d) → IsFalse (is_mount t d) → Can t table crew (DirCover a (Old d) k) → IsTrue (has_c k) →
       Can t table crew (Free (Old dir) name)
   free_other : {dir : ℕ} {name : List ℕ} (a : ProcessState) (x : ℕ) (k : Cover) → Contains crew a → IsTrue (may_take table a) →
       look t dir name ≡ Some x → IsFalse (is_dir t x) → Can t table crew (NameCover a (Old dir) name k) → IsTrue (has_c k) →
@@ -175,7 +175,7 @@ pub data Can (t : Tree) (table : CallTable) (crew : List ProcessState) : Fact �
 pub data Shows (t : Tree) (table : CallTable) (crew : List ProcessState) (a : ProcessState) : Thing → Cover → Object → Type 0 where
   shows_dir : {d : ℕ} {way : Way} {k : Cover} → Can t table crew (DirCover a (Old d) k) →
       Shows t table crew a (Stands (At (Whole d way))) k lasting_dir
-  shows_emptied : {d : ℕ} {way : Way} {k : Cover} → d ≢ 0 → Can t table crew (DirCover a (Old d) k) →
+  shows_emptied : {d : ℕ} {way : Way} {k : Cover} → d ≢ 0 → IsFalse (is_mount t d) → Can t table crew (DirCover a (Old d) k) →
       ((name : List ℕ) (x : ℕ) → look t d name ≡ Some x → Can t table crew (Free (Old d) name)) →
       Shows t table crew a (Stands (At (Whole d way))) k removable_dir
   shows_others : {d : ℕ} {k : Cover} → Can t table crew (DirCover a (Old d) k) → Shows t table crew a (Stands (Others d)) k IsMissing

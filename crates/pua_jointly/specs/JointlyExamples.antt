@@ -15,7 +15,7 @@ use Rattle.pua_ever.specs.ThroughExamples.{directory, file, program, started_tre
 use Rattle.pua_ever.specs.declared.lasting_list.ExecBound.TheVariants.{Bounded, Never, Open}
 use Rattle.pua_jointly.specs.JointRefusals.{first_refusal}
 use Rattle.pua_jointly.specs.JointPrograms.{agents_by, started_of, worst}
-use Rattle.pua_jointly.specs.Jointly.{Can, IsJointlyAllowed, IsJointlyListed, Maker, Old, Row, Seat, StandsAt, StandsIn, as_started, seat_device, sends_to_set}
+use Rattle.pua_jointly.specs.Jointly.{Can, Free, IsJointlyAllowed, IsJointlyListed, Maker, Old, Row, Seat, StandsAt, StandsIn, as_started, seat_device, sends_to_set}
 use Rattle.pua_ever.specs.declared.refusal.EverRefusal.TheVariants.{CanUnveil}
 
 -- who moves from /in to /out and reads nothing, and who reads in /out and sees nothing else
@@ -99,6 +99,19 @@ mounted_tree = record started_tree {
   nodes = (0, directory) ∷ (1, directory) ∷ (2, record directory { mount = true }) ∷ (3, file) ∷ (4, program) ∷ [];
 }
 
+-- and where one is mounted on /in/s
+abbrev pub mounted_in_tree : Tree
+mounted_in_tree = record started_tree {
+  nodes = (0, directory) ∷ (1, directory) ∷ (2, directory) ∷ (3, record directory { mount = true }) ∷ (4, program) ∷ [];
+}
+
+-- the directories /in and /out
+abbrev pub in_dir : Thing
+in_dir = Stands (At (Whole 1 (Named 0 (codes "in"))))
+
+abbrev pub out_dir : Thing
+out_dir = Stands (At (Whole 2 (Named 0 (codes "out"))))
+
 pub record JointlyRows : Type 0 where
   -- the reader comes to read what the mover brings, which has no promise to read it
   pub brought : IsJointlyAllowed started_tree standard_table crew reader file_in call.OpenRead
@@ -121,7 +134,7 @@ pub record JointlyRows : Type 0 where
   -- one reads what another put at a name that it has a veil on, which the first hasn't
   pub placed : IsJointlyAllowed started_tree standard_table (placer ∷ reader ∷ []) reader file_in call.OpenRead
   -- a directory that is moved comes under the veils over where it stands then
-  pub followed : IsJointlyAllowed started_tree standard_table crew reader (Stands (At (Whole 1 (Named 0 (codes "in"))))) call.OpenRead
+  pub followed : IsJointlyAllowed started_tree standard_table crew reader in_dir call.OpenRead
   -- who can put veils still is named by its place
   pub second : first_refusal standard_table 0 (mover ∷ new_process ∷ []) ≡ Some (1, CanUnveil)
   -- what is started holds what was handed down, under the same veils; nothing bounded is, where nothing was
@@ -144,3 +157,8 @@ pub record JointlyRows : Type 0 where
       Can mounted_tree standard_table all (StandsAt (Maker NewLink (mover, 2)) (Old 1) name) → ⊥
   -- and the directory /in stays out of it
   pub out_of_it : (all : List ProcessState) → Can mounted_tree standard_table all (StandsIn (Old 1) (Old 2)) → ⊥
+  -- nobody takes the mount point away, nor a directory above one, which the mover takes where none is mounted
+  pub kept : (all : List ProcessState) → Can mounted_tree standard_table all (Free (Old 0) (codes "out")) → ⊥
+  pub mounted : (all : List ProcessState) → IsJointlyAllowed mounted_tree standard_table all mover out_dir call.Rmdir → ⊥
+  pub above_it : (all : List ProcessState) → IsJointlyAllowed mounted_in_tree standard_table all mover in_dir call.Rmdir → ⊥
+  pub removed : IsJointlyAllowed started_tree standard_table crew mover out_dir call.Rmdir

@@ -53,6 +53,7 @@ pub(crate) struct Agent<'t> {
 impl Agent<'_> {
     /// The permissions of the veil that it has on a directory, if it has one. They are looked up
     /// only where it has.
+    #[inline(always)]
     pub(crate) fn kept(&self, dir: NodeId) -> Option<Perms>
         ensures { result ≡ perms_kept self.now.process.now (OnDir dir) }
     {

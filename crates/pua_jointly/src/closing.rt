@@ -8,7 +8,8 @@ use std::alloc::{AllocError, Global};
 
 /// What follows from the facts of a table, word by word.
 pub(crate) trait Steps {
-    ghost use Rattle.std.specs.Prelude.{ℕ, List, ◌≡◌, ◌<◌, ◌≤◌, ◌+◌, ◌*◌};
+    ghost use Rattle.std.specs.Prelude.{ℕ, List, ◌≡◌, ◌<◌, ◌≤◌, ◌+◌, ◌*◌, get_or};
+    ghost use Rattle.std.specs.Int.Bits.{bit_or};
     ghost use Rattle.pua_jointly.specs.Closing.{Reached, has_bit};
 
     /// That a fact of a word follows from the facts of a table.
@@ -30,10 +31,11 @@ pub(crate) trait Steps {
     fn at_once(&self, told: &[u32], at: usize) -> u32
         ensures { (bit : ℕ) → has_bit result bit → follows self.now told.now at bit };
 
-    /// The facts of a word that follow.
+    /// The facts of a word that follow, but for some that it has.
     fn next(&self, told: &[u32], at: usize) -> u32
         ensures only { (bit : ℕ) → has_bit result bit → follows self.now told.now at bit }
-        ensures all { (bit : ℕ) → follows self.now told.now at bit → has_bit result bit };
+        ensures all { (bit : ℕ) → follows self.now told.now at bit →
+            has_bit (bit_or (get_or told.now at 0) result) bit };
 }
 
 /// The least table of so many rows from which nothing more follows. Before all rows are gone over

@@ -13,7 +13,7 @@ ghost use Rattle.pua_jointly.specs.JointSetting.{AreInOrder, IsEntryIn, entry_of
 ghost use Rattle.pua_jointly.specs.JointWords.{carrying as carrying_of, making as making_of};
 
 use crate::agent::Agent;
-use crate::doing::{COUNT, cover_at};
+use crate::doing::{COUNT, cover_at, first_from};
 use crate::mover::Mover;
 use crate::shape::Shape;
 use crate::words::has;
@@ -32,11 +32,13 @@ impl Agent<'_> {
             (allows_under table.now self.now.process.now covers judged call) (numbered 18) }
     {
         let mut calls = Calls::NONE;
-        for bit in 0..COUNT {
+        let mut bit = first_from(covers, 0);
+        while bit < COUNT {
             if has(covers, bit) {
                 let more = self.calls_at(table, bit, cover_at(bit), object);
                 calls = calls.union(more);
             }
+            bit = first_from(covers, bit + 1);
         }
         calls
     }

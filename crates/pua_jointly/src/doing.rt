@@ -1,6 +1,6 @@
 //! Covers as bits, and what a process can do under each of them.
 
-ghost use Rattle.std.specs.Prelude.{◌≡◌, ◌<◌, ◌==◌, ◌&&◌, ◌||◌, if◌then◌else◌, IfOk};
+ghost use Rattle.std.specs.Prelude.{◌≡◌, ◌<◌, ◌≤◌, ◌==◌, ◌&&◌, ◌||◌, ℕ, if◌then◌else◌, IfOk};
 ghost use Rattle.std.specs.Int.{bit_at};
 ghost use Rattle.std.specs.List.{list_any};
 ghost use Rattle.pua_calls.specs.CallSets.{has as has_call};
@@ -131,6 +131,24 @@ impl Allowed {
             Object::Node(Kind::Known(FileType::Dev)) => self.device,
         }
     }
+}
+
+/// The first bit of these covers from one on, or how many covers there are.
+pub(crate) fn first_from(covers: u32, bit: u32) -> u32
+    ensures more { bit ≤ 18 → bit ≤ result }
+    ensures within { result ≤ 18 }
+    ensures none { (between : ℕ) → bit ≤ between → between < result →
+        bit_at covers between ≡ 0 }
+{
+    if bit >= COUNT {
+        return COUNT;
+    }
+    let rest = covers >> bit;
+    if rest == 0 {
+        return COUNT;
+    }
+    let found = bit + rest.trailing_zeros();
+    if found < COUNT { found } else { COUNT }
 }
 
 /// The calls that are allowed to a process under a cover on what is of this kind.

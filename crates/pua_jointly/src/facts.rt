@@ -77,6 +77,7 @@ impl Facts<'_> {
     }
 
     /// Those that can come over what stands at a name and is no directory.
+    #[inline(always)]
     pub(crate) fn on_entry(&self, of: &Agent<'_>, entry: &Entry<'_>) -> u32
         ensures { result ≡ entry_word self.now.crew self.now.told.items of.now entry.now }
     {

@@ -1,10 +1,11 @@
 //! The facts of a crew.
 
-ghost use Rattle.std.specs.Prelude.{◌≡◌, ◌+◌, ◌==◌, length, IfOk, IfSome, MatchResult, None, OnOk};
+ghost use Rattle.std.specs.Prelude.{◌≡◌, ◌+◌, ◌==◌, get_or, length, IfOk, IfSome, MatchResult, None, OnOk};
 ghost use Rattle.std.specs.List.{AllByRecursion};
 ghost use Rattle.pua_tree.specs.Tree.{is_dir as lives_as_dir};
 ghost use Rattle.pua_jointly.specs.JointFound.{AreFacts};
 ghost use Rattle.pua_jointly.specs.JointMembers.{states};
+ghost use Rattle.pua_jointly.specs.JointRounds.{is_full};
 ghost use Rattle.pua_jointly.specs.JointSetup.{AreStanding};
 ghost use Rattle.pua_jointly.specs.JointRefusals.{IsLasting, first_refusal, first_refused_in};
 
@@ -13,8 +14,10 @@ use crate::crew::Crew;
 use crate::facts::Facts;
 use crate::fault::FactsFault;
 use crate::marks::is_marked;
+use crate::rounds::GOES;
 use crate::setup::work_out;
-use crate::shape::Row;
+use crate::shape::{Part, Row};
+use crate::words::has;
 use pua_calls::CallTable;
 use pua_ever::{EverRefusal, why_refused};
 use pua_policy::Process;
@@ -192,6 +195,9 @@ impl<T: FileTree> Steps for Rounds<'_, '_, T> {
     fn at_once(&self, told: &[u32], at: usize) -> u32 {
         let crew = self.crew;
         let row = at / crew.columns;
+        if row > crew.shape.last as usize {
+            return 0;
+        }
         let column = at % crew.columns;
         crew.at_once(told, crew.shape.row(row), crew.shape.part(column))
     }
@@ -200,6 +206,9 @@ impl<T: FileTree> Steps for Rounds<'_, '_, T> {
         let crew = self.crew;
         let row = at / crew.columns;
         let column = at % crew.columns;
+        if is_full(crew.shape.row(row), crew.shape.part(column), told, at) {
+            return 0;
+        }
         crew.part(
             self.tree,
             told,
@@ -207,5 +216,23 @@ impl<T: FileTree> Steps for Rounds<'_, '_, T> {
             crew.shape.row(row),
             crew.shape.part(column),
         )
+    }
+}
+
+/// Whether a word has all facts that it can ever have: one of a name has a bit alone, and that of all
+/// processes none on a directory.
+fn is_full(about: Row, part: Part, told: &[u32], at: usize) -> bool
+    ensures { result ≡ is_full about part (get_or told.now at 0) }
+{
+    match about {
+        Row::Name(_) => match told.get(at) {
+            Some(word) => has(*word, GOES),
+            None => false,
+        },
+        Row::Dir(_) => match part {
+            Part::Common => true,
+            Part::Agent(_) | Part::Watched(_) => false,
+        },
+        Row::Made(_) | Row::Landing(_) | Row::Drops(_) => false,
     }
 }

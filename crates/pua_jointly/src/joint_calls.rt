@@ -24,6 +24,7 @@ ghost use Rattle.pua_policy.specs.Verdict.{Is};
 ghost use Rattle.pua_jointly.specs.JointCovers.{AreCallsByCover, allows_under, numbered};
 ghost use Rattle.pua_jointly.specs.JointFound.{new_covers};
 ghost use Rattle.pua_jointly.specs.JointSetting.{AreInOrder, IsEntryIn, IsEntryOf};
+ghost use Rattle.pua_jointly.specs.JointSides.{is_top};
 
 use crate::agent::Agent;
 use crate::crew::{Entry, Group, entry_after, entry_at};
@@ -117,7 +118,8 @@ impl Facts<'_> {
         }
     }
 
-    /// Those on a directory: rmdir too, where it can come to be empty and is not the root.
+    /// Those on a directory: rmdir too, where it can come to be empty, and is neither the root nor a
+    /// mount point.
     fn calls_on_dir(&self, of: &Agent<'_>, table: &CallTable, dir: NodeId) -> Calls
         ensures { (t : Tree) (crew : List ProcessState) (a : ProcessState) (way : Way) →
             IsOf t table.now crew self.now a of.now → is_dir t dir ≡ true →
@@ -132,11 +134,12 @@ impl Facts<'_> {
         lasting.union(emptied)
     }
 
-    /// Whether a directory can come to be empty, and is not the root.
+    /// Whether a directory can come to be empty, and is neither the root nor a mount point.
     fn is_removable(&self, dir: NodeId) -> bool
-        ensures { result ≡ (not (dir == 0) && not (get_or self.now.held.items dir false)) }
+        ensures { result ≡ (not (is_top self.now.crew.devices.items dir)
+            && not (get_or self.now.held.items dir false)) }
     {
-        dir != NodeId::ROOT && self.is_emptied(dir)
+        !self.crew.is_top(dir) && self.is_emptied(dir)
     }
 
     /// Those on the further names of a directory.

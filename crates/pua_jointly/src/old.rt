@@ -31,6 +31,7 @@ pub(crate) fn old<T: FileTree>(
 
 /// The covers by the veils of one process of a name at which no directory stands, in a directory
 /// that stands. Its veils are asked only where it has one at a name.
+#[inline(always)]
 pub(crate) fn over(told: &[u32], columns: usize, of: &Agent<'_>, dir: NodeId, name: &Name) -> u32
     ensures { result ≡ asked_word of.now.named of.now.process.now told.now columns dir name.now
         of.now.place }

@@ -10,6 +10,7 @@ ghost use Rattle.pua_jointly.specs.JointOld.{asked_word};
 ghost use Rattle.pua_jointly.specs.JointWords.{word_at};
 ghost use Rattle.pua_jointly.specs.JointSetup.{dir_side, hand_side, has_hand, is_of_device};
 ghost use Rattle.pua_jointly.specs.JointSetup.{side_of};
+ghost use Rattle.pua_jointly.specs.JointSides.{is_top};
 ghost use Rattle.pua_jointly.specs.JointGround.{ground_at, ground_of};
 ghost use Rattle.pua_jointly.specs.JointRounds.{agent_at_once, part_at_once, side_at_once};
 ghost use Rattle.pua_jointly.specs.JointRounds.{side_word};
@@ -20,7 +21,7 @@ ghost use Rattle.pua_jointly.specs.JointRounds.{carries_on, clears_dir, clears_l
 ghost use Rattle.pua_jointly.specs.JointRounds.{clears_new, come_word, comes_clear, comes_in};
 ghost use Rattle.pua_jointly.specs.JointRounds.{common_word, create_flag, dir_word, drops_word};
 ghost use Rattle.pua_jointly.specs.JointRounds.{finds, flag, gives_c, is_clear, is_freed};
-ghost use Rattle.pua_jointly.specs.JointRounds.{is_taken, is_turned, makers_word, mark_word};
+ghost use Rattle.pua_jointly.specs.JointRounds.{is_taken, is_taken_away, is_turned, makers_word, mark_word};
 ghost use Rattle.pua_jointly.specs.JointRounds.{new_word, opens, opens_in, part_word, put_at};
 ghost use Rattle.pua_jointly.specs.JointRounds.{replaces, stands_in, stays_in, takes_at};
 ghost use Rattle.pua_jointly.specs.JointRounds.{turns_at, watched_word};
@@ -30,6 +31,7 @@ use crate::crew::{Crew, Entry, Mark, Side, Watch};
 use crate::made::{made_bit, made_node};
 use crate::mover::Mover;
 use crate::old::{above, old, over};
+use crate::setup::is_on_device;
 use crate::shape::{Part, Row};
 use crate::words::{
     CLEAR, ENTERS, WITH_C, apart, covers_of, covers_some, does_meet, dropped, has, is_clear_apart,
@@ -97,6 +99,7 @@ impl<'t> Crew<'t> {
     }
 
     /// The device of a row.
+    #[inline(always)]
     fn side(&self, row: Row) -> Option<&Side<'t>>
         ensures { option_map (λ side. side.now) result ≡ side_of self.now row }
     {
@@ -118,6 +121,13 @@ impl<'t> Crew<'t> {
             Some(device) => self.device_side(*device),
             None => None,
         }
+    }
+
+    /// Whether a directory is the first one of its device: the root, or a mount point.
+    pub(crate) fn is_top(&self, dir: NodeId) -> bool
+        ensures { result ≡ is_top self.now.devices.items dir }
+    {
+        is_on_device(&self.devices, dir, dir)
     }
 
     /// The device with a number.
@@ -252,7 +262,7 @@ impl Ground<'_, '_> {
                 None => 0,
             },
             Row::Name(entry) => match self.crew.entries.get(entry) {
-                Some(entry) => flag(self.takes(told, entry), GOES),
+                Some(entry) => flag(self.is_taken_away(told, entry), GOES),
                 None => 0,
             },
             Row::Dir(_) | Row::Made(_) | Row::Landing(_) => 0,
@@ -415,6 +425,7 @@ impl Ground<'_, '_> {
     }
 
     /// Whether a process can put another directory into one.
+    #[inline(always)]
     fn enters<T: FileTree>(&self, tree: &T, told: &[u32], of: &Agent<'_>, seat: usize) -> bool
         ensures { result ≡ can_enter (T.content tree.now) (ground_at self.now) told.now of.now seat }
     {
@@ -651,7 +662,14 @@ impl Ground<'_, '_> {
         )
     }
 
-    /// Whether one of the processes can take away what stands at a name.
+    /// Whether what stands at a name can be taken away: it is no mount point.
+    fn is_taken_away(&self, told: &[u32], entry: &Entry<'_>) -> bool
+        ensures { result ≡ is_taken_away (ground_at self.now) told.now entry.now }
+    {
+        !self.crew.is_top(entry.node) && self.takes(told, entry)
+    }
+
+    /// Whether one of the processes can do so by what covers that.
     fn takes(&self, told: &[u32], entry: &Entry<'_>) -> bool
         ensures { result ≡ list_any (takes_at (ground_at self.now) told.now entry.now) (ground_at self.now).agents }
     {

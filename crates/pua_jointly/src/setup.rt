@@ -1,19 +1,17 @@
 //! What is worked out of several processes and a tree before their facts are found.
 
-ghost use Rattle.std.specs.Prelude.{◌≡◌, ◌≢◌, ◌<◌, ◌≤◌, ◌*◌, ◌+◌, ◌==◌, ◌^◌, ◌||◌, ℕ, List, Some, None, map, length};
+ghost use Rattle.std.specs.Prelude.{◌≡◌, ◌<◌, ◌+◌, ◌==◌, ◌||◌, ℕ, List, Some, None, map, length};
 ghost use Rattle.std.specs.Prelude.{false, get_or, slice_get};
 ghost use Rattle.std.specs.Prelude.{IfOk, IfSome, MatchOption, filter};
 ghost use Rattle.std.specs.List.{Contains, fold, list_any};
-ghost use Rattle.pua_tree.specs.LentRows.{lent_entry};
-ghost use Rattle.pua_tree.specs.Tree.{WellFormed, device, kind_at};
+ghost use Rattle.pua_tree.specs.Tree.{device};
 ghost use Rattle.pua_policy.specs.States.{ProcessState, perms_kept};
 ghost use Rattle.pua_ever.specs.Laws.{dir_of_place};
 ghost use Rattle.pua_jointly.specs.Jointly.{can_send, sets_received};
 ghost use Rattle.pua_jointly.specs.JointMembers.{Each, SameMembers, states, veil_now};
-ghost use Rattle.pua_jointly.specs.JointSetting.{AreInOrder, AreMarksOf, IsEntryAt};
-ghost use Rattle.pua_jointly.specs.JointSetting.{IsMarkOf, IsRowIn, is_on};
+ghost use Rattle.pua_jointly.specs.JointSetting.{AreMarksOf, IsMarkOf, IsRowIn, is_on};
 ghost use Rattle.pua_jointly.specs.JointPlace.{Once};
-ghost use Rattle.pua_jointly.specs.JointSetting.{AreDevices, IsShape, IsSize, entry_of, greater as greater_of};
+ghost use Rattle.pua_jointly.specs.JointSetting.{AreDevices, IsShape, IsSize, greater as greater_of};
 ghost use Rattle.pua_jointly.specs.JointSides.{IsMoverOf, IsPart, IsPartOn, is_on_device, is_seat_on};
 ghost use Rattle.pua_jointly.specs.JointSetting.{mark_spot, row_number, veil_number};
 ghost use Rattle.pua_jointly.specs.JointSetup.{IsWorkedOut, crew_told};
@@ -21,11 +19,13 @@ ghost use Rattle.pua_jointly.specs.JointTable.{numbers};
 ghost use Rattle.pua_jointly.specs.JointWords.{IsAgent, has_named, is_name};
 
 use crate::agent::Agent;
-use crate::crew::{Crew, Entry, Mark, Side, Watch, entry_at};
+use crate::crew::{Crew, Mark, Side, Watch, entry_at};
 use crate::doing::{Doing, calls_by_cover, covers_for, may_take};
+use crate::entries::{Entries, Rows, find_entries};
 use crate::marks::{mark, no_marks};
 use crate::members::{all_veils, distinct, know_perms};
 use crate::mover::Mover;
+use crate::parts::{HandNumber, Parts, Share};
 use crate::shape::Shape;
 use crate::size::Size;
 use crate::watching::find_watches;
@@ -63,25 +63,31 @@ pub(crate) fn work_out<'t, T: FileTree>(
         return Err(OutOfMemory);
     };
     let agents = ask_agents(alloc, &members, table, last)?;
-    let entries = find_entries(alloc, tree, &rows, size)?;
+    let named = Rows {
+        tree,
+        rows: &rows,
+        first: size.names,
+    };
+    let entries = find_entries(alloc, &named)?;
     let marks = find_marks(alloc, tree, &entries, &veils)?;
     let seats = all_seats(alloc, size)?;
     let parts = Parts {
         size,
         agents: &agents,
+        kinds: &kinds,
         devices: &devices,
         seats: &seats,
         marks: &marks,
         watches: &watches,
     };
-    let sides = find_sides(alloc, &kinds, &parts)?;
+    let sides = find_sides(alloc, &parts)?;
     Ok(Crew {
         shape,
         columns: size.columns,
         agents,
         sides,
         devices,
-        entries,
+        entries: entries.all,
         watches,
         watch_columns,
     })
@@ -291,59 +297,41 @@ fn ask_agent<'t>(
     })
 }
 
-/// All of which each device has its part, and the devices of directories by their numbers.
-#[derive(Clone, Copy)]
-struct Parts<'p, 't> {
-    size: Size,
-    agents: &'p [Agent<'t>],
-    devices: &'p [NodeId],
-    seats: &'p [usize],
-    marks: &'p [Mark<'t>],
-    watches: &'p [Watch],
-}
-
 /// What stands on each of some devices. The only error is that a growth was refused.
-fn find_sides<'t>(
-    alloc: Global,
-    kinds: &[NodeId],
-    parts: &Parts<'_, 't>,
-) -> Result<Vec<Side<'t>>, AllocError>
-    requires { length kinds.now * length parts.now.agents.now ≤ parts.now.size.shape.hands }
-    ensures devices { IfOk result (λ sides. map (λ side. side.device) sides.items ≡ kinds.now) }
+fn find_sides<'t>(alloc: Global, parts: &Parts<'_, 't>) -> Result<Vec<Side<'t>>, AllocError>
+    ensures devices { IfOk result (λ sides.
+        map (λ side. side.device) sides.items ≡ parts.now.kinds.now) }
     ensures each { IfOk result (λ sides. Each (IsPart parts.now) sides.items) }
 {
-    let agents = parts.agents.len();
+    let kinds = parts.kinds;
     let mut sides = Vec::new(alloc);
     for (place, device) in kinds.iter().enumerate() {
-        let Some(first) = place.checked_mul(agents) else {
-            return Err(AllocError);
+        let share = Share {
+            parts: *parts,
+            device: *device,
+            first: place * parts.agents.len(),
         };
-        let side = side_on(alloc, *device, first, parts)?;
+        let side = side_on(alloc, &share)?;
         sides.push(side)?;
     }
     Ok(sides)
 }
 
-/// What stands on a device, by the number of the processes on those before it. The only error is
-/// that a growth was refused.
-fn side_on<'t>(
-    alloc: Global,
-    device: NodeId,
-    first: usize,
-    parts: &Parts<'_, 't>,
-) -> Result<Side<'t>, AllocError>
-    requires { first + length parts.now.agents.now ≤ parts.now.size.shape.hands }
-    ensures device { IfOk result (λ side. side.device ≡ device) }
-    ensures first { IfOk result (λ side. side.first ≡ first) }
-    ensures part { IfOk result (IsPartOn parts.now) }
+/// What stands on a device. The only error is that a growth was refused.
+fn side_on<'t>(alloc: Global, share: &Share<'_, 't>) -> Result<Side<'t>, AllocError>
+    ensures device { IfOk result (λ side. side.device ≡ share.now.device) }
+    ensures first { IfOk result (λ side. side.first ≡ share.now.first) }
+    ensures part { IfOk result (IsPartOn share.now.parts) }
 {
-    let movers = find_movers(alloc, parts.agents, parts.size, first)?;
-    let seats = seats_on(alloc, parts.seats, parts, device, first)?;
+    let parts = &share.parts;
+    let device = share.device;
+    let movers = find_movers(alloc, share)?;
+    let seats = seats_on(alloc, parts.seats, parts, device, share.first)?;
     let marks = marks_on(alloc, parts.marks, parts.devices, device)?;
     let watches = watches_on(alloc, parts.watches, parts.devices, device)?;
     Ok(Side {
         device,
-        first,
+        first: share.first,
         movers,
         seats,
         marks,
@@ -417,36 +405,36 @@ fn watches_on(
     Ok(kept)
 }
 
-/// What the processes move on a device, by the number of them on those before it. The only error is
-/// that a growth was refused.
-fn find_movers(
-    alloc: Global,
-    agents: &[Agent<'_>],
-    size: Size,
-    first: usize,
-) -> Result<Vec<Mover>, AllocError>
-    requires { first + length agents.now ≤ size.shape.hands }
-    ensures many { IfOk result (λ movers. length movers.items ≡ length agents.now) }
-    ensures each { IfOk result (λ movers. Each (λ i mover. IsMoverOf agents.now (size.shape.last + 1)
-        size.shape.hands first i mover) movers.items) }
+/// What the processes move on a device. The only error is that a growth was refused.
+fn find_movers(alloc: Global, share: &Share<'_, '_>) -> Result<Vec<Mover>, AllocError>
+    ensures many { IfOk result (λ movers.
+        length movers.items ≡ length share.now.parts.agents.now) }
+    ensures each { IfOk result (λ movers. Each (IsMoverOf share.now.parts.agents.now
+        (share.now.parts.size.shape.last + 1) share.now.parts.size.shape.hands share.now.first)
+        movers.items) }
 {
+    let size = share.parts.size;
+    let agents = share.parts.agents;
     let mut movers = Vec::new(alloc);
     for (place, agent) in agents.iter().enumerate() {
-        movers.push(mover(agent, size, first + place))?;
+        let hand = share.first + place;
+        let number = HandNumber { size, hand };
+        movers.push(mover(agent, number))?;
     }
     Ok(movers)
 }
 
-/// What one of them moves there, by the number of its hand.
-fn mover(agent: &Agent<'_>, size: Size, hand: usize) -> Mover
-    requires { hand < size.shape.hands }
+/// What one of them moves there.
+fn mover(agent: &Agent<'_>, number: HandNumber) -> Mover
     ensures place { result.place ≡ agent.now.place }
     ensures moving { result.moving ≡ agent.now.moving }
-    ensures made { result.made ≡ (size.shape.last + 1) + hand }
-    ensures landing { result.landing ≡ (size.shape.last + 1) + (size.shape.hands + hand) }
-    ensures drops { result.drops
-        ≡ (size.shape.last + 1) + (size.shape.hands + (size.shape.hands + hand)) }
+    ensures made { result.made ≡ (number.size.shape.last + 1) + number.hand }
+    ensures landing { result.landing
+        ≡ (number.size.shape.last + 1) + (number.size.shape.hands + number.hand) }
+    ensures drops { result.drops ≡ (number.size.shape.last + 1)
+        + (number.size.shape.hands + (number.size.shape.hands + number.hand)) }
 {
+    let HandNumber { size, hand } = number;
     Mover {
         place: agent.place,
         moving: agent.moving,
@@ -470,7 +458,7 @@ fn is_seat_on(parts: &Parts<'_, '_>, device: NodeId, first: usize, seat: usize) 
 }
 
 /// Whether a directory is on a device.
-fn is_on_device(devices: &[NodeId], dir: NodeId, device: NodeId) -> bool
+pub(crate) fn is_on_device(devices: &[NodeId], dir: NodeId, device: NodeId) -> bool
     ensures { result ≡ is_on_device devices.now device dir }
 {
     match devices.get(dir.number() as usize) {
@@ -546,61 +534,15 @@ fn is_name(place: &Place) -> bool
     }
 }
 
-/// The names at which something stands. The only error is that a growth was refused.
-fn find_entries<'t, T: FileTree>(
-    alloc: Global,
-    tree: &T,
-    rows: &[LentRow<'t>],
-    size: Size,
-) -> Result<Vec<Entry<'t>>, AllocError>
-    requires rows { map lent_entry rows.now ≡ (T.content tree.now).rows }
-    requires room { size.names + length rows.now < 2 ^ 64 }
-    requires tree { WellFormed (T.content tree.now) }
-    ensures rows { IfOk result (λ entries.
-        map entry_of entries.items ≡ map (λ row. row.0) (T.content tree.now).rows) }
-    ensures each { IfOk result (λ entries.
-        Each (IsEntryAt (T.content tree.now) size.names) entries.items) }
-{
-    let mut entries = Vec::new(alloc);
-    for (place, row) in rows.iter().enumerate() {
-        let entry = entry(tree, row, size.names + place);
-        let Ok(()) = entries.push(entry) else {
-            return Err(AllocError);
-        };
-    }
-    Ok(entries)
-}
-
-/// What is asked of a name at which something stands, with its row in the table.
-fn entry<'t, T: FileTree>(tree: &T, at: &LentRow<'t>, row: usize) -> Entry<'t>
-    requires { kind_at (T.content tree.now) at.now.node ≢ None }
-    ensures row { result.row ≡ row }
-    ensures spot { entry_of result ≡ (at.now.dir, at.now.name.now) }
-    ensures node { result.node ≡ at.now.node }
-    ensures kind { kind_at (T.content tree.now) at.now.node ≡ Some result.kind }
-{
-    let Some(kind) = tree.kind(at.node) else {
-        unreachable!()
-    };
-    Entry {
-        row,
-        dir: at.dir,
-        name: at.name,
-        node: at.node,
-        kind,
-    }
-}
-
 /// The names with veils in directories that stand. The only error is that a growth was refused.
 fn find_marks<'t, T: FileTree>(
     alloc: Global,
     tree: &T,
-    entries: &[Entry<'_>],
+    entries: &Entries<'_>,
     veils: &[(&'t Place, &'t Perms)],
 ) -> Result<Vec<Mark<'t>>, AllocError>
-    requires { AreInOrder entries.now }
     ensures { IfOk result (λ marks.
-        AreMarksOf (T.content tree.now) entries.now (map veil_now veils.now) marks.items) }
+        AreMarksOf (T.content tree.now) entries.now.all.items (map veil_now veils.now) marks.items) }
 {
     let mut marks = Vec::new(alloc);
     for veil in veils {
@@ -615,10 +557,9 @@ fn find_marks<'t, T: FileTree>(
 }
 
 /// The name at which a veil is, if it is at a name in a directory that stands.
-fn mark_at<'t, T: FileTree>(tree: &T, entries: &[Entry<'_>], place: &'t Place) -> Option<Mark<'t>>
-    requires { AreInOrder entries.now }
+fn mark_at<'t, T: FileTree>(tree: &T, entries: &Entries<'_>, place: &'t Place) -> Option<Mark<'t>>
     ensures { MatchOption result (mark_spot (T.content tree.now) place.now ≡ None)
-        (IsMarkOf (T.content tree.now) entries.now place.now) }
+        (IsMarkOf (T.content tree.now) entries.now.all.items place.now) }
 {
     match place {
         Place::Slot(dir, name) if tree.kind(*dir) == Some(Kind::Dir) => Some(Mark {
@@ -631,12 +572,13 @@ fn mark_at<'t, T: FileTree>(tree: &T, entries: &[Entry<'_>], place: &'t Place) -
 }
 
 /// The row of what stands at a name, if anything does.
-fn row_of(entries: &[Entry<'_>], dir: NodeId, name: &Name) -> Option<usize>
-    requires { AreInOrder entries.now }
-    ensures { IsRowIn entries.now (dir, name.now) result }
+fn row_of(entries: &Entries<'_>, dir: NodeId, name: &Name) -> Option<usize>
+    ensures { IsRowIn entries.now.all.items (dir, name.now) result }
 {
-    let entry = entry_at(entries, dir, name)?;
-    Some(entry.row)
+    match entry_at(&entries.all, dir, name) {
+        Some(entry) => Some(entry.row),
+        None => None,
+    }
 }
 
 /// The rows of directories, and of what each process makes. The only error is that a growth was

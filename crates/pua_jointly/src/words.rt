@@ -259,6 +259,9 @@ pub(crate) fn covers_some(
 ) -> bool
     ensures { result ≡ some_meets told.now columns agent covers seats.now }
 {
+    if covers == 0 {
+        return false;
+    }
     seats.iter().any(|seat| does_meet(word(told, columns, *seat, agent), covers))
 }
 

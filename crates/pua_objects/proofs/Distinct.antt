@@ -1,5 +1,5 @@
 -- Spots sorted, each kept once.
-use Rattle.pua_objects.proofs.Common.{◌≡◌, ℕ, List, [], ◌∷◌, Bool, true, false, cond, map, refl, ap, ◌∙◌, Bor, ◌==◌, Ordering, Less, Equal}
+use Rattle.pua_objects.proofs.Common.{◌≡◌, ℕ, List, [], ◌∷◌, Bool, true, false, cond, map, refl, ap, ◌∙◌, Bor, ◌==◌, ◌++◌, append-nil, AllByRecursion, and_parts, arith, length, subst, sym, Ordering, Less, Equal}
 use Rattle.pua_objects.proofs.Common.{Greater, nat_cmp, Spot, spot_cmp, exact_spots, Rises, spot_now, AreInOrder}
 use Rattle.std.proofs.Common.{IsPermutation, ◌&&◌}
 use Rattle.std.specs.List.{dedup, dedup_from}
@@ -11,6 +11,10 @@ use Rattle.std.specs.List.Retain.{IsFiltered, DiffersFromLast}
 use Rattle.std.proofs.lemmas.List.Filters.{dedup_is}
 use Rattle.std.proofs.lemmas.List.Kept.{Contains-dedup, Contains-from_dedup, IsStrictlySortedBy-dedup}
 use Rattle.std.proofs.lemmas.List.Sorted.{Contains-permutation, IsPermutation-map, IsPermutation-sym}
+use Rattle.std.specs.FinMap.Entries.{below_all, is_sorted}
+use Rattle.std.specs.List.{Contains}
+use Rattle.std.specs.Ordering.{is_lt}
+use Rattle.std.proofs.lemmas.List.{length-append, nil_from_length}
 use Rattle.pua_tree.proofs.ForCallers.{spots_total}
 use Rattle.pua_audit.proofs.ForCallers.{rises_mapped}
 
@@ -74,3 +78,34 @@ module _ (E : Lent → Lent → Bool) (ties : (x y : Lent) → E x y ≡ eq_by_c
         no_other = λ s there. Contains-permutation (map spot_now sorted) given s back (Contains-from_dedup same_spot (map spot_now sorted) s
             (rw spots at there));
       }
+
+-- rows of a tree rise by their spots
+is_less : (o : Ordering) → is_lt o ≡ true → o ≡ Less
+is_less Less e = refl
+is_less Equal e = cc
+is_less Greater e = cc
+
+all_above : (s : Spot) (rows : List (Spot × ℕ)) → below_all spot_cmp s rows ≡ true →
+    AllByRecursion (λ y. spot_cmp s y ≡ Less) (map (λ row. row.0) rows)
+all_above s [] low = tt
+all_above s (row ∷ rows) low =
+    let both = and_parts (is_lt (spot_cmp s row.0)) (below_all spot_cmp s rows) low in
+    (is_less (spot_cmp s row.0) both.0, all_above s rows both.1)
+
+pub rows_rise : (rows : List (Spot × ℕ)) → is_sorted spot_cmp rows ≡ true → Rises spot_cmp (map (λ row. row.0) rows)
+rows_rise [] sorted = tt
+rows_rise (row ∷ rows) sorted =
+    let both = and_parts (below_all spot_cmp row.0 rows) (is_sorted spot_cmp rows) sorted in
+    (all_above row.0 rows both.0, rows_rise rows both.1)
+
+-- spots that rise, with no other beside them
+pub alone : (rows veiled spots : List Spot) → Rises spot_cmp rows → spots ≡ rows ++ veiled → length spots ≡ length rows →
+    AreInOrder (rows ++ veiled) spots
+alone rows veiled spots rises is many =
+    let none : veiled ≡ [] = nil_from_length veiled (omega (arith, many, ap length is, length-append rows veiled)) in
+    let same : spots ≡ rows = is ∙ ap (λ more. rows ++ more) none ∙ append-nil rows in
+    record {
+      rise = subst (Rises spot_cmp) (sym same) rises;
+      all = λ s there. subst (λ xs. Contains xs s) (sym is) there;
+      no_other = λ s there. subst (λ xs. Contains xs s) is there;
+    }

@@ -16,6 +16,7 @@ pub mod Distinct
 pub mod Entries
 pub mod Lined
 pub mod Ranges
+pub mod StandingRows
 pub mod Listed
 pub mod HandedDown
 pub mod ListGrows

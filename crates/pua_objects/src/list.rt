@@ -6,6 +6,7 @@ ghost use Rattle.std.specs.List.{AllByRecursion};
 ghost use Rattle.pua_tree.specs.Tree.{Spot, Tree, WellFormed, spot_cmp};
 ghost use Rattle.pua_policy.specs.States.{ProcessState};
 ghost use Rattle.pua_audit.specs.Laws.{Rises};
+ghost use Rattle.pua_objects.specs.Standing.{IsStanding};
 ghost use Rattle.pua_objects.specs.Laws.{HasPlaces};
 ghost use Rattle.pua_objects.specs.ListItems.{AreNear, IsToldIn, items_told, last_name};
 ghost use Rattle.pua_objects.specs.Listing.{IsListing, IsListingBefore, after_next, item_of};
@@ -18,6 +19,7 @@ use crate::item::{Item, Subject};
 use crate::over::{Over, outermost, over_dir, over_name};
 use crate::seen::{directory, is_directory};
 use crate::spots::spots;
+use crate::standing::Standing;
 use pua_policy::{Object, Process};
 use pua_tree::{FileTree, Kind, Name, NodeId, OutOfMemory};
 use std::alloc::{AllocError, Global};
@@ -67,13 +69,21 @@ pub fn list_items<'t, T: FileTree>(
     ensures places { OnOk result (HasPlaces process.now) }
 {
     tree.known();
-    let rows = tree.rows(alloc)?;
-    let spots = spots(alloc, &rows, process)?;
+    let standing = Standing::of(alloc, tree, process)?;
+    let spots = spots(alloc, standing.rows.as_slice(), process)?;
     let mut entered = Vec::new(alloc);
     let mut items = Vec::with_capacity(alloc, spots.len())?;
     enter_root(process, &mut entered, &mut items)?;
     while let Some(inner) = entered.pop() {
-        go_on(tree, process, &spots, &inner, &mut entered, &mut items)?;
+        go_on(
+            tree,
+            process,
+            &standing,
+            &spots,
+            &inner,
+            &mut entered,
+            &mut items,
+        )?;
     }
     Ok(items)
 }
@@ -111,13 +121,14 @@ fn enter_root(
 fn go_on<'t, T: FileTree>(
     tree: &T,
     process: &Process,
+    standing: &Standing<'t>,
     spots: &[(NodeId, &'t Name)],
     inner: &Entered,
     entered: &mut Vec<Entered>,
     items: &mut Vec<ListItem<'t>>,
 ) -> Result<(), AllocError>
     ensures listing { let t = T.content tree.now in let all = map spot_now spots.now in
-        AreSpots t process.now.veils all →
+        IsStanding t process.now standing.now → AreSpots t process.now.veils all →
         IsListing t process.now all (inner.now ∷ reverse entered.old.items) items.old.items →
         OnOk result
         (IsListing t process.now all (reverse entered.new.items) items.new.items) }
@@ -138,7 +149,9 @@ fn go_on<'t, T: FileTree>(
     let Ok(()) = entered.push(after) else {
         return Err(AllocError);
     };
-    add_entry(tree, process, spots, inner, name, depth, entered, items)
+    add_entry(
+        tree, process, standing, spots, inner, name, depth, entered, items,
+    )
 }
 
 /// Lists what stands at the next name of the innermost directory, or that nothing does. So many
@@ -146,6 +159,7 @@ fn go_on<'t, T: FileTree>(
 fn add_entry<'t, T: FileTree>(
     tree: &T,
     process: &Process,
+    standing: &Standing<'t>,
     spots: &[(NodeId, &'t Name)],
     inner: &Entered,
     name: &'t Name,
@@ -154,7 +168,8 @@ fn add_entry<'t, T: FileTree>(
     items: &mut Vec<ListItem<'t>>,
 ) -> Result<(), AllocError>
     ensures listing { let t = T.content tree.now in let all = map spot_now spots.now in
-        (around : List Inner) → AreSpots t process.now.veils all → depth ≡ length around →
+        (around : List Inner) → IsStanding t process.now standing.now →
+        AreSpots t process.now.veils all → depth ≡ length around →
         reverse entered.old.items ≡ after_next inner.now ∷ around →
         IsListingBefore t process.now all inner.now around name.now items.old.items →
         OnOk result
@@ -164,13 +179,15 @@ fn add_entry<'t, T: FileTree>(
     ensures longer { OnOk result (length items.old.items ≤ length items.new.items) }
 {
     tree.known();
-    let Some(id) = tree.look(inner.dir, name) else {
-        let over = over_name(process, inner.dir, name, &inner.over);
+    let veiled = standing.is_veiled(inner.dir);
+    let Some(there) = standing.found(tree, inner.next, inner.dir, name) else {
+        let over = over_name(process, veiled, inner.dir, name, &inner.over);
         return add_name(depth, inner.dir, name, Object::Missing, &over, items);
     };
-    let kind = tree.kind(id);
+    let id = there.0;
+    let kind = there.1;
     if !is_directory(kind) {
-        let over = over_name(process, inner.dir, name, &inner.over);
+        let over = over_name(process, veiled, inner.dir, name, &inner.over);
         return add_name(depth, inner.dir, name, Object::at_name(kind), &over, items);
     }
     let over = over_dir(process, id, &inner.over);

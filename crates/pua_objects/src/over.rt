@@ -1,8 +1,8 @@
 //! What covers something and whether it is at or below a root, handed down from directory to
 //! directory.
 
-ghost use Rattle.std.specs.Prelude.{◌≡◌, ◌||◌, ◌==◌, false};
-ghost use Rattle.pua_policy.specs.States.{root_dir};
+ghost use Rattle.std.specs.Prelude.{◌≡◌, ◌||◌, ◌==◌, None, false};
+ghost use Rattle.pua_policy.specs.States.{root_dir, veil_at};
 ghost use Rattle.pua_objects.specs.Veils.{IsHandedDown, IsOver, unveiled};
 
 use pua_policy::{Cover, Place, Process};
@@ -68,13 +68,19 @@ pub(crate) fn over_dir(process: &Process, dir: NodeId, over: &Over) -> Over
     own
 }
 
-/// The same at a name.
-#[tactic(auto, using(crate::proofs::HandedDown::none_over))]
-pub(crate) fn over_name(process: &Process, dir: NodeId, name: &Name, over: &Over) -> Over
-    ensures handed { IsHandedDown process.now (Place.Slot dir name.now) over.now result }
+/// The same at a name, in a directory in which a veil may be kept at a name, or is kept at none.
+pub(crate) fn over_name(
+    process: &Process,
+    veiled: bool,
+    dir: NodeId,
+    name: &Name,
+    over: &Over,
+) -> Over
+    ensures handed { (veiled ≡ false → veil_at process.now.veils (Place.Slot dir name.now) ≡ None) →
+        IsHandedDown process.now (Place.Slot dir name.now) over.now result }
     ensures inside { result.inside ≡ over.now.inside }
 {
-    if process.is_veiled() {
+    if veiled {
         own_or(process, &Place::Slot(dir, *name), over)
     } else {
         *over

@@ -3,7 +3,8 @@
 ghost use Rattle.std.specs.Prelude.{◌≡◌, [], ◌∷◌, ◌++◌, IfOk, OnOk, IsTrue, map, filter_map};
 ghost use Rattle.pua_policy.specs.States.{ProcessState};
 ghost use Rattle.pua_tree.specs.LentRows.{lent_entry};
-ghost use Rattle.pua_tree.specs.Tree.{Tree};
+ghost use Rattle.pua_tree.specs.Tree.{Tree, WellFormed, spot_cmp};
+ghost use Rattle.pua_audit.specs.Laws.{Rises};
 ghost use Rattle.pua_objects.specs.Laws.{is_place, HasPlaces};
 ghost use Rattle.pua_objects.specs.Spots.{spot_now, row_spot, veil_spot, AreAtNames, AreInOrder};
 ghost use Rattle.pua_objects.specs.Spots.{AreSpots};
@@ -21,21 +22,21 @@ pub(crate) fn spots<'t>(
     process: &'t Process,
 ) -> Result<Vec<(NodeId, &'t Name)>, OutOfMemory>
     ensures places { OnOk result (HasPlaces process.now) }
-    ensures spots { (t : Tree) → map lent_entry rows.now ≡ t.rows →
+    ensures spots { (t : Tree) → WellFormed t → map lent_entry rows.now ≡ t.rows →
         IfOk result (λ spots. AreSpots t process.now.veils (map spot_now spots.items)) }
 {
     let places = process.places(alloc)?;
     Ok(distinct_spots(alloc, rows, &places)?)
 }
 
-/// The spots of rows and of veils, each once, in order.
+/// The spots of rows, which are in order, and of veils, each once, in order.
 fn distinct_spots<'t>(
     alloc: Global,
     rows: &[LentRow<'t>],
     places: &[&'t Place],
 ) -> Result<Vec<(NodeId, &'t Name)>, AllocError>
     ensures places { OnOk result (AreAtNames (map (λ place. place.now) places.now)) }
-    ensures spots { IfOk result
+    ensures spots { Rises spot_cmp (map row_spot rows.now) → IfOk result
         (λ spots. AreInOrder (map row_spot rows.now
         ++ filter_map veil_spot (map (λ place. place.now) places.now)) (map spot_now spots.items)) }
 {
@@ -44,6 +45,9 @@ fn distinct_spots<'t>(
         .map(|row| (row.dir, row.name))
         .collect(alloc)?;
     add_veiled(&mut spots, places)?;
+    if spots.len() == rows.len() {
+        return Ok(spots);
+    }
     spots.sort()?;
     spots.dedup();
     Ok(spots)

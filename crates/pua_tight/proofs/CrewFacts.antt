@@ -186,7 +186,7 @@ module _ (t : Tree) (table : CallTable) (crew others : List ProcessState) (each 
   seated (name_within h1 h2) = seated h2
   seated (free_none h1) = tt
   seated free_made = tt
-  seated (free_dir a d k h1 h2 h3 h4 h5 h6) = tt
+  seated (free_dir a d k h1 h2 h3 h4 none h5 h6) = tt
   seated (free_other a x k h1 h2 h3 h4 h5 h6) = tt
   seated (way_in_by_c k h1 h2) = seated h1
   seated (way_in_by_name {a = a} {d = d} name perms h1 h2 h3 h4) = named_seat a d name h2
@@ -264,11 +264,11 @@ module _ (t : Tree) (table : CallTable) (crew others : List ProcessState) (each 
       }
   too (free_none {name = name} h1) = λ at. at_old others (λ e. Can t table others (Free e name)) at (free_none h1)
   too (free_made {name = name}) = λ at. at_made others (λ e. Can t table others (Free e name)) at (λ one. free_made)
-  too (free_dir {name = name} a d k h1 h2 h3 h4 h5 h6) = λ at.
+  too (free_dir {name = name} a d k h1 h2 h3 h4 none h5 h6) = λ at.
       let one = each a h1 in
       let over = too h5 (wide others one) (old_seat others d) in
       at_old others (λ e. Can t table others (Free e name)) at
-      (free_dir one.outer d over.cover one.among (takes_more table a one.outer one.within h2) h3 h4 over.can (c_within over.wider h6))
+      (free_dir one.outer d over.cover one.among (takes_more table a one.outer one.within h2) h3 h4 none over.can (c_within over.wider h6))
   too (free_other {dir = dir} {name = name} a x k h1 h2 h3 h4 h5 h6) = λ at.
       let one = each a h1 in
       let over = too h5 (wide others one) (old_seat others dir) in
@@ -325,10 +325,10 @@ module _ (t : Tree) (table : CallTable) (crew others : List ProcessState) (each 
   shows_too b less (shows_dir {d = d} can) =
       let over = too can (record { outer = b; within = less }) (old_seat others d) in
       record { cover = over.cover; wider = over.wider; shows = shows_dir over.can }
-  shows_too b less (shows_emptied {d = d} other can free) =
+  shows_too b less (shows_emptied {d = d} other none can free) =
       let here = old_seat others d in
       let over = too can (record { outer = b; within = less }) here in
-      record { cover = over.cover; wider = over.wider; shows = shows_emptied other over.can (λ name x lies. too (free name x lies) here) }
+      record { cover = over.cover; wider = over.wider; shows = shows_emptied other none over.can (λ name x lies. too (free name x lies) here) }
   shows_too b less (shows_others {d = d} can) =
       let over = too can (record { outer = b; within = less }) (old_seat others d) in
       record { cover = over.cover; wider = over.wider; shows = shows_others over.can }

@@ -14,7 +14,7 @@ use Rattle.pua_script.specs.Confinement.{has_c, object_in}
 use Rattle.pua_objects.specs.Objects.{cover_in}
 use Rattle.pua_objects.proofs.ForCallers.{Among, among_left, among_right, among_either, among_map, map_among, among_filter, filter_among}
 use Rattle.pua_objects.proofs.ForCallers.{filter_map_among, among_filter_map}
-use Rattle.pua_ever.specs.Ever.{row_cover, is_free, can_empty, opens_at, opens_outside, has_c_outside, directories, gives_way}
+use Rattle.pua_ever.specs.Ever.{is_free, can_empty, can_leave, opens_at, opens_outside, has_c_outside, directories, gives_way}
 use Rattle.pua_ever.specs.Ever.{is_way_in, dir_covers, veil_cover_at, name_covers, open_covers, may_edit, edit_calls}
 use Rattle.pua_ever.specs.Ever.{can_move, some_dir_moves, file_covers, goes_along, is_on, kept_on}
 use Rattle.std.specs.Prelude.{is_none}
@@ -72,9 +72,12 @@ module _ (table : CallTable) (h k : ProcessState) (w : Eases table h k) where
     in_dir : (dir : ℕ) → CoverWithin (cover_in t h dir) (cover_in t k dir)
     in_dir dir = in_within w.veiled t dir
 
+    leaves_more : (spot : Spot) (x : ℕ) → can_leave t h spot x ≡ true → can_leave t k spot x ≡ true
+    leaves_more spot x = and_more _ _ _ _ (c_within (cover_within w.veiled t (object_in t spot x))) (λ plain. plain)
+
     abbrev free_by : ProcessState → Spot → Option ℕ → Bool
     free_by g spot None = true
-    free_by g spot (Some x) = has_c (row_cover t g spot x)
+    free_by g spot (Some x) = can_leave t g spot x
 
     free_is : (g : ProcessState) (spot : Spot) (o : Option ℕ) → look t spot.0 spot.1 ≡ o → is_free t g spot ≡ free_by g spot o
     free_is g spot None at = rw at refl
@@ -85,13 +88,12 @@ module _ (table : CallTable) (h k : ProcessState) (w : Eases table h k) where
       where
         by : (o : Option ℕ) → look t spot.0 spot.1 ≡ o → is_free t k spot ≡ true
         by None at = free_is k spot None at
-        by (Some x) at = free_is k spot (Some x) at ∙ c_within (cover_within w.veiled t (object_in t spot x))
-            (sym (free_is h spot (Some x) at) ∙ e)
+        by (Some x) at = free_is k spot (Some x) at ∙ leaves_more spot x (sym (free_is h spot (Some x) at) ∙ e)
 
     pub empties_more : (dir : ℕ) → can_empty t h dir ≡ true → can_empty t k dir ≡ true
-    empties_more dir e = all_more (λ row. not (row.0.0 == dir) || has_c (row_cover t h row.0 row.1))
-        (λ row. not (row.0.0 == dir) || has_c (row_cover t k row.0 row.1))
-        (λ row. or_more _ _ _ _ (λ other. other) (c_within (cover_within w.veiled t (object_in t row.0 row.1)))) t.rows e
+    empties_more dir e = all_more (λ row. not (row.0.0 == dir) || can_leave t h row.0 row.1)
+        (λ row. not (row.0.0 == dir) || can_leave t k row.0 row.1)
+        (λ row. or_more _ _ _ _ (λ other. other) (leaves_more row.0 row.1)) t.rows e
 
     opens_more : (dir : ℕ) (p : Place) (a b : ℕ) → holds b a ≡ true → opens_at t h dir p a ≡ true → opens_at t k dir p b ≡ true
     opens_more dir (place.Slot other name) a b less e =
@@ -111,7 +113,8 @@ module _ (table : CallTable) (h k : ProcessState) (w : Eases table h k) where
     gives_more : (dir : ℕ) (row : Spot × ℕ) → gives_way t h dir row ≡ true → gives_way t k dir row ≡ true
     gives_more dir row e = and_more _ _ _ _ (λ here. here)
         (and_more _ _ _ _ (λ here. here)
-        (and_more _ _ _ _ (c_within (in_dir row.1)) (and_more _ _ _ _ (empties_more row.1) (c_outside_more row.1)))) e
+        (and_more _ _ _ _ (c_within (in_dir row.1))
+        (and_more _ _ _ _ (λ plain. plain) (and_more _ _ _ _ (empties_more row.1) (c_outside_more row.1))))) e
 
     way_more : (dir : ℕ) → is_way_in t h dir ≡ true → is_way_in t k dir ≡ true
     way_more dir e = or_more _ _ _ _ (c_within (in_dir dir))

@@ -151,7 +151,8 @@ module _ (table : CallTable) (h k : ProcessState) (w : Eases table h k) where
     allowed_more (At (Whole dir way)) living c e =
         dir_more (covers_of_dir t table h dir) (covers_of_dir t table k dir) (dir_covers_more dir living) _ _
         (and_more (is_named_way way) _ (is_named_way way) _ (λ here. here)
-        (and_more _ _ _ _ (empties_more table h k w t dir) (or_more _ _ _ _ (edits_more table h k w) (λ here. here)))) c e
+        (and_more _ _ _ _ (λ plain. plain)
+        (and_more _ _ _ _ (empties_more table h k w t dir) (or_more _ _ _ _ (edits_more table h k w) (λ here. here))))) c e
     allowed_more (Others dir) living c e =
         allow_more false false (λ here. here) (covers_of_dir t table h dir) (covers_of_dir t table k dir) (dir_covers_more dir living) IsMissing c e
     allowed_more (At (Slot dir name (Some x))) found c e =

@@ -22,12 +22,13 @@ use Rattle.pua_policy.specs.declared.place.Place.{Place}
 use Rattle.pua_audit.specs.Reach.{Word}
 use Rattle.pua_why.specs.Since.{since}
 use Rattle.pua_why.specs.Texts.{has_veil_on}
-use Rattle.pua_ever.specs.Comings.{places_on, places_under}
+use Rattle.pua_ever.specs.Comings.{AreComings, places_on, places_under}
 use Rattle.pua_ever.specs.Ever.{EverLine, Thing, has_ever_calls}
 use Rattle.pua_ever.specs.EverLines.{line_with}
 use Rattle.pua_ever.specs.EverList.{AreEverTold, IsRowOn, thing_of, word_of_row}
 use Rattle.pua_ever.specs.Through.{bound_of}
 use Rattle.pua_ever.specs.declared.comings.ComesUnder.{ComesUnder}
+use Rattle.pua_ever.specs.declared.comings.Comings.{Comings}
 use Rattle.pua_ever.specs.declared.lasting_list.ExecBound.{ExecBound}
 use Rattle.pua_ever.specs.declared.lasting_list.ExecBound.TheVariants.{Bounded, Never, Open}
 use Rattle.pua_ever.specs.declared.list.EverRow.{EverRow}
@@ -257,15 +258,14 @@ module _ (table : CallTable) (held given set : ℕ) where
 
 -- ---- where what a row is about comes
 
-pub under_there : (t u : Tree) (table other : CallTable) (holder : ProcessState) (row : EverRow) (about : Thing) (under : ComesUnder) →
-    t ≡ u → table ≡ other →
-    (IsRowOn t holder row → thing_of t row ≡ Some about → places_under t table holder under ≡ places_on t table holder about) →
-    IsRowOn u holder row → thing_of u row ≡ Some about → places_under u other holder under ≡ places_on u other holder about
-under_there t u table other holder row about under same ruled is =
-    subst (λ table. IsRowOn u holder row → thing_of u row ≡ Some about → places_under u table holder under ≡ places_on u table holder about)
-    ruled
-    (subst (λ t. IsRowOn t holder row → thing_of t row ≡ Some about → places_under t table holder under ≡ places_on t table holder about)
-    same is)
+module _ (holder : ProcessState) (comings : Comings) (row : EverRow) (about : Thing) (under : ComesUnder) where
+  abbrev ComesBy : Tree → CallTable → Type 0
+  ComesBy t table =
+      AreComings t table holder comings → IsRowOn t holder row → thing_of t row ≡ Some about →
+      places_under t holder under ≡ places_on t table holder about
+
+  pub under_there : (t u : Tree) (table other : CallTable) → t ≡ u → table ≡ other → ComesBy t table → ComesBy u other
+  under_there t u table other same ruled is = subst (ComesBy u) ruled (subst (λ t. ComesBy t table) same is)
 
 -- ---- calls that letters let through
 

@@ -10,7 +10,7 @@ use Rattle.pua_calls.specs.TmpTable.{tmp_table}
 use Rattle.pua_policy.specs.States.{ProcessState, held_set, veils}
 use Rattle.pua_policy.specs.declared.place.Place.{Place}
 use Rattle.pua_why.specs.Texts.{letters_text, place_text}
-use Rattle.pua_ever.specs.Comings.{IsTaking}
+use Rattle.pua_ever.specs.Comings.{AreComings, IsTaking}
 use Rattle.pua_ever.specs.Ever.{Thing}
 use Rattle.pua_ever.specs.EverLines.{line_with}
 use Rattle.pua_ever.specs.EverList.{thing_of}
@@ -26,17 +26,18 @@ use Rattle.pua_tool.specs.declared.ever_columns.Reasons.{Reasons}
 abbrev pub dated_text : Tree → Place → ℕ → Option ℕ → List ℕ
 dated_text t at given line = 32 ∷ place_text t at ++ 32 ∷ letters_text given ++ 32 ∷ decimal (unwrap_or line 0)
 
--- a veil of a process with this number, its text, the calls that its letters let through, and what comes to stand under it, as the table
--- with `tmppath` has it
+-- a veil of a process with this number, its text, the calls that its letters let through, and where things come to stand under it, as the
+-- table with `tmppath` has it
 pub record IsKept (p : ServedScript) (process : ℕ) (holder : ProcessState) (veil : Place × ℕ) (kept : Kept) : Type 0 where
   pub place : kept.place.now ≡ veil.0
   pub lets : (call : Call) → has kept.lets call ≡ holds veil.1 (rule_of (tmp_table p.table) call).perms
-  pub taking : IsTaking (world_left p).tree (tmp_table p.table) holder veil.0 kept.taking
+  pub taking : IsTaking (world_left p).tree holder veil.0 kept.taking
   pub text : string_bytes kept.text ≡ kept_text p process veil
 
 pub record AreReasons (p : ServedScript) (process : ℕ) (h holder : ProcessState) (execs : ExecBound) (reasons : Reasons) : Type 0 where
   pub held : reasons.held ≡ held_set h
   pub given : reasons.given ≡ given_by (tmp_table p.table) h execs
+  pub comings : AreComings (world_left p).tree (tmp_table p.table) holder reasons.comings
   pub veils : AllZip (IsKept p process holder) (veils h) reasons.veils.items
 
 -- texts are the columns of rows, each with its LF

@@ -28,7 +28,8 @@ use pua_tree::{FileTree, OutOfMemory};
 use pua_why::{TreePaths, letters, push_place, push_promises};
 use std::alloc::{AllocError, Global};
 
-/// A veil, with its text, the calls that its letters let through, and what comes to stand under it.
+/// A veil, with its text, the calls that its letters let through, and where things come to stand
+/// under it.
 #[derive(Drop)]
 struct Kept<'p> {
     place: &'p Place,
@@ -43,6 +44,7 @@ struct Kept<'p> {
 pub(crate) struct Reasons<'p> {
     held: Promises,
     given: Promises,
+    comings: Comings,
     veils: Vec<Kept<'p>>,
 }
 
@@ -69,6 +71,7 @@ impl<'p> Reasons<'p> {
             held: process.held(),
             given: given_by(process, table, execs),
             veils: kept_veils(alloc, tree, process, table, &comings, dates)?,
+            comings,
         })
     }
 }
@@ -128,7 +131,7 @@ fn kept_each<'p, T: FileTree>(
         let line = date_at(dates, kept.len());
         let text = kept_text(alloc, paths, place, *perms, line)?;
         let lets = let_through(table, *perms);
-        let taking = comings.taking(place);
+        let taking = comings.taking(alloc, place)?;
         kept.push(Kept {
             place,
             lets,
@@ -200,8 +203,9 @@ pub(crate) fn columns_of<T: FileTree>(
         AreTexts p number h holder.now execs rows.now (map string_bytes columns.items)) }
 {
     let mut columns = Vec::with_capacity(alloc, rows.len())?;
+    let mut above = Vec::new(alloc);
     for row in rows {
-        let under = comes_under(tree, holder, table, row);
+        let under = comes_under(tree, holder, table, &reasons.comings, &mut above, row)?;
         let column = column_of(alloc, table, reasons, row.line.calls, &under)?;
         columns.push(column)?;
     }
@@ -220,7 +224,7 @@ fn column_of(
         (execs : AnyExecs) → table.now ≡ tmp_table p.table →
         AreReasons p number h holder execs reasons.now → string_bytes text
         ≡ with_end (column_on p number h execs
-        (places_under (world_left p).tree (tmp_table p.table) holder under.now) (calls_in calls))) }
+        (places_under (world_left p).tree holder under.now) (calls_in calls))) }
 {
     let resting = rests_on(table, reasons.held, reasons.given, calls);
     let mut text = String::from_str(alloc, " ")?;
@@ -240,7 +244,7 @@ fn push_veils(
     ensures { OnOk result ((p : ServedScript) (number : ℕ) (holder : ProcessState)
         (vs : List (AnyPlace × ℕ)) → AllZip (IsKept p number holder) vs veils.now →
         string_bytes text.new ≡ string_bytes text.old ++ veils_told p number vs
-        (places_under (world_left p).tree (tmp_table p.table) holder under.now) (calls_in calls)) }
+        (places_under (world_left p).tree holder under.now) (calls_in calls)) }
 {
     let before = text.len();
     for veil in veils {
@@ -262,8 +266,7 @@ fn push_told(
     ensures { OnOk result ((p : ServedScript) (number : ℕ) (holder : ProcessState)
         (kept : AnyPlace × ℕ) → IsKept p number holder kept veil.now → string_bytes text.new
         ≡ string_bytes text.old ++ told_of p number
-        (places_under (world_left p).tree (tmp_table p.table) holder under.now) (calls_in calls)
-        (kept ∷ [])) }
+        (places_under (world_left p).tree holder under.now) (calls_in calls) (kept ∷ [])) }
 {
     if is_told(veil, calls, under) {
         return text.push_str(veil.text.as_str());
@@ -275,10 +278,9 @@ fn push_told(
 fn is_told(veil: &Kept<'_>, calls: Calls, under: &ComesUnder) -> bool
     ensures { (p : ServedScript) (number : ℕ) (holder : ProcessState) (kept : AnyPlace × ℕ) →
         IsKept p number holder kept veil.now → result ≡ is_told (tmp_table p.table)
-        (places_under (world_left p).tree (tmp_table p.table) holder under.now) (calls_in calls)
-        kept }
+        (places_under (world_left p).tree holder under.now) (calls_in calls) kept }
 {
-    under.has(veil.place, veil.taking) && has_some(veil.lets, calls)
+    under.has(veil.place, &veil.taking) && has_some(veil.lets, calls)
 }
 
 /// Whether one of these calls is among the others.

@@ -10,7 +10,7 @@ use Rattle.pua_tree.specs.Tree.{found_at}
 use Rattle.pua_tree.specs.NamedRows.{spot_at}
 use Rattle.pua_tree.specs.Slots.{row_in, standing_of_dir}
 use Rattle.pua_tree.specs.declared.slots.Stance.{Stance}
-use Rattle.pua_tree.proofs.Common.{unwrap_or}
+use Rattle.pua_tree.proofs.Common.{unwrap_or, is_some, look, row_at}
 use Rattle.pua_tree.specs.declared.spot.RowNode.{RowNode}
 use Rattle.pua_tree.proofs.Common.{IsSome}
 use Rattle.pua_tree.proofs.SlabEdits.{living_in, row_living}
@@ -132,3 +132,15 @@ module _ (s : Slots) (numbering : Numbering) (d : ℕ) (w : WellFormed (held_in_
             | true ↦ λ k. empty_known s numbering d n kept e ∙ sym (ap (λ b. b && has_no_row held d) (dir_by (Some n) e ∙ k))
             | false ↦ λ k. sym (ap (λ b. b && has_no_row held d) (dir_by (Some n) e ∙ k))
           ] refl
+
+-- the node that was looked up by the place of a name
+pub looked_up : (s : Slots) (numbering : Numbering) (t : Tree) (dir : ℕ) (name bytes : List ℕ) (there : Option ℕ) → held_in_slots s numbering ≡ t →
+    bytes ≡ name → there ≡ row_at s (dir, bytes) → there ≡ look t dir name
+looked_up s numbering t dir name bytes there same spelled found =
+    found ∙ ap (λ n. row_at s (dir, n)) spelled ∙ sym (rows_found s (dir, name)) ∙ ap (λ (u : Tree). look u dir name) same
+
+-- the directory of a spot lives where its slot was found
+pub slot_of_dir : (s : Slots) (numbering : Numbering) (t : Tree) (dir : ℕ) (slot : Option ℕ) → held_in_slots s numbering ≡ t →
+    is_some slot ≡ is_dir_kind (option_map (λ (n : SlotNode). n.kind) (node_in s dir)) → is_dir t dir ≡ is_some slot
+slot_of_dir s numbering t dir slot same found =
+    ap (λ (u : Tree). is_dir u dir) (sym same) ∙ ap is_dir_kind (sym (kind_known s numbering dir)) ∙ sym found

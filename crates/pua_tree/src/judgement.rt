@@ -121,21 +121,30 @@ pub(crate) fn parent<T: Judged>(tree: &T, dir: NodeId) -> Option<NodeId>
     }
 }
 
-/// Whether a node may be added under this name, or else the first fault.
-pub(crate) fn may_add<T: Judged>(tree: &T, dir: NodeId, name: &Name) -> Result<(), TreeFault>
-    ensures exact { let held = T.held tree.now in MatchResult result
+/// Whether a node may be added under this name, or else the first fault. Whether the directory
+/// lives, and which node stands in the row of that name, have been looked up.
+pub(crate) fn may_add<T: Judged>(
+    tree: &T,
+    dir: NodeId,
+    name: &Name,
+    lives: bool,
+    there: Option<NodeId>,
+) -> Result<(), TreeFault>
+    ensures exact { let held = T.held tree.now in lives ≡ is_dir held dir →
+        there ≡ look held dir name.now → MatchResult result
         (λ _. (node : Node) →
         add held dir name.now node ≡ Ok (held.next, with_new held dir name.now node))
         (λ fault. (fault ≢ TreeFault.OutOfMemory) × ((node : Node) →
         add held dir name.now node ≡ Err fault)) }
     ensures number { OnOk result ((T.held tree.now).next < number_end) }
     ensures name { IsTrue (is_name name.now) }
+    ensures lives { OnOk result (IsTrue lives) }
 {
     name.known();
-    if !is_dir(tree, dir) {
+    if !lives {
         return Err(TreeFault::NotDir);
     }
-    if tree.node_at(&Spot { dir, name: *name }).is_some() {
+    if there.is_some() {
         return Err(TreeFault::Taken);
     }
     if !has_room(tree) {
@@ -221,17 +230,25 @@ fn may_have_row<T: Judged>(tree: &T, stands: &LineNode) -> bool
     }
 }
 
-/// The node of a row that may be taken away, or else the first fault.
-pub(crate) fn may_cut<T: Judged>(tree: &T, dir: NodeId, name: &Name) -> Result<NodeId, TreeFault>
-    ensures exact { let held = T.held tree.now in MatchResult result
+/// The node of a row that may be taken away, or else the first fault. What stands in the row has
+/// been looked up.
+pub(crate) fn may_cut<T: Judged>(
+    tree: &T,
+    dir: NodeId,
+    name: &Name,
+    row: Option<(NodeId, Kind)>,
+) -> Result<NodeId, TreeFault>
+    ensures exact { let held = T.held tree.now in row ≡ found_at held dir name.now →
+        MatchResult result
         (λ node. cut held dir name.now ≡ Ok (
           node,
           without_unnamed (without_row held dir name.now) node,
         ))
         (λ fault. cut held dir name.now ≡ Err fault) }
-    ensures found { IfOk result (λ node. look (T.held tree.now) dir name.now ≡ Some node) }
+    ensures found { row ≡ found_at (T.held tree.now) dir name.now →
+        IfOk result (λ node. look (T.held tree.now) dir name.now ≡ Some node) }
 {
-    let row = row_in(tree, &Spot { dir, name: *name })?;
+    let row = row_in(tree, dir, name, row)?;
     let (node, kind) = row.ok_or(TreeFault::Missing)?;
     if is_full(tree, node, kind) {
         return Err(TreeFault::NotEmpty);
@@ -247,42 +264,33 @@ pub(crate) struct Moving {
 }
 
 /// What a row that may be moved moves, and None where its node stands at the new place already, or
-/// else the first fault.
+/// else the first fault. What stands in both rows has been looked up.
 pub(crate) fn may_shift<T: Judged>(
     tree: &T,
     from: NodeId,
     name: &Name,
     to: NodeId,
     new_name: &Name,
+    row: Option<(NodeId, Kind)>,
+    there: Option<(NodeId, Kind)>,
 ) -> Result<Option<Moving>, TreeFault>
-    ensures exact { let held = T.held tree.now in MatchResult result
+    ensures exact { let held = T.held tree.now in row ≡ found_at held from name.now →
+        there ≡ found_at held to new_name.now → MatchResult result
         (λ moves. MatchOption moves (shift held from name.now to new_name.now ≡ Ok held)
         (λ moving. shift held from name.now to new_name.now
         ≡ Ok (with_row_moved held from name.now to new_name.now moving.node moving.displaced)))
         (λ fault. (fault ≢ TreeFault.OutOfMemory) ×
         (shift held from name.now to new_name.now ≡ Err fault)) }
-    ensures found { let held = T.held tree.now in
+    ensures found { let held = T.held tree.now in row ≡ found_at held from name.now →
         IfOk result (λ moves. IfSome moves (λ moving. look held from name.now ≡ Some moving.node)) }
-    ensures displaced { let held = T.held tree.now in
+    ensures displaced { let held = T.held tree.now in there ≡ found_at held to new_name.now →
         IfOk result (λ moves. IfSome moves (λ moving.
         (moving.displaced ≡ look held to new_name.now) × (moving.displaced ≢ Some moving.node))) }
     ensures name { IsTrue (is_name new_name.now) }
 {
     new_name.known();
-    let row = row_in(
-        tree,
-        &Spot {
-            dir: from,
-            name: *name,
-        },
-    )?;
-    let there = row_in(
-        tree,
-        &Spot {
-            dir: to,
-            name: *new_name,
-        },
-    )?;
+    let row = row_in(tree, from, name, row)?;
+    let there = row_in(tree, to, new_name, there)?;
     let (node, kind) = row.ok_or(TreeFault::Missing)?;
     let displaced = node_of(&there);
     if displaced == Some(node) {
@@ -297,21 +305,27 @@ pub(crate) fn may_shift<T: Judged>(
     Ok(Some(Moving { node, displaced }))
 }
 
-/// The node in the row at this spot, if there is one, and its kind. The only fault is that the spot
-/// is in no living directory.
-fn row_in<T: Judged>(tree: &T, spot: &Spot) -> Result<Option<(NodeId, Kind)>, TreeFault>
+/// What stands in a row of this directory, which has been looked up. The only fault is that it is
+/// no living directory.
+fn row_in<T: Judged>(
+    tree: &T,
+    dir: NodeId,
+    name: &Name,
+    row: Option<(NodeId, Kind)>,
+) -> Result<Option<(NodeId, Kind)>, TreeFault>
     ensures fault { IfErr result (λ fault. fault ≡ TreeFault.NotDir) }
-    ensures dir { is_ok result ≡ is_dir (T.held tree.now) spot.now.dir }
-    ensures node { IfOk result (λ row.
-        option_map (λ found. found.0) row ≡ look (T.held tree.now) spot.now.dir spot.now.name) }
-    ensures kind { IfOk result (λ row.
+    ensures dir { row ≡ found_at (T.held tree.now) dir name.now →
+        is_ok result ≡ is_dir (T.held tree.now) dir }
+    ensures node { row ≡ found_at (T.held tree.now) dir name.now → IfOk result (λ row.
+        option_map (λ found. found.0) row ≡ look (T.held tree.now) dir name.now) }
+    ensures kind { row ≡ found_at (T.held tree.now) dir name.now → IfOk result (λ row.
         IfSome row (λ found. kind_at (T.held tree.now) found.0 ≡ Some found.1)) }
 {
     tree.is_tree();
     // A row stands in a living directory, and its node lives.
-    match tree.found(spot) {
+    match row {
         Some(row) => Ok(Some(row)),
-        None if is_dir(tree, spot.dir) => Ok(None),
+        None if is_dir(tree, dir) => Ok(None),
         None => Err(TreeFault::NotDir),
     }
 }
@@ -337,7 +351,7 @@ fn is_full_there<T: Judged>(tree: &T, row: &Option<(NodeId, Kind)>) -> bool
     }
 }
 
-fn is_dir<T: Judged>(tree: &T, id: NodeId) -> bool
+pub(crate) fn is_dir<T: Judged>(tree: &T, id: NodeId) -> bool
     ensures { result ≡ is_dir (T.held tree.now) id }
 {
     tree.kind_of(id) == Some(Kind::Dir)

@@ -143,7 +143,8 @@ impl FileTree for ListTree {
         kind: Kind,
         target: Option<&[u8]>,
     ) -> Result<NodeId, TreeFault> {
-        may_add(self, dir, &name)?;
+        let lives = judgement::is_dir(self, dir);
+        may_add(self, dir, &name, lives, self.look(dir, &name))?;
         let alloc = *self.nodes.allocator();
         let target = copied_target(alloc, target)?;
         let number = self.numbering.next;
@@ -166,7 +167,7 @@ impl FileTree for ListTree {
     }
 
     fn cut(&mut self, dir: NodeId, name: &Name) -> Result<NodeId, TreeFault> {
-        let node = may_cut(self, dir, name)?;
+        let node = may_cut(self, dir, name, self.standing(dir, name))?;
         take_row(&mut self.rows, dir, name);
         take_unnamed(&self.rows, &mut self.nodes, node);
         Ok(node)
@@ -180,7 +181,9 @@ impl FileTree for ListTree {
         to: NodeId,
         new_name: Name,
     ) -> Result<(), TreeFault> {
-        let Some(moving) = may_shift(self, from, name, to, &new_name)? else {
+        let row = self.standing(from, name);
+        let there = self.standing(to, &new_name);
+        let Some(moving) = may_shift(self, from, name, to, &new_name, row, there)? else {
             return Ok(());
         };
         let Moving { node, displaced } = moving;
@@ -237,6 +240,18 @@ impl Gathered for ListTree {
         push_made(&mut self.nodes, node, made);
         self.numbering.next = number + 1;
         Ok(true)
+    }
+}
+
+impl ListTree {
+    ghost use Rattle.std.specs.Prelude.{◌≡◌};
+    ghost use Rattle.pua_tree.specs.Tree.{found_at};
+
+    /// What stands in the row of this directory and name.
+    fn standing(&self, dir: NodeId, name: &Name) -> Option<(NodeId, Kind)>
+        ensures { result ≡ found_at self.now dir name.now }
+    {
+        self.find(dir, name.bytes())
     }
 }
 

@@ -2,7 +2,7 @@
 
 use crate::name::Name;
 use crate::node::NodeId;
-use crate::spot::{RowKey, RowNode, Spot};
+use crate::spot::{RowKey, RowNode};
 use crate::tree::{LentRow, LentSpot};
 use indexmap::{Equivalent, IndexMap, IndexSet};
 use std::alloc::{AllocError, Global};
@@ -128,33 +128,39 @@ impl NamedRows {
         self.rows.len()
     }
 
-    /// Puts a row at this spot, and answers its key, where there is room for it. The place of the
-    /// spot's name may have been looked up.
-    pub(crate) fn put(&mut self, spot: &Spot, place: Option<usize>, row: RowNode) -> Option<RowKey>
+    /// Puts a row of this directory and name, and answers its key, where there is room for it. The
+    /// place of the name may have been looked up.
+    pub(crate) fn put(
+        &mut self,
+        dir: NodeId,
+        name: &Name,
+        place: Option<usize>,
+        row: RowNode,
+    ) -> Option<RowKey>
         ensures put { IfSome result (λ _.
-            ChangesAt (spot.now.dir, spot.now.name) (Some row) self.old self.new) }
+            ChangesAt (dir, name.now) (Some row) self.old self.new) }
         ensures key { IfSome result (λ key.
-            spot_at self.new.names key ≡ Some (spot.now.dir, spot.now.name)) }
+            spot_at self.new.names key ≡ Some (dir, name.now)) }
         ensures names { KeepsNames self.old self.new }
         ensures room { 0 < self.old.room → IsSome result }
     {
-        let Some(name) = kept_at(&mut self.names, &spot.name, place) else {
+        let Some(name) = kept_at(&mut self.names, name, place) else {
             return None;
         };
-        let dir = spot.dir;
         match self.rows.insert(RowKey { dir, name }, row) {
             Ok(_) => Some(RowKey { dir, name }),
             Err(_) => None,
         }
     }
 
-    /// Takes away the row of this directory and name, if there is one.
-    pub(crate) fn take(&mut self, dir: NodeId, name: &Name)
+    /// Takes away the row of this directory and name, if there is one. The place of the name may
+    /// have been looked up.
+    pub(crate) fn take(&mut self, dir: NodeId, name: &Name, place: Option<usize>)
         ensures taken { ChangesAt (dir, name.now) None self.old self.new }
         ensures names { self.new.names ≡ self.old.names }
         ensures room { self.old.room ≤ self.new.room }
     {
-        if let Some(name) = self.names.get_index_of(name) {
+        if let Some(name) = place_of(&self.names, name, place) {
             self.rows.swap_remove(&RowKey { dir, name });
         }
     }
@@ -203,6 +209,18 @@ impl NamedRows {
     pub(crate) fn allocator(&self) -> Global {
         *self.rows.allocator()
     }
+}
+
+/// The place of a name among those that are kept. It may have been looked up.
+fn place_of(names: &IndexSet<Name>, name: &Name, place: Option<usize>) -> Option<usize>
+    ensures { IsPlaceOf names.now.keys name.now result }
+{
+    if let Some(place) = place {
+        if names.get_index(place) == Some(name) {
+            return Some(place);
+        }
+    }
+    names.get_index_of(name)
 }
 
 /// The place of a name, which is kept from now on where there is room for it. It may have been

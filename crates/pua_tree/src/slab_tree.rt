@@ -112,7 +112,10 @@ impl FileTree for SlabTree {
         kind: Kind,
         target: Option<&[u8]>,
     ) -> Result<NodeId, TreeFault> {
-        may_add(self, dir, &name)?;
+        let above = self.slots.dir_slot(dir);
+        let place = self.slots.place(name.bytes());
+        let there = self.slots.row_at_place(dir, place);
+        may_add(self, dir, &name, above.is_some(), there)?;
         let alloc = self.slots.allocator();
         let target = copied_target(alloc, target)?;
         let number = self.numbering.next;
@@ -123,9 +126,8 @@ impl FileTree for SlabTree {
             mount: false,
         });
         let stands = LineNode { number, node, made };
-        let above = self.slots.slot(dir);
         self.slots
-            .put_entry(above, None, None, &Spot { dir, name }, stands)?;
+            .put_entry(above, None, place, dir, &name, stands)?;
         self.numbering.next = number + 1;
         Ok(node)
     }
@@ -133,13 +135,14 @@ impl FileTree for SlabTree {
     fn tie(&mut self, dir: NodeId, name: Name, node: NodeId) -> Result<(), TreeFault> {
         may_tie(self, dir, &name, node)?;
         self.slots.reserve_row()?;
-        self.slots.put_row(&Spot { dir, name }, node);
+        self.slots.put_row(dir, &name, None, node);
         Ok(())
     }
 
     fn cut(&mut self, dir: NodeId, name: &Name) -> Result<NodeId, TreeFault> {
-        let node = may_cut(self, dir, name)?;
-        let names = self.slots.take_row(dir, name, node);
+        let (place, row) = self.placed(dir, name);
+        let node = may_cut(self, dir, name, row)?;
+        let names = self.slots.take_row(dir, name, place, node);
         self.slots.drop_unnamed(node, names);
         Ok(node)
     }
@@ -151,18 +154,21 @@ impl FileTree for SlabTree {
         to: NodeId,
         new_name: Name,
     ) -> Result<(), TreeFault> {
-        let Some(moving) = may_shift(self, from, name, to, &new_name)? else {
+        let (place, row) = self.placed(from, name);
+        let (new_place, there) = self.placed(to, &new_name);
+        let Some(moving) = may_shift(self, from, name, to, &new_name, row, there)? else {
             return Ok(());
         };
+        let places = (place, new_place);
         let Moving { node, displaced } = moving;
         self.slots.reserve_row()?;
         match displaced {
             Some(displaced) => {
-                let names = self.slots.take_row(to, &new_name, displaced);
-                self.slots.move_row(from, name, to, new_name, node);
+                let names = self.slots.take_row(to, &new_name, new_place, displaced);
+                self.slots.move_row(from, name, to, &new_name, places, node);
                 self.slots.drop_unnamed(displaced, names);
             }
-            None => self.slots.move_row(from, name, to, new_name, node),
+            None => self.slots.move_row(from, name, to, &new_name, places, node),
         }
         Ok(())
     }
@@ -198,9 +204,27 @@ impl Gathered for SlabTree {
         if above.is_none() || !stands.may_stand(other) || !may_put_row(self, spot, there, number) {
             return Ok(false);
         }
-        self.slots.put_entry(above, other, place, spot, stands)?;
+        self.slots
+            .put_entry(above, other, place, spot.dir, &spot.name, stands)?;
         self.numbering.next = number + 1;
         Ok(true)
+    }
+}
+
+impl SlabTree {
+    ghost use Rattle.std.specs.Prelude.{◌≡◌};
+    ghost use Rattle.pua_tree.specs.Tree.{found_at};
+
+    /// The place of a name, and what stands in the row of this directory and name.
+    #[inline(always)]
+    fn placed(&self, dir: NodeId, name: &Name) -> (Option<usize>, Option<(NodeId, Kind)>)
+        ensures { result.1 ≡ found_at self.now dir name.now }
+    {
+        let place = self.slots.place(name.bytes());
+        match self.slots.found_at_place(dir, place) {
+            Some(row) => (place, Some((row.node, row.kind))),
+            None => (place, None),
+        }
     }
 }
 

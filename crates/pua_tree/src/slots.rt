@@ -4,7 +4,7 @@ use crate::gathered::{LineNode, MadeNode};
 use crate::name::Name;
 use crate::named_rows::NamedRows;
 use crate::node::{Kind, NodeId};
-use crate::spot::{RowKey, RowNode, Spot};
+use crate::spot::{RowKey, RowNode};
 use crate::tree::{LentRow, LentSpot};
 use indexmap::IndexMap;
 use slab::Slab;
@@ -104,6 +104,15 @@ impl Slots {
         ensures { IsPlaceOf self.now.rows.names name.now result }
     {
         self.rows.place(name)
+    }
+
+    /// What stands in the row of this directory and of the name at this place.
+    #[inline(always)]
+    pub(crate) fn found_at_place(&self, dir: NodeId, place: Option<usize>) -> Option<RowNode>
+        ensures { (name : List ℕ) → IsPlaceOf self.now.rows.names name place →
+            result ≡ row_in self.now (dir, name) }
+    {
+        self.rows.get(dir, place)
     }
 
     /// The node in the row of this directory and of the name at this place.
@@ -255,6 +264,7 @@ impl Slots {
     }
 
     /// The slot of the directory of this number, and None for what is no living directory.
+    #[inline(always)]
     pub(crate) fn dir_slot(&self, id: NodeId) -> Option<usize>
         ensures slot { IsSome result → result ≡ slot_of self.now id }
         ensures dir { is_some result
@@ -321,45 +331,45 @@ impl Slots {
         self.numbers.len()
     }
 
-    /// Puts a row at a spot that has none, where there is room for it.
-    pub(crate) fn put_row(&mut self, spot: &Spot, node: NodeId)
+    /// Puts a row under this name, which the directory has not, where there is room for it. The
+    /// place of the name may have been looked up.
+    pub(crate) fn put_row(&mut self, dir: NodeId, name: &Name, place: Option<usize>, node: NodeId)
         ensures kept { 0 < self.old.rows.room →
-            MayEnter self.old (spot.now.dir, spot.now.name) node → AreConsistent self.new }
+            MayEnter self.old (dir, name.now) node → AreConsistent self.new }
         ensures rows { 0 < self.old.rows.room → held_rows self.new
-            ≡ put spot_cmp (spot.now.dir, spot.now.name) node (held_rows self.old) }
-        ensures nodes { MayEnter self.old (spot.now.dir, spot.now.name) node →
+            ≡ put spot_cmp (dir, name.now) node (held_rows self.old) }
+        ensures nodes { MayEnter self.old (dir, name.now) node →
             held_nodes self.new ≡ held_nodes self.old }
     {
-        let above = self.slot(spot.dir);
+        let above = self.slot(dir);
         let slot = self.slot(node);
-        let place = self.place(spot.name.bytes());
-        self.put_row_under(above, slot, place, spot, node);
+        self.put_row_under(above, slot, place, dir, name, node);
     }
 
-    /// The same, where the slots of the spot's directory and of the node, and the place of its name,
-    /// have been looked up.
+    /// The same, where the slots of the directory and of the node have been looked up too.
     fn put_row_under(
         &mut self,
         above: Option<usize>,
         slot: Option<usize>,
         place: Option<usize>,
-        spot: &Spot,
+        dir: NodeId,
+        name: &Name,
         node: NodeId,
     )
-        ensures kept { above ≡ slot_of self.old spot.now.dir → slot ≡ slot_of self.old node →
+        ensures kept { above ≡ slot_of self.old dir → slot ≡ slot_of self.old node →
             0 < self.old.rows.room →
-            MayEnter self.old (spot.now.dir, spot.now.name) node → AreConsistent self.new }
+            MayEnter self.old (dir, name.now) node → AreConsistent self.new }
         ensures rows { 0 < self.old.rows.room → held_rows self.new
-            ≡ put spot_cmp (spot.now.dir, spot.now.name) node (held_rows self.old) }
-        ensures nodes { above ≡ slot_of self.old spot.now.dir → slot ≡ slot_of self.old node →
-            MayEnter self.old (spot.now.dir, spot.now.name) node →
+            ≡ put spot_cmp (dir, name.now) node (held_rows self.old) }
+        ensures nodes { above ≡ slot_of self.old dir → slot ≡ slot_of self.old node →
+            MayEnter self.old (dir, name.now) node →
             held_nodes self.new ≡ held_nodes self.old }
     {
         let count = self.row_count();
         prove!(count < usize::MAX);
         // A row of a node that is none may say anything.
         let kind = self.kind_in(slot).unwrap_or(Kind::File);
-        if let Some(key) = self.rows.put(spot, place, RowNode { node, kind }) {
+        if let Some(key) = self.rows.put(dir, name, place, RowNode { node, kind }) {
             self.gain_row(above);
             self.gain_name(slot, key);
         }
@@ -367,7 +377,13 @@ impl Slots {
 
     /// Takes away the row of this directory and name, in which this node stands, and answers how
     /// many names are left to the node.
-    pub(crate) fn take_row(&mut self, dir: NodeId, name: &Name, node: NodeId) -> usize
+    pub(crate) fn take_row(
+        &mut self,
+        dir: NodeId,
+        name: &Name,
+        place: Option<usize>,
+        node: NodeId,
+    ) -> usize
         ensures kept { HasRow self.old (dir, name.now) node → AreConsistent self.new }
         ensures rows { held_rows self.new
             ≡ where_key spot_cmp (λ spot. not (is_eq (spot_cmp (dir, name.now) spot)))
@@ -378,39 +394,36 @@ impl Slots {
         ensures left { HasRow self.old (dir, name.now) node →
             IfSome (node_in self.new node) (λ _. result ≡ names_of (held_rows self.new) node) }
     {
-        self.rows.take(dir, name);
+        self.rows.take(dir, name, place);
         self.lose_row(dir);
         self.lose_name(node)
     }
 
     /// Moves the row of this directory and name, in which this node stands, to a spot that has
-    /// none, where there is room for a further row.
+    /// none, where there is room for a further row. The places of both
+    /// names may have been looked up.
     pub(crate) fn move_row(
         &mut self,
         from: NodeId,
         name: &Name,
         to: NodeId,
-        new_name: Name,
+        new_name: &Name,
+        places: (Option<usize>, Option<usize>),
         node: NodeId,
     )
         ensures kept { 0 < self.old.rows.room →
-            MayMove self.old (from, name.now) (to, new_name) node → AreConsistent self.new }
+            MayMove self.old (from, name.now) (to, new_name.now) node → AreConsistent self.new }
         ensures rows { 0 < self.old.rows.room → held_rows self.new ≡ put spot_cmp (
           to,
-          new_name,
+          new_name.now,
         ) node (where_key spot_cmp
             (λ spot. not (is_eq (spot_cmp (from, name.now) spot))) (held_rows self.old)) }
-        ensures nodes { MayMove self.old (from, name.now) (to, new_name) node →
+        ensures nodes { MayMove self.old (from, name.now) (to, new_name.now) node →
             held_nodes self.new ≡ held_nodes self.old }
     {
-        self.take_row(from, name, node);
-        self.put_row(
-            &Spot {
-                dir: to,
-                name: new_name,
-            },
-            node,
-        );
+        let (place, new_place) = places;
+        self.take_row(from, name, place, node);
+        self.put_row(to, new_name, new_place, node);
     }
 
     /// Puts a node under a number that no node has and no row names, where there is room for it.
@@ -501,14 +514,15 @@ impl Slots {
         above: Option<usize>,
         other: Option<usize>,
         place: Option<usize>,
-        spot: &Spot,
+        dir: NodeId,
+        name: &Name,
         stands: LineNode,
     ) -> Result<(), AllocError>
-        ensures grown { above ≡ slot_of self.old spot.now.dir →
+        ensures grown { above ≡ slot_of self.old dir →
             (is_none stands.made ≡ true → other ≡ slot_of self.old stands.node) →
             AreConsistent self.old → (numbering : Numbering) →
             WellFormed (held_in_slots self.old numbering) →
-            let entry = entry_at spot.now.dir spot.now.name stands in
+            let entry = entry_at dir name.now stands in
             Follows (held_in_slots self.old numbering) entry →
             OnOk result (AreConsistent self.new × (held_in_slots self.new
             (with_next numbering (stands.number + 1))
@@ -520,7 +534,7 @@ impl Slots {
         self.reserve_node()?;
         let LineNode { node, made, .. } = stands;
         let slot = self.add_made(node, made, other);
-        self.put_row_under(above, slot, place, spot, node);
+        self.put_row_under(above, slot, place, dir, name, node);
         Ok(())
     }
 

@@ -4,7 +4,7 @@ ghost use Rattle.std.specs.Prelude.{◌≡◌, ◌≢◌, ◌≤◌, ◌+◌, �
 ghost use Rattle.std.specs.Prelude.{Err, IfOk, IfSome, IfNone, IsTrue};
 ghost use Rattle.pua_tree.specs.Tree.{is_dir, found_at};
 ghost use Rattle.pua_tree.specs.declared.node.Kind.{Kind};
-ghost use Rattle.pua_path.specs.Kinds.{is_file};
+ghost use Rattle.pua_tree.specs.declared.node.Kind.TheVariants.{Dir};
 ghost use Rattle.pua_path.specs.Bounds.{part_cost};
 ghost use Rattle.pua_path.specs.Resolution.{follow, last};
 ghost use Rattle.pua_path.specs.declared.found.Last.TheVariants.{Kept};
@@ -18,14 +18,14 @@ ghost use Rattle.pua_audit.specs.Bounds.{letter_cost, object_cost};
 ghost use Rattle.pua_audit.specs.Covers.{AreCovered};
 ghost use Rattle.pua_audit.specs.Judge.{seen_by};
 ghost use Rattle.pua_audit.specs.Ready.{judge_in};
-ghost use Rattle.pua_audit.specs.Entries.{AreWithin, links_of, found_of, leads_to};
+ghost use Rattle.pua_audit.specs.Entries.{AreWithin, allowed_kept, links_of, found_of, leads_to};
 ghost use Rattle.pua_audit.specs.Spots.{IsNamed};
 ghost use Rattle.pua_audit.specs.Table.{IsLetter};
 ghost use Rattle.pua_steps.specs.Limits.{most_links};
 
 use crate::component::Component;
 use crate::table::directories::Directories;
-use crate::table::within::Within;
+use crate::table::within::{Bare, Within};
 use crate::terms::Terms;
 use pua_calls::Calls;
 use pua_path::{Errno, Found, Last, Part, Probe, Start};
@@ -51,7 +51,7 @@ pub(crate) struct Letter {
 
 impl Terms {
     /// What a letter is in a living directory, by the calls on names there that have no veil of
-    /// their own. A file at such a name is not resolved.
+    /// their own. A file at such a name is not resolved, and a link only to be followed.
     pub(crate) fn letter<'t, P: Probe<'t>>(
         &self,
         probe: &mut P,
@@ -73,44 +73,53 @@ impl Terms {
         ensures tree { P.tree probe.new ≡ P.tree probe.old }
         ensures cost { P.count probe.new ≤ P.count probe.old + letter_cost self.now.seen.tree }
     {
-        let Some(calls) = self.calls_on_file(probe, dir, letter, within) else {
-            return self.followed(probe, dirs, dir, letter);
+        let kept = match self.bare(probe, dir, letter, within) {
+            Some(bare) if bare.is_link => Some(bare.calls),
+            Some(bare) => {
+                return Letter {
+                    all: bare.calls,
+                    kept: bare.calls.keeping(),
+                    links: 0,
+                    leads: None,
+                    cover: Cover::Nothing,
+                };
+            }
+            None => None,
         };
-        Letter {
-            all: calls,
-            kept: calls.keeping(),
-            links: 0,
-            leads: None,
-            cover: Cover::Nothing,
-        }
+        self.followed(probe, dirs, dir, letter, kept)
     }
 
-    /// The calls on a letter where a file stands at its name, and has no veil of its own.
-    fn calls_on_file<'t, P: Probe<'t>>(
+    /// The calls on a letter where a file or a link stands at its name, and has no veil of its own.
+    fn bare<'t, P: Probe<'t>>(
         &self,
         probe: &mut P,
         dir: NodeId,
         letter: &Component,
         within: &Within,
-    ) -> Option<Calls>
+    ) -> Option<Bare>
         requires tree { P.tree probe.old ≡ self.now.seen.tree }
-        ensures exact { IfSome result (λ calls. IsTrue (is_dir self.now.seen.tree dir) →
+        ensures file { IfSome result (λ bare. bare.is_link ≡ false →
+            IsTrue (is_dir self.now.seen.tree dir) →
             AreWithin self.now.seen.tree self.now.table self.now.process dir within.now →
-            (kept : ℕ) → IsLetter (judge_in self.now) dir letter.now calls kept 0 None) }
+            (kept : ℕ) → IsLetter (judge_in self.now) dir letter.now bare.calls kept 0 None) }
+        ensures link { IfSome result (λ bare. bare.is_link ≡ true →
+            IsTrue (is_dir self.now.seen.tree dir) →
+            AreWithin self.now.seen.tree self.now.table self.now.process dir within.now →
+            (call : Call) → has bare.calls call ≡ allowed_kept self.now.seen.tree
+            self.now.table self.now.process dir letter.now call) }
         ensures none { IfNone result (IsNamed letter.now →
             perms_kept self.now.process (Slot dir letter.now) ≡ None → (node : ℕ) (kind : Kind) →
-            found_at self.now.seen.tree dir letter.now ≡ Some (node, kind) →
-            is_file kind ≡ false) }
+            found_at self.now.seen.tree dir letter.now ≡ Some (node, kind) → kind ≡ Dir) }
         ensures tree { P.tree probe.new ≡ P.tree probe.old }
         ensures cost { P.count probe.new ≤ P.count probe.old + 2 }
     {
         let name = letter.as_name()?;
         let (_, kind) = probe.find_named(dir, name)?;
-        let calls = within.on(kind)?;
+        let bare = within.on(kind)?;
         if within.veiled && self.has_veil(dir, name) {
             return None;
         }
-        Some(calls)
+        Some(bare)
     }
 
     /// Whether a veil is kept at a name in a directory.
@@ -134,17 +143,21 @@ impl Terms {
         Start { root, dir }
     }
 
-    /// What a letter is in a living directory, followed once, with no link used before it.
+    /// What a letter is in a living directory, followed once, with no link used before it. The
+    /// calls where a final link is kept may be known.
     fn followed<'t, P: Probe<'t>>(
         &self,
         probe: &mut P,
         dirs: &Directories,
         dir: NodeId,
         letter: &Component,
+        kept: Option<Calls>,
     ) -> Letter
         requires tree { P.tree probe.old ≡ self.now.seen.tree }
         requires living { IsTrue (is_dir self.now.seen.tree dir) }
         ensures exact { AreCovered self.now.seen.tree self.now.process dirs.now →
+            IfSome kept (λ calls. (call : Call) → has calls call ≡ allowed_kept
+            self.now.seen.tree self.now.table self.now.process dir letter.now call) →
             IsLetter (judge_in self.now) dir letter.now
             result.all result.kept result.links result.leads }
         ensures lives { IfSome result.leads (λ to. IsTrue (is_dir self.now.seen.tree to)) }
@@ -159,7 +172,10 @@ impl Terms {
         let (followed, links) = counted(pua_path::follow(probe, self.start_in(dir), &part));
         let cover = self.cover_of(probe, dirs, dir, &part, &followed);
         let near = self.calls_on(probe, &followed, &cover);
-        let far = self.calls_kept(probe, dirs, dir, &part, &followed, links, near);
+        let far = match kept {
+            Some(calls) => calls,
+            None => self.calls_kept(probe, dirs, dir, &part, &followed, links, near),
+        };
         let all = near.following().union(far.keeping());
         Letter {
             all,

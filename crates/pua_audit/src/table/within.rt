@@ -2,6 +2,7 @@
 
 ghost use Rattle.std.specs.Prelude.{◌≡◌, ℕ, true, false, Some, IfSome, IfNone, IsTrue};
 ghost use Rattle.pua_tree.specs.Tree.{Tree, is_dir};
+ghost use Rattle.pua_tree.specs.declared.node.Kind.TheVariants.{Dir, Link};
 ghost use Rattle.pua_path.specs.Kinds.{is_file};
 ghost use Rattle.pua_calls.specs.CallSets.{has};
 ghost use Rattle.pua_calls.specs.Calls.{CallTable};
@@ -30,8 +31,17 @@ pub(crate) struct Within {
     pub(crate) socket: Calls,
     pub(crate) fifo: Calls,
     pub(crate) device: Calls,
+    pub(crate) link: Calls,
     /// Whether a veil may be kept at a name there.
     pub(crate) veiled: bool,
+}
+
+/// What stands at a name without a veil of its own, and is no directory.
+#[derive(Clone, Copy)]
+pub(crate) struct Bare {
+    /// The calls that are allowed on it; on a link, where it is kept.
+    pub(crate) calls: Calls,
+    pub(crate) is_link: bool,
 }
 
 impl Terms {
@@ -51,6 +61,7 @@ impl Terms {
             socket: self.calls_over(&cover, Object::Node(Kind::Known(FileType::Sock))),
             fifo: self.calls_over(&cover, Object::Node(Kind::Known(FileType::Fifo))),
             device: self.calls_over(&cover, Object::Node(Kind::Known(FileType::Dev))),
+            link: self.calls_over(&cover, Object::Node(Kind::Link)),
             veiled,
         }
     }
@@ -66,22 +77,33 @@ impl Terms {
 }
 
 impl Within {
-    /// The calls on a node of this kind, if that is a file.
-    pub(crate) fn on(&self, kind: Kind) -> Option<Calls>
-        ensures none { IfNone result (is_file kind ≡ false) }
-        ensures file { IfSome result (λ _. is_file kind ≡ true) }
-        ensures calls { IfSome result (λ calls. (t : Tree) (table : CallTable) (h : ProcessState)
-            (dir : ℕ) → AreWithin t table h dir self.now → (call : Call) →
-            has calls call ≡ allowed_within t table h dir (object_of_kind (Some kind)) call) }
+    /// The calls on a node of this kind, if that is a file or a link.
+    pub(crate) fn on(&self, kind: Kind) -> Option<Bare>
+        ensures none { IfNone result (kind ≡ Dir) }
+        ensures file { IfSome result (λ bare. bare.is_link ≡ false → is_file kind ≡ true) }
+        ensures link { IfSome result (λ bare. bare.is_link ≡ true → kind ≡ Link) }
+        ensures calls { IfSome result (λ bare. (t : Tree) (table : CallTable) (h : ProcessState)
+            (dir : ℕ) → AreWithin t table h dir self.now → (call : Call) → has bare.calls call
+            ≡ allowed_within t table h dir (object_of_kind (Some kind)) call) }
     {
-        match kind {
-            Kind::File => Some(self.file),
-            Kind::Prog => Some(self.program),
-            Kind::Known(FileType::Plain) => Some(self.plain),
-            Kind::Known(FileType::Sock) => Some(self.socket),
-            Kind::Known(FileType::Fifo) => Some(self.fifo),
-            Kind::Known(FileType::Dev) => Some(self.device),
-            Kind::Dir | Kind::Link => None,
-        }
+        let calls = match kind {
+            Kind::File => self.file,
+            Kind::Prog => self.program,
+            Kind::Known(FileType::Plain) => self.plain,
+            Kind::Known(FileType::Sock) => self.socket,
+            Kind::Known(FileType::Fifo) => self.fifo,
+            Kind::Known(FileType::Dev) => self.device,
+            Kind::Link => {
+                return Some(Bare {
+                    calls: self.link,
+                    is_link: true,
+                });
+            }
+            Kind::Dir => return None,
+        };
+        Some(Bare {
+            calls,
+            is_link: false,
+        })
     }
 }

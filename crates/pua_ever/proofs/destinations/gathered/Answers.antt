@@ -25,4 +25,4 @@ returns-clause-entrances g c =
     let t = g.T.FileTree.content c.args.tree.now in
     let places = map (λ place. place.now) c.args.places.now in
     let opened : c.in_ok-opened.opened.dirs.items ≡ filter_map (opened_dir h) places = c.in_ok-opened.ensures in
-    c.in_ok-entrances.ensures ∙ (λ i. filter_map (entrance_cover t h (c.deref.ensures.value i) (opened i)) places)
+    c.in_ok-entrances.ensures ∙ ap (λ dirs. filter_map (entrance_cover t h c.in_ok-held.held dirs) places) opened

@@ -1,12 +1,16 @@
--- what each closure gives is what the definition does
-use Rattle.pua_ever.proofs.Common.{rules, tests, items_from_collect, YieldsList-from_slice, YieldsList-from_filter_map, held_dir}
-use Rattle.pua_ever.proofs.Picked.{picked_now}
+use Rattle.pua_ever.proofs.Common.{◌∙◌, ◌||◌, ap, arith, list_any}
+use Rattle.std.proofs.lemmas.List.{take_all}
+use Rattle.pua_policy.specs.declared.place.Place.{Place}
+use Rattle.std.specs.Borrow.{Bor}
+use Rattle.pua_ever.specs.Destinations.{has_mount, holds_dir}
+use Rattle.pua_ever.proofs.Picked.{any_mapped}
 use Rattle.pua_ever.proofs.destinations.held_dirs.Goals as goal
 
 pub returns : goal.returns
-returns g c =
+returns g c = λ dir.
     let t = g.T.FileTree.content c.args.tree.now in
     let h = c.args.process.now in
-    picked_now (held_dir t h) c.args.places.now c.collect.result (λ found. found.items)
-    (items_from_collect _ c.collect.ensures.ran (YieldsList-from_filter_map _ (λ place. held_dir t h place.now)
-    (YieldsList-from_slice c.args.places.now cc) c.filter_map.ensures.closure (λ x r q k. search (rules, tests))))
+    c.loop-place.invariant.found dir
+    ∙ ap (λ places. has_mount t dir || list_any (λ (place : Bor Place). holds_dir t h dir place.now) places)
+    (take_all c.loop-place.place-index c.args.places.now (omega (arith, c.loop-place-test.false)))
+    ∙ ap (λ b. has_mount t dir || b) (any_mapped (λ (place : Bor Place). place.now) (holds_dir t h dir) c.args.places.now)

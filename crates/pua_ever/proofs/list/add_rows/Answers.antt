@@ -31,7 +31,7 @@ returns-clause-told g c = λ items so_far left well needs found movable told nea
     let own = own_name_is t well table h (subject_given t item.item.subject) item.item told.fits told.tells in
     both_told t table h items so_far left item c.args.rows.now.items c.stands_row-stands.result now near c.stands_row-stands.ensures.at
     (c.stands_row-stands.ensures.about t) (c.stands_row-stands.ensures.row well needs found movable told) c.in-Some.freed
-    (subst (λ (o : Option Spot). IsFreedRow item o c.in-Some.freed) own c.in-Some.ensures.own) (c.in-Some.ensures.calls t well found told)
+    (subst (λ (o : Option Spot). IsFreedRow item o c.in-Some.freed) own c.in-Some.ensures.own) (c.in-Some.ensures.calls well found told)
     c.push-2.new.self.items
     (c.in-Ok-push.ensures.items ∙ ap (λ rs. rs ++ c.in-Some.freed ∷ []) c.in-Ok.ensures.items)
 

@@ -3,7 +3,7 @@ use Rattle.pua_ever.proofs.RowsTell.{own_last}
 use Rattle.pua_ever.proofs.list.freed_row.Goals as goal
 
 pub returns-clause-own : goal.returns-clause-own
-returns-clause-own c =
+returns-clause-own g c =
     let item = c.args.item.now.item in
     let own = c.in-Some.own in
     record {

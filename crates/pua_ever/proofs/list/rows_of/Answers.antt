@@ -2,11 +2,11 @@ use Rattle.pua_ever.proofs.Common.{◌≡◌, ◌<◌, ◌≤◌, ◌∷◌, ◌
 use Rattle.std.proofs.Common.{◌+◌, add-one, drop, drop_of_length-le}
 use Rattle.std.proofs.Math.Seq.{take-suc}
 use Rattle.std.proofs.lemmas.List.{drop_more}
-use Rattle.pua_objects.specs.ListItems.{IsToldIn, items_told, last_word}
+use Rattle.pua_objects.specs.ListItems.{IsToldIn, items_told, last_name, last_word}
 use Rattle.pua_objects.specs.declared.list.ListItem.{ListItem}
-use Rattle.pua_ever.specs.EverList.{AreEverTold, AreRowsSoFar}
+use Rattle.pua_ever.specs.EverList.{AreEverTold, AreRowsSoFar, dir_at}
 use Rattle.pua_ever.specs.declared.made.Made.TheVariants.{Dir}
-use Rattle.pua_ever.proofs.RowsTell.{near_at, told_at}
+use Rattle.pua_ever.proofs.RowsTell.{dir_there, near_at, told_at}
 use Rattle.std.specs.List.{AllByRecursion}
 use Rattle.std.proofs.lemmas.Bool.{not-false}
 use Rattle.pua_tree.specs.Tree.{device}
@@ -29,13 +29,12 @@ module _ (g : Over) (c : In_ok-add_rows g) where
   abbrev AllTold : Type 0
   AllTold = AllByRecursion (IsToldIn t h) c.args.items.now
 
-  here : AllTold → IsToldIn t h c.item-item.result
-  here all = subst (IsToldIn t h) (sym c.item-item.is)
-      (told_at (IsToldIn t h) c.args.items.now c.loop-item.item-index c.item-item.result all c.loop-item-test.true)
+  own : IsOnDevice t h c.in_ok-own.own × (c.in_ok-own.own.dir ≡ dir_at c.place_of.result) × AllByRecursion (IsOnDevice t h) c.device_at.new.above.items
+  own = c.in_ok-own.ensures c.loop-item.invariant.above
 
-  own : AllTold → IsOnDevice t h c.in_ok-own.own × (c.in_ok-own.own.dir ≡ dir_of_subject (subject_given t c.item-item.result.item.subject))
-      × AllByRecursion (IsOnDevice t h) c.device_at.new.above.items
-  own all = c.in_ok-own.ensures (here all) (c.loop-item.invariant.above all)
+  seated : c.in_ok-own.own.dir ≡ dir_of_subject (subject_given t c.item-item.result.item.subject)
+  seated = own.1 ∙ dir_there t (last_name c.item-item.result.item.subject) c.place_of.result (subject_given t c.item-item.result.item.subject)
+      (c.place_of.ensures t)
 
   -- the device of now is that of the item
   is_own : c.if-ne.device ≡ c.in_ok-own.own.device
@@ -50,7 +49,7 @@ module _ (g : Over) (c : In_ok-add_rows g) where
     | then-ne+in_ok-movable-2 w ↦
         subst (λ n. IsMovable t c.args.table.now h (kept_on t h n) c.if-ne.movable) (sym is_own)
         (subst (IsMovable t c.args.table.now h (kept_on t h c.in_ok-own.own.device)) (sym w.movable-is)
-        (w.in_ok-movable-2.ensures t found (own all).0))
+        (w.in_ok-movable-2.ensures t found own.0))
     | else-ne w ↦
         subst (λ n. IsMovable t c.args.table.now h (kept_on t h n) c.if-ne.movable) (sym w.device-is)
         (subst (IsMovable t c.args.table.now h (kept_on t h c.loop-item.device)) (sym w.movable-is)
@@ -61,7 +60,7 @@ module _ (g : Over) (c : In_ok-add_rows g) where
       IsMovableAt t c.args.table.now h (subject_given t c.item-item.result.item.subject) c.if-ne.movable
   moves_at found all =
       subst (λ n. IsMovable t c.args.table.now h (kept_on t h n) c.if-ne.movable)
-      (is_own ∙ sym (own all).0.0 ∙ ap (device t) (own all).1) (moves found all)
+      (is_own ∙ sym own.0.0 ∙ ap (device t) seated) (moves found all)
 
 pub loop-item-preserved : goal.loop-item-preserved
 loop-item-preserved g c = record {
@@ -92,7 +91,7 @@ loop-item-preserved g c = record {
       let item = c.item-item.result in
       c.in_ok-add_rows.ensures.items t fits
       (subst (IsToldIn t h) (sym c.item-item.is) (told_at (IsToldIn t h) items i item all c.loop-item-test.true)) (c.loop-item.invariant.items t fits all);
-  above = λ all. (own g c all).2;
+  above = (own g c).2;
   movable = λ found all. moves g c found all;
 }
 

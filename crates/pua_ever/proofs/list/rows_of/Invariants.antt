@@ -16,8 +16,7 @@ invariant-loop-item g l = record {
       AllByRecursion (IsToldIn (g.T.FileTree.content l.tree) l.process) l.items → AreNear [] l.items →
       AreRowsSoFar (g.T.FileTree.content l.tree) l.table l.process l.items (take l.item-index l.items) (drop l.item-index l.items) l.rows.items;
   items : (t : Tree) → WellFormed t → AllByRecursion (IsToldIn t l.process) l.items → AllByRecursion (IsRowOn t l.process) l.rows.items;
-  above : AllByRecursion (IsToldIn (g.T.FileTree.content l.tree) l.process) l.items →
-      AllByRecursion (IsOnDevice (g.T.FileTree.content l.tree) l.process) l.above.items;
+  above : AllByRecursion (IsOnDevice (g.T.FileTree.content l.tree) l.process) l.above.items;
   movable : IsProspects (g.T.FileTree.content l.tree) l.table l.process l.prospects →
       AllByRecursion (IsToldIn (g.T.FileTree.content l.tree) l.process) l.items →
       IsMovable (g.T.FileTree.content l.tree) l.table l.process (kept_on (g.T.FileTree.content l.tree) l.process l.device) l.movable;

@@ -10,6 +10,7 @@ returns g c =
     record {
       edits = c.may_edit.ensures;
       links = c.may_link.ensures;
+      allowed = c.new-allowed.ensures;
       movable = c.calls_by_object-movable.ensures t None so.0 so.1 so.2;
       destinations = c.in_ok-found.ensures.covers;
       turned = c.in_ok-turned.ensures;

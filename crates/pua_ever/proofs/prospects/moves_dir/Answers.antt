@@ -1,8 +1,8 @@
-use Rattle.pua_ever.proofs.Common.{rules}
+use Rattle.pua_ever.proofs.Common.{rules, tests}
 use Rattle.pua_ever.proofs.prospects.moves_dir.Goals as goal
 
-pub returns-then-is_none : goal.returns-then-is_none
-returns-then-is_none c = search rules
+pub returns-then-can_move : goal.returns-then-can_move
+returns-then-can_move c = search (rules, tests)
 
-pub returns-else-is_none : goal.returns-else-is_none
-returns-else-is_none c = search rules
+pub returns-else-can_move : goal.returns-else-can_move
+returns-else-can_move c = search (rules, tests)

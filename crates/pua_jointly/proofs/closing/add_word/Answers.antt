@@ -16,7 +16,7 @@ returns-then-word-index-clause-closed g c = λ _ low.
     let was : c.index.result.now ≡ get_or told at 0 = grind (arith, common_steps) in
     let held : c.index-2.result.now ≡ get_or told at 0 = grind (arith, common_steps) in
     closed_at follows told at word low
-    (subst (λ xs. (bit : ℕ) → follows xs at bit → has_bit word bit) c.deref.ensures.value c.next.ensures.all)
+    (subst (λ xs. (bit : ℕ) → follows xs at bit → has_bit (bit_or (get_or xs at 0) word) bit) c.deref.ensures.value c.next.ensures.all)
     (ap (λ n. bit_or n word) (sym was) ∙ c.if-word-index.true ∙ held)
 
 pub returns-clause-reached : goal.returns-clause-reached

@@ -8,7 +8,7 @@ use Rattle.pua_jointly.proofs.setup.find_marks.Goals as goal
 pub loop-veil-preserved-in_default : goal.loop-veil-preserved-in_default
 loop-veil-preserved-in_default g c =
     let t = g.T.FileTree.content c.args.tree.now in
-    let entries = c.args.entries.now in
+    let entries = c.args.entries.now.all.items in
     let veils = c.args.veils.now in
     let i : ℕ = c.loop-veil.veil-index in
     let veil = c.veil-item.result in
@@ -21,7 +21,7 @@ loop-veil-preserved-in_default g c =
 pub loop-veil-preserved : goal.loop-veil-preserved
 loop-veil-preserved g c =
     let t = g.T.FileTree.content c.args.tree.now in
-    let entries = c.args.entries.now in
+    let entries = c.args.entries.now.all.items in
     let veils = c.args.veils.now in
     let i : ℕ = c.loop-veil.veil-index in
     let veil = c.veil-item.result in

@@ -7,5 +7,5 @@ use Rattle.pua_jointly.proofs.setup.find_movers.Given as goal
 abbrev pub invariant-loop-place : goal.invariant-loop-place
 invariant-loop-place l = record {
   many : length l.movers.items ≡ l.place;
-  each : Each (IsMoverOf l.agents (l.size.shape.last + 1) l.size.shape.hands l.first) l.movers.items;
+  each : Each (IsMoverOf l.share.parts.agents.now (l.share.parts.size.shape.last + 1) l.share.parts.size.shape.hands l.share.first) l.movers.items;
 }

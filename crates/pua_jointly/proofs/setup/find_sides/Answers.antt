@@ -11,8 +11,8 @@ use Rattle.pua_jointly.proofs.setup.find_sides.Goals as goal
 
 pub loop-place-preserved : goal.loop-place-preserved
 loop-place-preserved c =
-    let kinds : List ℕ = c.args.kinds.now in
     let parts = c.args.parts.now in
+    let kinds : List ℕ = parts.kinds.now in
     let place : ℕ = c.loop-place.place in
     let sides : List Side = c.loop-place.sides.items in
     let side : Side = c.in_ok-side.side in

@@ -5,6 +5,6 @@ use Rattle.pua_jointly.proofs.setup.find_sides.Given as goal
 
 abbrev pub invariant-loop-place : goal.invariant-loop-place
 invariant-loop-place l = record {
-  devices : map (λ side. side.device) l.sides.items ≡ take l.place l.kinds;
+  devices : map (λ side. side.device) l.sides.items ≡ take l.place l.parts.kinds.now;
   each : Each (IsPart l.parts) l.sides.items;
 }

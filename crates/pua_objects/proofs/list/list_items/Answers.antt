@@ -10,7 +10,7 @@ loop-inner-init g c =
     let t = g.T.FileTree.content c.args.tree.now in
     record {
       listing = c.in_ok-enter_root.ensures c.new-entered.ensures.items c.in_ok-items.ensures.items t (map spot_now c.in_ok-spots.spots.items)
-          c.known.ensures (c.in_ok-spots.ensures.spots t (ap (map lent_entry) c.deref.ensures.value ∙ c.in_ok-rows.ensures));
+          c.known.ensures (c.in_ok-spots.ensures.spots t c.known.ensures (ap (map lent_entry) c.as_slice.ensures.value ∙ c.in_ok-standing.ensures.rows));
     }
 
 pub loop-inner-preserved : goal.loop-inner-preserved
@@ -24,8 +24,8 @@ loop-inner-preserved g c =
     IsListing t p (map spot_now lent) (inner ∷ reverse around) so_far →
     IsListing t p (map spot_now lent) (reverse c.go_on.new.entered.items) c.go_on.new.items.items in
     record {
-      listing = subst Goes c.deref-in-Some.ensures.value c.in_ok-go_on.ensures.listing
-          (c.in_ok-spots.ensures.spots t (ap (map lent_entry) c.deref.ensures.value ∙ c.in_ok-rows.ensures))
+      listing = subst Goes c.deref.ensures.value (c.in_ok-go_on.ensures.listing c.in_ok-standing.ensures)
+          (c.in_ok-spots.ensures.spots t c.known.ensures (ap (map lent_entry) c.as_slice.ensures.value ∙ c.in_ok-standing.ensures.rows))
           (subst (λ es. IsListing t p (map spot_now c.in_ok-spots.spots.items) es so_far)
           (ap reverse c.in-Some.ensures.items ∙ reverse-append around (inner ∷ [])) c.loop-inner.invariant.listing);
     }

@@ -19,6 +19,7 @@ loop-row-preserved g c =
     let i : ℕ = c.loop-row.row-index in
     let holder = c.args.holder.now in
     record {
+      above = c.in_ok-under.ensures.above c.loop-row.invariant.above;
       columns = λ p number h execs same ruled are on.
           let t = (world_left p).tree in
           let here = row_on (IsRowOn t holder) rows i row on c.loop-row-test.true c.row-item.is in
@@ -26,8 +27,8 @@ loop-row-preserved g c =
           λ about is.
           c.in_ok-column.ensures p number h holder execs ruled are
           ∙ ap (λ places. with_end (column_on p number h execs places (line_with [] about row.line).calls))
-          (under_there (g.T.FileTree.content c.args.tree.now) t c.args.table.now (tmp_table p.table) holder row about c.comes_under-under.result same ruled
-          (c.comes_under-under.ensures about) here is) in
+          (under_there holder c.args.reasons.now.comings row about c.in_ok-under.under (g.T.FileTree.content c.args.tree.now) t
+          c.args.table.now (tmp_table p.table) same ruled (λ found. c.in_ok-under.ensures.under about found c.loop-row.invariant.above) are.comings here is) in
           subst (λ (texts : List (List ℕ)). AreTexts p number h holder execs (take (i + 1) rows) texts)
           (sym (ap (map string_bytes) c.in_ok-push.ensures.items ∙ map-append string_bytes c.loop-row.columns.items (c.in_ok-column.column ∷ [])))
           (subst (λ rs. AreTexts p number h holder execs rs (map string_bytes c.loop-row.columns.items ++ string_bytes c.in_ok-column.column ∷ []))

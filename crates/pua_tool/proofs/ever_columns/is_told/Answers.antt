@@ -15,8 +15,8 @@ returns-then-has c = λ p number holder kept is.
     let t = (world_left p).tree in
     let table = tmp_table p.table in
     let veil = c.args.veil.now in
-    let places = places_under t table holder c.args.under.now in
+    let places = places_under t holder c.args.under.now in
     let there = ap (λ at. list_any (same_place at) places) (sym is.place)
-    ∙ sym (c.has.ensures t table holder (subst (λ at. IsTaking t table holder at veil.taking) (sym is.place) is.taking)) ∙ c.if-has.true in
+    ∙ sym (c.has.ensures t holder (subst (λ at. IsTaking t holder at veil.taking) (sym is.place) is.taking)) ∙ c.if-has.true in
     c.has_some.ensures ∙ lets_alike table kept.1 veil.lets is.lets (calls_in c.args.calls)
     ∙ ap (λ b. b && lets_some table kept.1 (calls_in c.args.calls)) (sym there)

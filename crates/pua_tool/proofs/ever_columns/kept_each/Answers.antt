@@ -27,13 +27,13 @@ loop-veil-preserved g c =
           let kept : Kept = record {
             place = veil.0;
             lets = c.let_through-lets.result;
-            taking = c.taking-taking.result;
+            taking = c.in_ok-taking.taking;
             text = c.in_ok-text.text;
           } in
           let own : IsKept p number holder (shown veil) kept = record {
             place = refl;
             lets = λ call. c.let_through-lets.ensures call ∙ ap (λ table. holds veil.1.now (rule_of table call).perms) ruled;
-            taking = c.taking-taking.ensures t (tmp_table p.table) holder comings;
+            taking = c.in_ok-taking.ensures t (tmp_table p.table) holder comings;
             text = c.in_ok-text.ensures.text ∙ (λ j. dated_text ((now.tree ∙ same) j) veil.0.now veil.1.now (line j));
           } in
           subst (λ ks. AllZip (IsKept p number holder) (map shown (take (i + 1) veils)) ks) (sym c.in_ok-push.ensures.items)

@@ -4,7 +4,6 @@ use Rattle.std.proofs.lemmas.List.{take_all}
 use Rattle.std.proofs.lemmas.Slice.Zip.{AllZip-long}
 use Rattle.std.specs.Prelude.{string_bytes}
 use Rattle.pua_calls.specs.CallSets.{calls_in}
-use Rattle.pua_calls.specs.TmpTable.{tmp_table}
 use Rattle.pua_ever.specs.Comings.{places_under}
 use Rattle.pua_why.proofs.ForCallers.{pushed_so}
 use Rattle.pua_texts.specs.WhyLines.{world_left}
@@ -19,7 +18,7 @@ loop-veil-preserved c =
     let i = c.loop-veil.veil-index in
     record {
       told = λ p number holder vs all.
-          let places = places_under (world_left p).tree (tmp_table p.table) holder c.args.under.now in
+          let places = places_under (world_left p).tree holder c.args.under.now in
           let more = zip_more (IsKept p number holder) vs veils i c.veil-item.result all c.loop-veil-test.true in
           let kept = subst (IsKept p number holder more.0) (sym c.veil-item.is) more.2 in
           c.in_ok-push_told.ensures p number holder more.0 kept
@@ -31,7 +30,7 @@ pub returns-then-len-before : goal.returns-then-len-before
 returns-then-len-before c = λ p number holder vs all.
     let past : length c.args.veils.now ≤ c.loop-veil.veil-index = omega (arith, c.loop-veil-test.false) in
     let left : length vs ≤ c.loop-veil.veil-index = omega (arith, past, AllZip-long (IsKept p number holder) vs c.args.veils.now all) in
-    let told = told_of p number (places_under (world_left p).tree (tmp_table p.table) holder c.args.under.now) (calls_in c.args.calls) in
+    let told = told_of p number (places_under (world_left p).tree holder c.args.under.now) (calls_in c.args.calls) in
     let is : string_bytes c.loop-veil.text ≡ string_bytes c.args.text.now ++ told vs =
     c.loop-veil.invariant.told p number holder vs all
     ∙ ap (λ us. string_bytes c.args.text.now ++ told us) (take_all c.loop-veil.veil-index vs left) in
@@ -45,7 +44,7 @@ returns c =
     (λ given p number holder vs all.
     let past : length c.args.veils.now ≤ c.loop-veil.veil-index = omega (arith, c.loop-veil-test.false) in
     let left : length vs ≤ c.loop-veil.veil-index = omega (arith, past, AllZip-long (IsKept p number holder) vs c.args.veils.now all) in
-    let told = told_of p number (places_under (world_left p).tree (tmp_table p.table) holder c.args.under.now) (calls_in c.args.calls) in
+    let told = told_of p number (places_under (world_left p).tree holder c.args.under.now) (calls_in c.args.calls) in
     let is : string_bytes c.loop-veil.text ≡ string_bytes c.args.text.now ++ told vs =
     c.loop-veil.invariant.told p number holder vs all
     ∙ ap (λ us. string_bytes c.args.text.now ++ told us) (take_all c.loop-veil.veil-index vs left) in

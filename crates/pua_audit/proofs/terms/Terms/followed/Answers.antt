@@ -1,12 +1,13 @@
 use Rattle.pua_audit.proofs.Common.{◌≡◌, ◌∙◌, ℕ, List, Bool, not, ◌&&◌, ◌||◌, Option, refl, sym, ap, subst, arith, IfOk, IfSome}
 use Rattle.pua_audit.proofs.Common.{Result, Tree, part_cost, FoundsFit, StandsAsNamed, part_of, follow, last, Errno, Found, Followed, Kept}
 use Rattle.pua_audit.proofs.Common.{Part, last_of, has, keeps_link, cover_in, ProcessState, verdict_of, is_allowed, Call}
-use Rattle.pua_audit.proofs.Common.{true, is_dir, judge_in, links_of, found_of, leads_to, allowed_kept, allowed_near, allowed_far, IsLetter}
-use Rattle.pua_audit.proofs.Common.{seen_by, rooted}
+use Rattle.pua_audit.proofs.Common.{is_dir, judge_in, links_of, found_of, leads_to, allowed_kept, allowed_near, allowed_far, IsLetter}
+use Rattle.pua_audit.proofs.Common.{seen_by, rooted, ◌+◌, ◌≤◌, object_cost}
 use Rattle.pua_path.specs.Fits.{FoundFits}
 use Rattle.pua_audit.proofs.Covers.{covered_lead, founds_are, founds_of, named_above}
 use Rattle.pua_audit.proofs.Told.{letter_told, by_both, by_kept}
 use Rattle.pua_audit.proofs.terms.Terms.followed.Goals as goal
+use Rattle.pua_audit.proofs.terms.Terms.followed.Goals.{in-Some, in-None}
 
 pub cover_of-cover-requires : goal.cover_of-cover-requires
 cover_of-cover-requires g c κs =
@@ -32,7 +33,7 @@ calls_kept-far-requires g c κs = (
 )
 
 pub returns-clause-exact : goal.returns-clause-exact
-returns-clause-exact g c = λ covered.
+returns-clause-exact g c = λ covered known.
     let a = c.args.self.now in
     let t : Tree = a.seen.tree in
     let h : ProcessState = a.process in
@@ -63,14 +64,19 @@ returns-clause-exact g c = λ covered.
     (named_above (seen_by t h) dir c.part-part.result c.counted-followed.result.0 found_here) in
     let on = λ (call : Call). c.calls_on-near.ensures.exact fit left call ∙
     ap (λ (x : Result Found Errno). is_allowed (verdict_of t a.table h call x)) found in
-    let on_kept = λ (call : Call). c.calls_kept-far.ensures.exact covered found_here
-    (c.counted-followed.ensures.links ∙ ap links_of followed_here) (c.calls_on-near.ensures.exact fit left) call ∙
-    ap (λ (p : Part). is_allowed (verdict_of t a.table h call (last (seen_by t h) dir 0 p Kept))) part in
+    let on_kept : (call : Call) → has c.match-kept.far call ≡ allowed_kept t a.table h dir letter call = λ call. elim c.match-kept.branch [
+      | in-Some w ↦ ap (λ (s : ℕ). has s call) w.far-is ∙
+          subst (λ (o : Option ℕ). IfSome o (λ calls. (call : Call) → has calls call ≡ allowed_kept t a.table h dir letter call)) w.in-Some.is
+          known call
+      | in-None w ↦ ap (λ (s : ℕ). has s call) w.far-is ∙ w.calls_kept-far.ensures.exact covered found_here
+          (c.counted-followed.ensures.links ∙ ap links_of followed_here) (c.calls_on-near.ensures.exact fit left) call ∙
+          ap (λ (p : Part). is_allowed (verdict_of t a.table h call (last (seen_by t h) dir 0 p Kept))) part
+    ] in
     let near : (call : Call) → has c.union-all.result call ≡ allowed_near t a.table h dir letter r call =
     λ call. c.union-all.ensures call ∙ ap (λ b. b || has c.keeping.result call) (c.following.ensures call) ∙
     ap (λ b. (has c.calls_on-near.result call && not (keeps_link call)) || b) (c.keeping.ensures call)
-    ∙ by_both (last_of call) (has c.calls_on-near.result call) (has c.calls_kept-far.result call)
-    ∙ ap (λ (b : Bool). elim (last_of call) [ Followed ↦ b | Kept ↦ has c.calls_kept-far.result call ]) (on call)
+    ∙ by_both (last_of call) (has c.calls_on-near.result call) (has c.match-kept.far call)
+    ∙ ap (λ (b : Bool). elim (last_of call) [ Followed ↦ b | Kept ↦ has c.match-kept.far call ]) (on call)
     ∙ ap (λ (b : Bool). elim (last_of call) [ Followed ↦ is_allowed (verdict_of t a.table h call (found_of r)) | Kept ↦ b ]) (on_kept call)
     in
     let far : (call : Call) → has c.keeping-2.result call ≡ allowed_far t a.table h dir letter call =
@@ -104,12 +110,17 @@ returns-clause-covered g c = λ covered.
     (c.cover_of-cover.ensures.exact named covered c.requires.living
     (named_above (seen_by a.seen.tree h) c.args.dir c.part-part.result c.counted-followed.result.0 found_here)))
 
+not_more : (n m : ℕ) → n ≤ n + m
+not_more n m = omega arith
+
 pub returns-clause-cost : goal.returns-clause-cost
-returns-clause-cost g c = omega (
-  arith,
-  c.follow.ensures.cost,
-  c.cover_of-cover.ensures.cost,
-  c.calls_on-near.ensures.cost,
-  c.calls_kept-far.ensures.cost,
-  ap part_cost c.requires.tree,
-)
+returns-clause-cost g c =
+    let t : Tree = c.args.self.now.seen.tree in
+    let near : ℕ = g.P.Probe.count c.calls_on-near.new.probe in
+    let far : g.P.Probe.count c.match-kept.probe ≤ near + (part_cost t + object_cost t) = elim c.match-kept.branch [
+      | in-Some w ↦ subst (λ (n : ℕ). n ≤ near + (part_cost t + object_cost t)) (sym (ap g.P.Probe.count w.probe-is))
+          (not_more near (part_cost t + object_cost t))
+      | in-None w ↦ subst (λ (n : ℕ). n ≤ near + (part_cost t + object_cost t)) (sym (ap g.P.Probe.count w.probe-is))
+          w.calls_kept-far.ensures.cost
+    ] in
+    omega (arith, c.follow.ensures.cost, c.cover_of-cover.ensures.cost, c.calls_on-near.ensures.cost, far, ap part_cost c.requires.tree)

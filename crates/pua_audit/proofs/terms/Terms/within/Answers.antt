@@ -1,5 +1,5 @@
 use Rattle.pua_audit.proofs.Common.{◌∙◌, refl, IsMissing}
-use Rattle.pua_tree.specs.declared.node.Kind.TheVariants.{Known}
+use Rattle.pua_tree.specs.declared.node.Kind.TheVariants.{Known, Link}
 use Rattle.pua_tree.specs.declared.node.FileType.TheVariants.{Plain, Sock, Fifo, Dev}
 use Rattle.pua_policy.specs.Verdict.{Is, IsFile, IsProg}
 use Rattle.pua_audit.proofs.Covers.{within_is}
@@ -18,5 +18,6 @@ returns c = λ dir living over bare.
       socket = λ call. c.calls_over-5.ensures t (Is (Known Sock)) refl call ∙ is (Is (Known Sock)) call;
       fifo = λ call. c.calls_over-6.ensures t (Is (Known Fifo)) refl call ∙ is (Is (Known Fifo)) call;
       device = λ call. c.calls_over-7.ensures t (Is (Known Dev)) refl call ∙ is (Is (Known Dev)) call;
+      link = λ call. c.calls_over-8.ensures t (Is Link) refl call ∙ is (Is Link) call;
       bare = bare;
     }

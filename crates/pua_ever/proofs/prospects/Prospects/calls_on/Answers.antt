@@ -1,4 +1,4 @@
-use Rattle.pua_ever.proofs.Common.{◌≡◌, refl, sym, ap, subst, ◌∙◌, look, Whole, Slot, Named, Top, SubjectFits, subject_given, At, Others}
+use Rattle.pua_ever.proofs.Common.{◌≡◌, not, refl, sym, ap, subst, ◌∙◌, look, Whole, Slot, Named, Top, SubjectFits, subject_given, At, Others}
 use Rattle.pua_ever.proofs.Common.{covers_descend, is_ever_allowed}
 use Rattle.pua_objects.specs.Items.{object_on, cover_on}
 use Rattle.pua_ever.specs.Ever.{stays_on}
@@ -25,7 +25,7 @@ returns-in-Dir g c = λ about well needs found movable fits on call.
     let way = Named c.in-Dir.field-1 c.in-Dir.field-2.now in
     let same : At (Whole dir way) ≡ about = sym (ap (subject_given t) c.in-Dir.is) ∙ on.subject in
     let here : SubjectFits t (At (Whole dir way)) = subst (SubjectFits t) (sym same) fits in
-    c.on_dir-in-Dir.ensures t way needs found (subst (λ s. IsMovableAt t c.args.table.now h s c.args.movable.now) (sym same) movable) here.0 refl
+    c.on_dir-in-Dir.ensures t way needs found (subst (λ s. IsMovableAt t c.args.table.now h s c.args.movable.now) (sym same) movable) here.0 (ap not c.is_mount.ensures)
     (on.cover ∙ ap (cover_on t h) (sym same) ∙ (covers_descend t h well).directory dir way here.0)
     (on.object ∙ ap (object_on t) (sym same))
     call

@@ -17,9 +17,9 @@ pub returns-then-eq : goal.returns-then-eq
 returns-then-eq c = λ t on kind found finds sees call.
     let h = c.args.process.now in
     let is : c.args.item.now.object ≡ see.Missing = search rules in
-    elim kind as (λ k. c.args.item.now.object ≡ object_seen empty_tree (object_of_kind k) → has c.allowed.result call
+    elim kind as (λ k. c.args.item.now.object ≡ object_seen empty_tree (object_of_kind k) → has c.on.result call
     ≡ can_allow c.args.table.now h c.args.turned (kind_covers t c.args.table.now h on c.args.item.now.cover k) (object_of_kind k) call) [
-      | None ↦ λ sees. (let allowed = c.allowed.ensures empty_tree IsMissing sees call in search (rules, allowed))
+      | None ↦ λ sees. (let allowed = c.on.ensures c.args.process.now c.args.table.now empty_tree IsMissing found.allowed sees call in search (rules, allowed))
       | Some k ↦ λ sees. absurd (not_missing k (sym is ∙ sees))
     ] sees
 

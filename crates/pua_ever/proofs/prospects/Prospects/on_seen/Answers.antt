@@ -22,7 +22,7 @@ returns-then-can_link c = λ t on kind found finds sees call.
     let table = c.args.table.now in
     let now = c.args.cover.now in
     let others = file_covers t table h on in
-    let own = c.allowed-calls.ensures empty_tree (Is kind) sees call in
+    let own = c.on-calls.ensures h table empty_tree (Is kind) found.allowed sees call in
     let anywhere = c.on-then-can_link.ensures t table h on kind finds sees call in
     let can : can_move table h now ≡ false = sym c.can_move.ensures ∙ c.if-can_move.false in
     let links : can_link table h (Some kind) now ≡ true = sym (c.can_link.ensures t h kind found sees) ∙ c.if-can_link.true in
@@ -37,5 +37,5 @@ returns c = λ t on kind found finds sees call.
     let others = file_covers t table h on in
     let can : can_move table h now ≡ false = sym c.can_move.ensures ∙ c.if-can_move.false in
     let links : can_link table h (Some kind) now ≡ false = sym (c.can_link.ensures t h kind found sees) ∙ c.if-can_link.false in
-    c.allowed-calls.ensures empty_tree (Is kind) sees call ∙ last _ ∙
+    c.on-calls.ensures h table empty_tree (Is kind) found.allowed sees call ∙ last _ ∙
     (λ i. is_allowed_under table h (if sym can i then others else now ∷ (if sym links i then others else [])) (Is kind) call)

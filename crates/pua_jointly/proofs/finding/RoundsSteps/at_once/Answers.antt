@@ -4,8 +4,12 @@ use Rattle.std.specs.Int.{bit_at}
 use Rattle.pua_jointly.specs.JointFacts.{watches}
 use Rattle.pua_jointly.specs.JointSetup.{FollowsTold, RoundsState, crew_told, devices_told, guarded_told, hands_told, side_of, spots_told}
 use Rattle.pua_jointly.specs.declared.crew.Crew.{Crew}
+use Rattle.pua_jointly.proofs.JointOlds.{no_bit}
 use Rattle.pua_jointly.proofs.JointSteps.{side_of_once, step_only}
 use Rattle.pua_jointly.proofs.finding.RoundsSteps.at_once.Goals as goal
+
+pub returns-then-row-crew : goal.returns-then-row-crew
+returns-then-row-crew g c = λ bit held. absurd (no_bit bit held)
 
 pub returns : goal.returns
 returns g c = λ bit held.

@@ -14,5 +14,6 @@ returns g c = λ p number same ruled dated.
     record {
       held = c.held.ensures.state;
       given = c.given_by.ensures ∙ ap (λ table. given_by table h c.args.execs) ruled;
+      comings = are;
       veils = c.in_ok-kept_veils.ensures p number holder same ruled are dated;
     }

@@ -14,7 +14,7 @@ returns-clause-exact c =
     let left : held_tree c.take_row.new.rows.items c.take_unnamed.new.nodes.items numbering
     ≡ without_unnamed (without_row c.args.self.now c.args.dir c.args.name.now) c.in_ok-node.node =
     (rw c.deref.ensures.value at (c.take_unnamed.ensures numbering)) ∙ ap (λ (t : tree.Tree). without_unnamed t c.in_ok-node.node) gone in
-    c.in_ok-node.ensures.exact ∙ ap (λ (t : tree.Tree). Ok (c.in_ok-node.node, t)) (sym left)
+    c.in_ok-node.ensures.exact c.standing.ensures ∙ ap (λ (t : tree.Tree). Ok (c.in_ok-node.node, t)) (sym left)
 
 pub invariant_of-self : goal.invariant_of-self
 invariant_of-self c =

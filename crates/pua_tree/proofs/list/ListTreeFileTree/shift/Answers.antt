@@ -23,7 +23,7 @@ returns-in-Some-displaced-clause-exact c =
     let left : held_tree c.put_row.new.rows.items c.take_unnamed.new.nodes.items numbering ≡ after (Some c.in-Some-displaced.displaced) =
     (rw c.deref.ensures.value at (c.take_unnamed.ensures numbering)) ∙
     ap (λ (t : tree.Tree). without_unnamed t c.in-Some-displaced.displaced) came in
-    (rw c.in-Some.is at c.in_ok-moving.ensures.exact)
+    (rw c.in-Some.is at c.in_ok-moving.ensures.exact c.standing-row.ensures c.standing-there.ensures)
     ∙ ap (λ (there : Option ℕ). Ok (after there)) c.in-Some-displaced.is
     ∙ ap (λ (t : tree.Tree). Ok t) (sym left)
 
@@ -42,7 +42,7 @@ returns-in_default-displaced-clause-exact c =
     row_moved c.self.inside.rows.items c.take_row.new.rows.items c.put_row.new.rows.items c.self.inside.nodes.items numbering c.args.from
     c.args.name.now c.args.to c.args.new_name c.in-Some.moving.node c.take_row.ensures.rows c.put_row.ensures
     ∙ ap change c.self.view_is in
-    (rw c.in-Some.is at c.in_ok-moving.ensures.exact)
+    (rw c.in-Some.is at c.in_ok-moving.ensures.exact c.standing-row.ensures c.standing-there.ensures)
     ∙ ap (λ (there : Option ℕ). Ok (after there)) c.in_default-displaced.is
     ∙ ap (λ (t : tree.Tree). Ok t) (sym came)
 

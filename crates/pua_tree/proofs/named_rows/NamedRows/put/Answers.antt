@@ -18,8 +18,8 @@ invariant_of-self-2 c =
       elim c.match-insert.branch [
         | in-Ok w ↦ subst (AreNamed names) (sym w.in-Ok.ensures.entries)
             (all_put (λ (k : RowKey). k.name < length names) key_ghosts.eq c.self.inside.rows.entries
-            (placed c.args.spot.now.dir c.in-Some.name) c.args.row named
-            (slice_get_within names c.in-Some.name c.args.spot.now.name c.in-Some.ensures.at))
+            (placed c.args.dir c.in-Some.name) c.args.row named
+            (slice_get_within names c.in-Some.name c.args.name.now c.in-Some.ensures.at))
         | in-Err w ↦ subst (AreNamed names) (sym w.in-Err.ensures.err) named
       ],
     )
@@ -31,7 +31,7 @@ pub returns-clause-put : goal.returns-clause-put
 returns-clause-put c =
     let names = c.kept_at.new.names.keys in
     let inside = c.self.inside.rows.entries in
-    let at : Spot = key_at (c.args.spot.now.dir, c.args.spot.now.name) in
+    let at : Spot = key_at (c.args.dir, c.args.name.now) in
     let named = still_named c.self.inside.names.keys names c.kept_at.ensures.grown inside c.self.invariant.1 in
     let same : map (spot_entry names) inside ≡ c.args.self.now.entries =
     still_spotted c.self.inside.names.keys names c.kept_at.ensures.grown inside c.self.invariant.1

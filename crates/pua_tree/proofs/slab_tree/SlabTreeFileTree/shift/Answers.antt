@@ -24,7 +24,7 @@ room c = let made = c.in_ok-reserve_row.ensures.room in omega (arith, made, c.ta
 -- the row of the other node that goes
 goes : (c : goal.After-drop_unnamed) → HasRow c.reserve_row.new.self (c.args.to, c.args.new_name) c.in-Some-displaced.displaced
 goes c =
-    let displaced = rw c.in-Some.is at c.in_ok-moving.ensures.displaced in
+    let displaced = rw c.in-Some.is at (c.in_ok-moving.ensures.displaced c.placed-new_place.ensures) in
     has_row c.reserve_row.new.self c.self.inside.numbering c.args.self.now c.args.to c.args.new_name c.in-Some-displaced.displaced
     (c.reserve_row.ensures.kept c.self.invariant.1) (c.reserve_row.ensures.same c.self.inside.numbering ∙ c.self.view_is) (sym displaced.0 ∙
     c.in-Some-displaced.is)
@@ -34,8 +34,8 @@ comes : (c : goal.After-drop_unnamed) →
     MayMove c.take_row-names.new.self (c.args.from, c.args.name.now) (c.args.to, c.args.new_name) c.in-Some.moving.node
 comes c =
     let numbering = c.self.inside.numbering in
-    let found = rw c.in-Some.is at c.in_ok-moving.ensures.found in
-    let displaced = rw c.in-Some.is at c.in_ok-moving.ensures.displaced in
+    let found = rw c.in-Some.is at (c.in_ok-moving.ensures.found c.placed-place.ensures) in
+    let displaced = rw c.in-Some.is at (c.in_ok-moving.ensures.displaced c.placed-new_place.ensures) in
     may_move_there c.reserve_row.new.self numbering c.args.self.now (subst WellFormed c.self.view_is c.self.invariant.0)
     (c.reserve_row.ensures.kept c.self.invariant.1) (c.reserve_row.ensures.same numbering ∙ c.self.view_is) c.args.from c.args.name.now c.args.to
     c.args.new_name c.in-Some.moving.node found c.in-Some-displaced.displaced (sym displaced.0 ∙ c.in-Some-displaced.is)
@@ -63,7 +63,7 @@ returns-in-Some-displaced-clause-exact c =
     (left_after_move c.take_row-names.new.self c.move_row.new.self (c.args.from, c.args.name.now) (c.args.to, c.args.new_name) c.in-Some.moving.node (c.move_row.ensures.rows (room c)) (c.move_row.ensures.nodes (comes c))
     (comes c).has.there (comes c).free c.in-Some-displaced.displaced c.take_row-names.result (c.take_row-names.ensures.left (goes c))) numbering
     ∙ ap (λ (t : tree.Tree). without_unnamed t c.in-Some-displaced.displaced) came in
-    (rw c.in-Some.is at c.in_ok-moving.ensures.exact) ∙ ap (λ (o : Option ℕ). Ok (after o)) c.in-Some-displaced.is ∙
+    (rw c.in-Some.is at (c.in_ok-moving.ensures.exact c.placed-place.ensures c.placed-new_place.ensures)) ∙ ap (λ (o : Option ℕ). Ok (after o)) c.in-Some-displaced.is ∙
     ap (λ (t : tree.Tree). Ok t) (sym left)
 
 pub invariant_of-self-in-Some-displaced : goal.invariant_of-self-in-Some-displaced
@@ -78,8 +78,8 @@ comes_alone : (c : goal.After-move_row-in-None) →
     MayMove c.reserve_row.new.self (c.args.from, c.args.name.now) (c.args.to, c.args.new_name) c.in-Some.moving.node
 comes_alone c =
     let numbering = c.self.inside.numbering in
-    let found = rw c.in-Some.is at c.in_ok-moving.ensures.found in
-    let displaced = rw c.in-Some.is at c.in_ok-moving.ensures.displaced in
+    let found = rw c.in-Some.is at (c.in_ok-moving.ensures.found c.placed-place.ensures) in
+    let displaced = rw c.in-Some.is at (c.in_ok-moving.ensures.displaced c.placed-new_place.ensures) in
     may_move c.reserve_row.new.self numbering c.args.self.now (subst WellFormed c.self.view_is c.self.invariant.0)
     (c.reserve_row.ensures.kept c.self.invariant.1) (c.reserve_row.ensures.same numbering ∙ c.self.view_is) c.args.from c.args.name.now c.args.to
     c.args.new_name c.in-Some.moving.node found (sym displaced.0 ∙ c.in-None.is)
@@ -100,7 +100,7 @@ returns-in-None-clause-exact c =
       room = numbering.room;
     } in
     let came : held_in_slots c.move_row-in-None.new.self numbering ≡ after None = second ∙ ap change same in
-    (rw c.in-Some.is at c.in_ok-moving.ensures.exact) ∙ ap (λ (o : Option ℕ). Ok (after o)) c.in-None.is ∙
+    (rw c.in-Some.is at (c.in_ok-moving.ensures.exact c.placed-place.ensures c.placed-new_place.ensures)) ∙ ap (λ (o : Option ℕ). Ok (after o)) c.in-None.is ∙
     ap (λ (t : tree.Tree). Ok t) (sym came)
 
 pub invariant_of-self-in-None : goal.invariant_of-self-in-None

@@ -7,27 +7,14 @@ use Rattle.pua_tree.specs.Reading as reading
 use Rattle.pua_tree.specs.Reading.{node_follows, row_follows, said_node}
 use Rattle.pua_tree.specs.declared.gathered.MadeNode.{MadeNode}
 use Rattle.std.specs.Prelude.{is_none}
-use Rattle.pua_tree.proofs.Common.{List, look, row_at}
-use Rattle.pua_tree.proofs.SlotsHold.{nodes_found, rows_found}
+use Rattle.pua_tree.proofs.SlotsHold.{nodes_found}
 use Rattle.pua_tree.proofs.Follows.{follows_from}
 use Rattle.pua_tree.proofs.Raised.{grown_keeps}
-use Rattle.pua_tree.proofs.SlabTrees.{kind_known}
+use Rattle.pua_tree.proofs.SlabTrees.{kind_known, looked_up, slot_of_dir}
 use Rattle.pua_tree.proofs.slab_tree.SlabTreeGathered.put.Goals as goal
 use Rattle.pua_tree.proofs.slab_tree.SlabTreeGathered.put.Goals.{then-is_none-via-then-is_none}
 use Rattle.pua_tree.proofs.slab_tree.SlabTreeGathered.put.Goals.{then-is_none-via-else-is_none+then-not-may_stand}
 use Rattle.pua_tree.proofs.slab_tree.SlabTreeGathered.put.Goals.{then-is_none-via-else-is_none+else-not-may_stand+then-not-may_put_row}
-
--- the node that was looked up by the place of a name
-looked_up : (s : Slots) (numbering : Numbering) (t : Tree) (dir : ℕ) (name bytes : List ℕ) (there : Option ℕ) → held_in_slots s numbering ≡ t →
-    bytes ≡ name → there ≡ row_at s (dir, bytes) → there ≡ look t dir name
-looked_up s numbering t dir name bytes there same spelled found =
-    found ∙ ap (λ n. row_at s (dir, n)) spelled ∙ sym (rows_found s (dir, name)) ∙ ap (λ (u : Tree). look u dir name) same
-
--- the directory of a spot lives where its slot was found
-slot_of_dir : (s : Slots) (numbering : Numbering) (t : Tree) (dir : ℕ) (slot : Option ℕ) → held_in_slots s numbering ≡ t →
-    is_some slot ≡ is_dir_kind (option_map (λ (n : SlotNode). n.kind) (node_in s dir)) → is_dir t dir ≡ is_some slot
-slot_of_dir s numbering t dir slot same found =
-    ap (λ (u : Tree). is_dir u dir) (sym same) ∙ ap is_dir_kind (sym (kind_known s numbering dir)) ∙ sym found
 
 -- and its node may come to a row where it is made, or was found
 stands_by : (s : Slots) (numbering : Numbering) (t : Tree) (number x : ℕ) (made : Option MadeNode) (slot : Option ℕ) → held_in_slots s numbering ≡ t →

@@ -11,16 +11,16 @@ use Rattle.pua_tree.proofs.SlabEdits.{new_where_made, has_slot, entry_may_enter,
 use Rattle.pua_tree.proofs.slots.Slots.put_entry.Goals as goal
 
 -- an entry that may follow the tree that is held may follow it once there is room
-module _ (c : goal.After-put_row_under) (above : c.args.above ≡ slot_of c.args.self.now c.args.spot.now.dir)
+module _ (c : goal.After-put_row_under) (above : c.args.above ≡ slot_of c.args.self.now c.args.dir)
     (there : is_none c.args.stands.made ≡ true → c.args.other ≡ slot_of c.args.self.now c.args.stands.node)
     (kept : AreConsistent c.args.self.now) (numbering : Numbering)
     (formed : WellFormed (held_in_slots c.args.self.now numbering))
-    (follows : Follows (held_in_slots c.args.self.now numbering) (entry_at c.args.spot.now.dir c.args.spot.now.name c.args.stands)) where
+    (follows : Follows (held_in_slots c.args.self.now numbering) (entry_at c.args.dir c.args.name.now c.args.stands)) where
   abbrev s : Slots
   s = c.reserve_node.new.self
 
   abbrev e : Entry
-  e = entry_at c.args.spot.now.dir c.args.spot.now.name c.args.stands
+  e = entry_at c.args.dir c.args.name.now c.args.stands
 
   still_kept : AreConsistent s
   still_kept = c.reserve_node.ensures.kept kept

@@ -12,7 +12,7 @@ still : (c : goal.After-gain_name) → c.args.slot ≡ slot_of c.args.self.now c
 still c slot = slot ∙ ap (λ numbers. get number_ghosts.eq numbers c.args.node) (sym c.gain_row.ensures.numbers)
 
 abbrev spot : goal.After-gain_name → tree.Spot
-spot c = (c.args.spot.now.dir, c.args.spot.now.name)
+spot c = (c.args.dir, c.args.name.now)
 
 few : (c : goal.After-gain_name) → length (held_rows c.args.self.now) < 2 ^ 63
 few c = rw c.row_count-count.ensures.count at c.row_count-count.ensures.small
@@ -20,7 +20,7 @@ few c = rw c.row_count-count.ensures.count at c.row_count-count.ensures.small
 pub returns-in-Some-clause-kept : goal.returns-in-Some-clause-kept
 returns-in-Some-clause-kept c above slot room enters =
     kept_after_put c.args.self.now c.gain_row.new.self c.gain_name.new.self c.put.new.self (spot c) c.args.node c.in-Some.key enters (few c)
-    (c.gain_row.ensures.restands c.args.spot.now.dir above) (c.gain_name.ensures.restands c.args.node (still c slot)) _
+    (c.gain_row.ensures.restands c.args.dir above) (c.gain_name.ensures.restands c.args.node (still c slot)) _
     c.in-Some.ensures.put c.put.ensures.names c.in-Some.ensures.key (c.gain_name.ensures.rows ∙ c.gain_row.ensures.rows)
     (λ n e. sym (c.unwrap_or-kind.ensures ∙ ap (λ (o : Option Kind). unwrap_or o File)
     (c.kind_in.ensures c.args.node slot ∙ ap (option_map (λ (m : SlotNode). m.kind)) e)))
@@ -34,7 +34,7 @@ returns-in-Some-clause-rows c room =
 pub returns-in-Some-clause-nodes : goal.returns-in-Some-clause-nodes
 returns-in-Some-clause-nodes c above slot enters =
     nodes_after_put c.args.self.now c.gain_row.new.self c.gain_name.new.self c.put.new.self (spot c) c.args.node c.in-Some.key enters (few c)
-    (c.gain_row.ensures.restands c.args.spot.now.dir above) (c.gain_name.ensures.restands c.args.node (still c slot))
+    (c.gain_row.ensures.restands c.args.dir above) (c.gain_name.ensures.restands c.args.node (still c slot))
 
 pub returns-in_default-clause-kept : goal.returns-in_default-clause-kept
 returns-in_default-clause-kept c above slot room enters =
