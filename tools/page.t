@@ -296,39 +296,37 @@ my @site = ('1 dir 0 www', '2 dir 1 site', '3 file 2 index', '4 file 1 key', '5 
     is(() = $page =~ /<details/g, () = $page =~ m{</details>}g, 'each fold has an end');
 }
 
-# Types of files, as the third form of a listing has them.
-{
-    my ($status, $out, $err) = page(
-        file('typed', 'tree 3', '0 dir', '1 sock 0 s', '2 fifo 0 f', '3 dev 0 v', '4 any 0 a', '5 file 0 p', '6 hard 0 t 1'),
-        file('objects', 'objects 1', 'file /a connect', 'fifo /f open-r', 'sock /s connect', 'sock /n connect'));
-    is("$status $err", '0 ', 'types: the status');
-    is_deeply([rows($out)], [
-        '0 | /',
-        '1 | a file | written: connect',
-        '1 | f fifo | read: open-r',
-        '1 | n sock not listed | written: connect',
-        '1 | p file',
-        '1 | s sock | written: connect',
-        '1 | t sock (a further name of node 1)',
-        '1 | v dev',
-    ], 'types: what stands there');
+# What a page shows of a tree, by a listing and a list.
+sub shows {
+    my ($what, $tree, $list, @rows) = @_;
+    my ($status, $out, $err) = page(file('shown', @$tree), file('objects', 'objects 1', @$list));
+    is("$status $err", '0 ', "$what: the status");
+    is_deeply([rows($out)], \@rows, "$what: what stands there");
 }
 
+# Types of files, as the third form of a listing has them.
+shows('types',
+    ['tree 3', '0 dir', '1 sock 0 s', '2 fifo 0 f', '3 dev 0 v', '4 any 0 a', '5 file 0 p', '6 hard 0 t 1'],
+    ['file /a connect', 'fifo /f open-r', 'sock /s connect', 'sock /n connect'],
+    '0 | /',
+    '1 | a file | written: connect',
+    '1 | f fifo | read: open-r',
+    '1 | n sock not listed | written: connect',
+    '1 | p file',
+    '1 | s sock | written: connect',
+    '1 | t sock (a further name of node 1)',
+    '1 | v dev');
+
 # Mount points are directories, and are told.
-{
-    my ($status, $out, $err) = page(
-        file('mounted', 'tree 3', '0 dir', '1 mount 0 m', '2 file 1 f', '3 mount 1 n', '4 dir 0 d'),
-        file('objects', 'objects 1', 'dir /m stat', 'other /m mkdir', 'file /m/f stat', 'dir /d rmdir'));
-    is("$status $err", '0 ', 'mount points: the status');
-    is_deeply([rows($out)], [
-        '0 | /',
-        '1 | d/ | removed: rmdir',
-        '1 | m/ (a mount point) | read: stat',
-        '2 | any other name | made: mkdir',
-        '2 | f file | read: stat',
-        '2 | n/ (a mount point)',
-    ], 'mount points: what stands there');
-}
+shows('mount points',
+    ['tree 3', '0 dir', '1 mount 0 m', '2 file 1 f', '3 mount 1 n', '4 dir 0 d'],
+    ['dir /m stat', 'other /m mkdir', 'file /m/f stat', 'dir /d rmdir'],
+    '0 | /',
+    '1 | d/ | removed: rmdir',
+    '1 | m/ (a mount point) | read: stat',
+    '2 | any other name | made: mkdir',
+    '2 | f file | read: stat',
+    '2 | n/ (a mount point)');
 
 # Faults: nothing is written, and one line says why.
 {
